@@ -1,0 +1,7 @@
+//! A noise mapper by ISO 9613-2.
+#![tactic(auto)]
+
+mod command;
+mod parts;
+
+fn main() {}
