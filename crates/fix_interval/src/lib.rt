@@ -1,0 +1,6 @@
+//! Intervals of fixed-point numbers that enclose every quantity of the calculation.
+#![tactic(auto)]
+
+mod iv;
+
+pub use iv::{Iv, OPEN_HI, OPEN_LO};
