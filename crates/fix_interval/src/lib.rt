@@ -2,5 +2,7 @@
 #![tactic(auto)]
 
 mod iv;
+mod truth;
 
 pub use iv::{Iv, OPEN_HI, OPEN_LO};
+pub use truth::Truth;
