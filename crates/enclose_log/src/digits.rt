@@ -1,0 +1,91 @@
+//! The binary digits of a logarithm, one a turn.
+
+ghost use Rattle.std.specs.Prelude.{◌≡◌, ◌<◌, ◌≤◌, ◌*◌, ◌^◌};
+ghost use Rattle.fix_interval.specs.Lg.{LgTurn, turn_low, turn_high, one_mantissa, digits_low, digits_high};
+
+use std::marker::Model;
+
+/// The number 1 as a mantissa counts it.
+pub(crate) const ONE: u64 = 1 << 58;
+
+/// The least 64 bits of a number.
+const WORD: u128 = u64::MAX as u128;
+
+/// Where the digits stand between two turns: the mantissa, from 1 to 10 in units of 2^-58, whose logarithm
+/// is still to be found, and the digits so far.
+#[derive(Clone, Copy, Drop)]
+pub(crate) struct Turn {
+    pub(crate) mantissa: u64,
+    pub(crate) digits: u64,
+}
+
+impl Model for Turn {
+    ghost use Rattle.fix_interval.specs.Lg.{LgTurn};
+
+    ghost Value = { LgTurn };
+
+    ghost view = { λ t. record { mantissa = t.mantissa; digits = t.digits } };
+
+    ghost inverse = { λ t. record { mantissa = t.mantissa; digits = t.digits } };
+}
+
+impl Turn {
+    /// The next digit, rounded down. Half the square reaches five where the square reaches ten, and fits
+    /// 64 bits where the square doesn't.
+    #[inline(always)]
+    fn next_low(self) -> Turn
+        requires mantissa { self.mantissa < 10 * one_mantissa }
+        requires digits { self.digits < 2 ^ 32 }
+        ensures { result ≡ turn_low self }
+    {
+        let square = u128::from(self.mantissa) * u128::from(self.mantissa);
+        let half = (square >> 59) as u64;
+        let tenth = half / 5;
+        let whole = ((square >> 58) & WORD) as u64;
+        let one = half >= 5 * ONE;
+        Turn {
+            mantissa: if one { tenth } else { whole },
+            digits: 2 * self.digits + u64::from(one),
+        }
+    }
+
+    /// The next digit, rounded up.
+    #[inline(always)]
+    fn next_high(self) -> Turn
+        requires mantissa { self.mantissa ≤ 10 * one_mantissa }
+        requires digits { self.digits < 2 ^ 32 }
+        ensures { result ≡ turn_high self }
+    {
+        let square = u128::from(self.mantissa) * u128::from(self.mantissa);
+        let half = ((square + ((1 << 59) - 1)) >> 59) as u64;
+        let tenth = (half + 4) / 5;
+        let whole = (((square + ((1 << 58) - 1)) >> 58) & WORD) as u64;
+        let one = half > 5 * ONE;
+        Turn {
+            mantissa: if one { tenth } else { whole },
+            digits: 2 * self.digits + u64::from(one),
+        }
+    }
+}
+
+/// All 32 digits of two mantissas, of the first rounded down and of the second rounded up, side by side.
+pub(crate) fn digits(low: u64, high: u64) -> (Turn, Turn)
+    requires low { low < 10 * one_mantissa }
+    requires high { high ≤ 10 * one_mantissa }
+    ensures low { result.0 ≡ digits_low low }
+    ensures high { result.1 ≡ digits_high high }
+{
+    let mut down = Turn {
+        mantissa: low,
+        digits: 0,
+    };
+    let mut up = Turn {
+        mantissa: high,
+        digits: 0,
+    };
+    for _turn in 0..32u32 {
+        down = down.next_low();
+        up = up.next_high();
+    }
+    (down, up)
+}

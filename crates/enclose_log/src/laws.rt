@@ -1,0 +1,1 @@
+//! What the logarithm's value encloses.
