@@ -1,0 +1,17 @@
+//! The outside of the noise mapper: where bytes come from, where they go, and the lines of an input.
+//!
+//! A source and a sink may fail, and each counts its faults. So code that is generic over them answers a fault only
+//! where the count rose, since it can't raise the count by itself.
+#![tactic(auto)]
+
+mod errors;
+mod gate;
+mod reader;
+mod sink;
+mod source;
+
+pub use errors::{Failed, NoMemory};
+pub use gate::{Gate, OpenGate};
+pub use reader::{INPUT_LIMIT, LINE_LIMIT, LineReader, Next, Stop};
+pub use sink::{Sink, put_all};
+pub use source::Source;
