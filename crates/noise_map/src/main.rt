@@ -3,5 +3,7 @@
 
 mod command;
 mod parts;
+mod rows;
+mod scene;
 
 fn main() {}

@@ -1,0 +1,32 @@
+-- The rows that go out (RFC 4180): seven fields each, and a line feed.
+use Rattle.std.specs.Prelude.{◌≡◌, ℕ, ◌+◌, ◌*◌, ◌/◌, ◌%◌, ◌<◌, ◌^◌, List, [], ◌∷◌, ◌++◌, length, decimal, codes}
+use Rattle.csv.specs.Writing.{row_text, default_writer}
+use Rattle.noise_map.specs.declared.rows.Fault.{Fault}
+use Rattle.noise_map.specs.declared.rows.Fault.TheVariants.{LongLine, NotBuilt}
+
+-- the text of a row
+unfoldable pub row : List (List ℕ) → List ℕ
+row fields = row_text default_writer fields
+
+-- the head of a settle: the version, and how many receivers there are
+unfoldable pub settle_row : ℕ → ℕ → List ℕ
+settle_row version receivers = row (codes "settle" ∷ decimal version ∷ decimal receivers ∷ [] ∷ [] ∷ [] ∷ [] ∷ [])
+
+-- hundredths of a decibel, with a point and two decimals
+unfoldable pub hundredths_text : ℕ → List ℕ
+hundredths_text n = decimal (n / 100) ++ 46 ∷ (decimal (n / 10 % 10) ++ decimal (n % 10))
+
+abbrev pub current_row_fields : List ℕ → List ℕ → List ℕ → List ℕ → List (List ℕ)
+current_row_fields version name low high = codes "row" ∷ version ∷ name ∷ codes "current" ∷ [] ∷ low ∷ high ∷ []
+
+-- a receiver that is current, with its level between two bounds in 0.01 dB
+unfoldable pub current_row : ℕ → List ℕ → ℕ → ℕ → List ℕ
+current_row version name low high = row (current_row_fields (decimal version) name (hundredths_text low) (hundredths_text high))
+
+abbrev pub fault_name : Fault → List ℕ
+fault_name LongLine = codes "LongLine"
+fault_name NotBuilt = codes "NotBuilt"
+
+-- a line that was refused, by its number from 1
+unfoldable pub refused_row : ℕ → ℕ → Fault → List ℕ
+refused_row version line fault = row (codes "refused" ∷ decimal version ∷ decimal line ∷ fault_name fault ∷ [] ∷ [] ∷ [] ∷ [])
