@@ -1,0 +1,87 @@
+-- What a run promises for each of its statuses.
+use Rattle.std.specs.Prelude.{◌≡◌, ℕ, ◌+◌, ◌≤◌, Bool, true, false, List, [], ◌∷◌, ◌++◌, length, take, Option, IfSome}
+use Rattle.std.specs.Io.KnownBytes.{Consumes, Appends, IsAtEnd}
+use Rattle.map_io.specs.Lines.{lines, whole_lines, all_but_last}
+use Rattle.noise_map.specs.declared.status.Status.{Status}
+use Rattle.noise_map.specs.declared.status.Status.TheVariants.{Done, SomeRefused, Usage, ReadFault, WriteFault, NoMemory, InputLimit}
+use Rattle.noise_map.specs.Sheet.{Sheet, empty_sheet}
+use Rattle.noise_map.specs.Run as run
+
+-- how many bytes of an input are read
+abbrev pub input_limit : ℕ
+input_limit = 67108864
+
+-- what these lines do, from an empty scene on
+abbrev pub run_of : List (List ℕ) → run.Done
+run_of done = run.lines_done 1 empty_sheet done
+
+-- the input was read to its end, and these are all its lines
+pub record CoversAll (before after : Option (List ℕ)) (done : List (List ℕ)) : Type 0 where
+  pub ended : IsAtEnd after
+  pub all : IfSome before (λ bytes. (lines bytes ≡ done) × (length bytes ≤ input_limit))
+
+-- a read failed, and these are the whole lines of what was read
+pub record CoversRead (before after : Option (List ℕ)) (done : List (List ℕ)) : Type 0 where
+  pub read : List ℕ
+  pub consumed : Consumes before after read
+  pub within : length read ≤ input_limit
+  pub all : whole_lines read ≡ done
+
+-- as many bytes were read as may be, one more came, and these are the whole lines of what was read
+pub record CoversLimit (before after : Option (List ℕ)) (done : List (List ℕ)) : Type 0 where
+  pub read : List ℕ
+  pub more : ℕ
+  pub consumed : Consumes before after (read ++ more ∷ [])
+  pub full : length read ≡ input_limit
+  pub all : whole_lines read ≡ done
+
+-- these are the first lines of the input
+abbrev pub CoversFront : Option (List ℕ) → List (List ℕ) → Type 0
+CoversFront before done = IfSome before (λ bytes. take (length done) (lines bytes) ≡ done)
+
+-- which lines of the input were done
+abbrev pub Covers : Status → Option (List ℕ) → Option (List ℕ) → List (List ℕ) → Type 0
+Covers Done before after done = CoversAll before after done
+Covers SomeRefused before after done = CoversAll before after done
+Covers Usage before after done = ⊥
+Covers ReadFault before after done = CoversRead before after done
+Covers WriteFault before after done = CoversFront before done
+Covers NoMemory before after done = CoversFront before done
+Covers InputLimit before after done = CoversLimit before after done
+
+-- The sink has taken a part of the text of these lines, which holds the whole text of all but the last.
+pub record TakesPartOf (before after : Option (List ℕ)) (done : List (List ℕ)) : Type 0 where
+  pub part : List ℕ
+  pub rest : List ℕ
+  pub front : (run_of done).text ≡ part ++ rest
+  pub last : List ℕ
+  pub others : part ≡ (run_of (all_but_last done)).text ++ last
+  pub taken : Appends before after part
+
+-- what the sink has taken
+abbrev pub Writes : Status → Option (List ℕ) → Option (List ℕ) → List (List ℕ) → Type 0
+Writes Done before after done = Appends before after (run_of done).text
+Writes SomeRefused before after done = Appends before after (run_of done).text
+Writes Usage before after done = ⊥
+Writes ReadFault before after done = Appends before after (run_of done).text
+Writes WriteFault before after done = TakesPartOf before after done
+Writes NoMemory before after done = TakesPartOf before after done
+Writes InputLimit before after done = Appends before after (run_of done).text
+
+-- whether a line was refused, where the status tells it
+abbrev pub TellsRefused : Status → Bool → Type 0
+TellsRefused Done refused = refused ≡ false
+TellsRefused SomeRefused refused = refused ≡ true
+TellsRefused Usage refused = ⊥
+TellsRefused ReadFault refused = Unit {0}
+TellsRefused WriteFault refused = Unit {0}
+TellsRefused NoMemory refused = Unit {0}
+TellsRefused InputLimit refused = Unit {0}
+
+-- A run over the words of a command line: it did some lines of the input, and wrote their rows.
+pub record Outcome (status : Status) (count : ℕ) (left_before left_after taken_before taken_after : Option (List ℕ)) : Type 0 where
+  pub done : List (List ℕ)
+  pub counted : length done ≡ count
+  pub covers : Covers status left_before left_after done
+  pub refused : TellsRefused status (run_of done).refused
+  pub writes : Writes status taken_before taken_after done
