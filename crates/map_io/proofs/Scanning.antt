@@ -107,3 +107,10 @@ pub found_below : (buffer : List ℕ) (start end size : ℕ) → position (λ b.
 found_below buffer start end size found =
     let at = position-Some (λ b. b == 10) (slice_range buffer start end) size 0 found in
     omega (arith, at.0, length-take (end - start) (drop start buffer))
+
+-- a scan that found none was of plain bytes
+pub scan_had_none : (mid new : Reading) → Scans false mid new → Contains mid.pending 10 → ⊥
+scan_had_none mid new scan held =
+    let piece : List ℕ = scan.piece in
+    let all : mid.pending ≡ piece = scan.held ∙ ap (λ rest. (piece ++ []) ++ rest) (scan.all refl) ∙ append-nil (piece ++ []) ∙ append-nil piece in
+    plain_has_none mid.pending (subst IsPlain (sym all) scan.plain) held
