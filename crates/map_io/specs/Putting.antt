@@ -13,3 +13,9 @@ pub record TakesPart (before after : Option (List ℕ)) (piece : List ℕ) : Typ
   pub parts : piece ≡ front ++ rest
   pub missing : 0 < length rest
   pub taken : Appends before after front
+
+-- what was taken is all of the piece that comes before this rest
+pub record TakenBefore (before after : Option (List ℕ)) (piece rest : List ℕ) : Type 0 where
+  pub front : List ℕ
+  pub parts : piece ≡ front ++ rest
+  pub taken : Appends before after front

@@ -6,7 +6,7 @@ use Rattle.map_io.specs.declared.reader.Stop.TheVariants.{Going, AtEnd, AfterFau
 use Rattle.map_io.specs.declared.reader.Next.{Next}
 use Rattle.map_io.specs.declared.reader.Next.TheVariants.{Line, LongLine}
 use Rattle.map_io.specs.Lines.{IsPlain}
-use Rattle.map_io.specs.Reading.{Reading, bytes_read}
+use Rattle.map_io.specs.Reading.{Reading, Passes, bytes_read}
 
 -- what ends a piece that was scanned: a line feed, where one was found
 abbrev pub feed_if : Bool → List ℕ
@@ -42,3 +42,11 @@ pub record Fills (old new : Reading) (before after : Option (List ℕ)) : Type 0
 pub record Sizes (size : ℕ) (next : Next) : Type 0 where
   pub short : size ≤ 65536 → next ≡ Line size
   pub long : 65536 < size → next ≡ LongLine
+
+-- The line so far: plain bytes that were passed since the call began, as far as the line has room.
+pub record Gathers (old new : Reading) (before after : Option (List ℕ)) : Type 0 where
+  pub front : List ℕ
+  pub plain : IsPlain front
+  pub passes : Passes old new before after front
+  pub line : new.line ≡ take 65536 front
+  pub going : new.stop ≡ Going

@@ -1,4 +1,4 @@
-ghost use Rattle.std.specs.Prelude.{◌≡◌, ◌≢◌, ◌<◌, ◌≤◌, ◌++◌, [], length, take, vec_capacity, Contains, IfOk};
+ghost use Rattle.std.specs.Prelude.{◌≡◌, ◌≢◌, ◌<◌, ◌≤◌, ◌++◌, [], length, take, vec_capacity, position, ◌==◌, Contains, IfOk};
 ghost use Rattle.std.specs.Io.KnownBytes.{ReadConsumes};
 ghost use Rattle.map_io.specs.Causes.{HasCause, Rose};
 ghost use Rattle.map_io.specs.Reading.{fresh, bytes_read, answer_of, NextGives};
@@ -158,7 +158,7 @@ impl LineReader {
         ensures { Scans result self.old self.new }
     {
         let held = &self.buffer[self.start..self.end];
-        match held.iter().position(|b| *b == b'\n') {
+        match line_feed(held) {
             Some(size) => {
                 gather(&mut self.line, &held[..size]);
                 self.start += size + 1;
@@ -207,11 +207,19 @@ fn sized(size: u32) -> Next
     }
 }
 
+// Where the first line feed stands.
+fn line_feed(bytes: &[u8]) -> Option<usize>
+    ensures { result ≡ position (λ b. b == 10) bytes.now }
+{
+    bytes.iter().position(|b| *b == b'\n')
+}
+
 // Adds a piece to a line, as far as there is room.
 fn gather(line: &mut Vec<u8>, piece: &[u8])
     requires short { length line.old.items ≤ 65536 }
     requires room { 65536 ≤ vec_capacity line.old }
     ensures items { line.new.items ≡ take 65536 (line.old.items ++ piece.now) }
+    ensures short { length line.new.items ≤ 65536 }
     ensures room { 65536 ≤ vec_capacity line.new }
 {
     let room = LINE_LIMIT as usize - line.len();

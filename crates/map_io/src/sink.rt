@@ -32,7 +32,7 @@ pub fn put_all<K: Sink>(sink: &mut K, piece: &[u8]) -> Result<(), Failed>
     let mut rest = piece;
     while !rest.is_empty() {
         let taken = sink.write(rest)?;
-        rest = &rest[taken..];
+        rest = rest.split_at(taken).1;
     }
     Ok(())
 }

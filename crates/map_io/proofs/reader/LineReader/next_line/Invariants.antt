@@ -1,0 +1,18 @@
+-- What was passed since the call began is the line so far.
+use Rattle.std.proofs.Common.{◌≡◌, ◌≤◌, ◌-◌, ℕ}
+use Rattle.std.specs.Prelude.{Contains}
+use Rattle.map_io.specs.declared.reader.Stop.TheVariants.{Going}
+use Rattle.map_io.specs.Reading.{bytes_read}
+use Rattle.map_io.specs.Steps.{Gathers}
+use Rattle.map_io.proofs.reader.LineReader.next_line.Given as goal
+
+abbrev pub invariant-loop-self : goal.invariant-loop-self
+invariant-loop-self g l = record {
+  began : l.began ≡ l.fn.self.passed;
+  gathers : Gathers l.fn.self l.self (g.S.Source.left l.fn.source) (g.S.Source.left l.source);
+  unread : Contains l.fn.self.pending 10 → (l.source ≡ l.fn.source) × (l.self.pending ≡ l.fn.self.pending);
+  later : g.S.Source.faults l.fn.source ≤ g.S.Source.faults l.source;
+  within : bytes_read l.self ≤ 67108864 }
+
+abbrev pub decreases-loop-self : goal.decreases-loop-self
+decreases-loop-self g l = 67108864 - bytes_read l.self
