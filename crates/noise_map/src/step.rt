@@ -1,0 +1,183 @@
+//! One line after another: what each does to the scene, and what it writes.
+ghost use Rattle.std.specs.Prelude.{◌≡◌, flat_map, is_none, length};
+ghost use Rattle.std.specs.List.{list_all};
+ghost use Rattle.noise_map.specs.Taking.{Takes, Stops, Does};
+ghost use Rattle.noise_map.specs.Rows.{settle_row};
+ghost use Rattle.noise_map.specs.Reading.{command_of};
+ghost use Rattle.noise_map.specs.Run.{quiet, refusal, receiver_row, settle_rows, is_dark_but_at_1000, may_put_source, may_put_receiver, obeyed, is_blank, is_blank_byte, obeyed_or_refused, line_done};
+ghost use Rattle.noise_map.specs.declared.step.Stopped.TheVariants.{NoMemory, WriteFault};
+
+use crate::command::{Command, LineError, read_command};
+use crate::parts::{PointSource, Receiver};
+use crate::rows::{Fault, receiver_text, refused_text, settle_text};
+use crate::scene::Scene;
+use map_io::{Failed, Sink, put_all};
+use std::alloc::{AllocError, Global};
+
+/// Why a line could not be done to its end.
+#[derive(Clone, Copy, Debug, PartialEq, Eq)]
+pub enum Stopped {
+    WriteFault,
+    NoMemory,
+}
+
+impl From<Failed> for Stopped {
+    ghost from_gives = { λ _ stopped. stopped ≡ WriteFault };
+
+    fn from(_: Failed) -> Self {
+        Stopped::WriteFault
+    }
+}
+
+impl From<AllocError> for Stopped {
+    ghost from_gives = { λ _ stopped. stopped ≡ NoMemory };
+
+    fn from(_: AllocError) -> Self {
+        Stopped::NoMemory
+    }
+}
+
+fn write_row<K: Sink>(out: &mut K, row: &[u8]) -> Result<(), Stopped>
+    ensures taken { Takes result (K.taken out.old) (K.taken out.new) row.now }
+    ensures cause { Stops result (K.faults out.old) (K.faults out.new) }
+{
+    put_all(out, row)?;
+    Ok(())
+}
+
+/// Refuses a line: its row names the fault, and the scene stays.
+fn refuse<K: Sink>(alloc: Global, scene: &Scene, number: u64, fault: Fault, out: &mut K) -> Result<bool, Stopped>
+    ensures done { Does result (refusal number scene.now fault) scene.now scene.now (K.taken out.old) (K.taken out.new) }
+    ensures cause { Stops result (K.faults out.old) (K.faults out.new) }
+{
+    let row = refused_text(alloc, scene.version(), number, fault)?;
+    write_row(out, row.as_slice())?;
+    Ok(true)
+}
+
+fn write_receiver<K: Sink>(alloc: Global, scene: &Scene, receiver: &Receiver, out: &mut K) -> Result<(), Stopped>
+    ensures taken { Takes result (K.taken out.old) (K.taken out.new) (receiver_row scene.now receiver.now) }
+    ensures cause { Stops result (K.faults out.old) (K.faults out.new) }
+{
+    let row = receiver_text(alloc, scene, receiver)?;
+    write_row(out, row.as_slice())
+}
+
+fn write_receivers<K: Sink>(alloc: Global, scene: &Scene, out: &mut K) -> Result<(), Stopped>
+    ensures taken { Takes result (K.taken out.old) (K.taken out.new) (flat_map (receiver_row scene.now) scene.now.receivers) }
+    ensures cause { Stops result (K.faults out.old) (K.faults out.new) }
+{
+    for receiver in scene.receivers() {
+        write_receiver(alloc, scene, receiver, out)?;
+    }
+    Ok(())
+}
+
+fn write_head<K: Sink>(alloc: Global, scene: &Scene, out: &mut K) -> Result<(), Stopped>
+    ensures taken { Takes result (K.taken out.old) (K.taken out.new) (settle_row scene.now.version (length scene.now.receivers)) }
+    ensures cause { Stops result (K.faults out.old) (K.faults out.new) }
+{
+    let head = settle_text(alloc, scene.version(), scene.receivers().len())?;
+    write_row(out, head.as_slice())
+}
+
+/// Writes the rows of a settle, each as soon as it is there.
+fn settle<K: Sink>(alloc: Global, scene: &Scene, out: &mut K) -> Result<(), Stopped>
+    ensures taken { Takes result (K.taken out.old) (K.taken out.new) (settle_rows scene.now) }
+    ensures cause { Stops result (K.faults out.old) (K.faults out.new) }
+{
+    write_head(alloc, scene, out)?;
+    write_receivers(alloc, scene, out)
+}
+
+fn may_put_source(scene: &Scene, source: &PointSource) -> bool
+    ensures { result ≡ may_put_source source.now scene.now }
+{
+    scene.sources().is_empty() && dark_but_at_1000(&source.power) && !scene.holds(&source.name)
+}
+
+fn dark_but_at_1000(power: &[Option<i32>; 8]) -> bool
+    ensures { result ≡ is_dark_but_at_1000 power.now }
+{
+    all_dark(&power[..4]) && all_dark(&power[5..])
+}
+
+fn all_dark(powers: &[Option<i32>]) -> bool
+    ensures { result ≡ list_all is_none powers.now }
+{
+    powers.iter().all(|power| power.is_none())
+}
+
+fn may_put_receiver(scene: &Scene, receiver: &Receiver) -> bool
+    ensures { result ≡ may_put_receiver receiver.now scene.now }
+{
+    scene.receivers().len() < 4096 && !scene.holds(&receiver.name)
+}
+
+#[tactic(auto, unfolding(crate::specs::Run::obeyed))]
+fn put_source<K: Sink>(alloc: Global, scene: &mut Scene, number: u64, source: PointSource, out: &mut K) -> Result<bool, Stopped>
+    ensures done { Does result (obeyed number scene.old (Command.Source source)) scene.old scene.new (K.taken out.old) (K.taken out.new) }
+    ensures cause { Stops result (K.faults out.old) (K.faults out.new) }
+{
+    if !may_put_source(scene, &source) {
+        return refuse(alloc, scene, number, Fault::NotBuilt, out);
+    }
+    scene.put_source(source)?;
+    Ok(false)
+}
+
+#[tactic(auto, unfolding(crate::specs::Run::obeyed))]
+fn put_receiver<K: Sink>(alloc: Global, scene: &mut Scene, number: u64, receiver: Receiver, out: &mut K) -> Result<bool, Stopped>
+    ensures done { Does result (obeyed number scene.old (Command.Receiver receiver)) scene.old scene.new (K.taken out.old) (K.taken out.new) }
+    ensures cause { Stops result (K.faults out.old) (K.faults out.new) }
+{
+    if !may_put_receiver(scene, &receiver) {
+        return refuse(alloc, scene, number, Fault::NotBuilt, out);
+    }
+    scene.put_receiver(receiver)?;
+    Ok(false)
+}
+
+#[tactic(auto, unfolding(crate::specs::Run::obeyed))]
+fn obey_settle<K: Sink>(alloc: Global, scene: &Scene, number: u64, out: &mut K) -> Result<bool, Stopped>
+    ensures done { Does result (obeyed number scene.now Command.Settle) scene.now scene.now (K.taken out.old) (K.taken out.new) }
+    ensures cause { Stops result (K.faults out.old) (K.faults out.new) }
+{
+    settle(alloc, scene, out)?;
+    Ok(false)
+}
+
+fn obey<K: Sink>(alloc: Global, scene: &mut Scene, number: u64, command: Command, out: &mut K) -> Result<bool, Stopped>
+    ensures done { Does result (obeyed number scene.old command) scene.old scene.new (K.taken out.old) (K.taken out.new) }
+    ensures cause { Stops result (K.faults out.old) (K.faults out.new) }
+{
+    match command {
+        Command::Source(source) => put_source(alloc, scene, number, source, out),
+        Command::Receiver(receiver) => put_receiver(alloc, scene, number, receiver, out),
+        Command::Settle => obey_settle(alloc, scene, number, out),
+    }
+}
+
+fn is_blank_text(line: &[u8]) -> bool
+    ensures { result ≡ is_blank line.now }
+{
+    line.iter().all(|byte| is_blank_char(*byte))
+}
+
+fn is_blank_char(byte: u8) -> bool
+    ensures { result ≡ is_blank_byte byte }
+{
+    byte == b' ' || byte == b'\t' || byte == b'\r'
+}
+
+#[tactic(auto, unfolding(crate::specs::Run::obeyed_or_refused))]
+fn read_and_obey<K: Sink>(alloc: Global, scene: &mut Scene, number: u64, line: &[u8], out: &mut K) -> Result<bool, Stopped>
+    ensures done { Does result (obeyed_or_refused number scene.old (command_of line.now)) scene.old scene.new (K.taken out.old) (K.taken out.new) }
+    ensures cause { Stops result (K.faults out.old) (K.faults out.new) }
+{
+    match read_command(alloc, line) {
+        Ok(command) => obey(alloc, scene, number, command, out),
+        Err(LineError::NoMemory) => Err(Stopped::NoMemory),
+        Err(LineError::NotBuilt) => refuse(alloc, scene, number, Fault::NotBuilt, out),
+    }
+}
