@@ -4,6 +4,7 @@ ghost use Rattle.std.specs.Io.KnownBytes.{ReadConsumes, WriteAppends};
 ghost use Rattle.map_io.specs.Causes.{HasCause};
 ghost use Rattle.map_io.specs.Putting.{TakesSome};
 
+use crate::giving::give;
 use crate::{Failed, Sink, Source};
 use std::marker::Model;
 
@@ -46,10 +47,8 @@ impl Source for FreeSource {
         // It gives as much as there is room for.
         ensures all { result ≡ Ok (min (length buf.old) (length self.old)) }
     {
-        let count = buf.len().min(self.bytes.len() - self.given);
-        let end = self.given + count;
-        buf[..count].copy_from_slice(&self.bytes[self.given..end]);
-        self.given = end;
+        let count = give(&self.bytes[self.given..], buf.len(), buf);
+        self.given += count;
         Ok(count)
     }
 }

@@ -7,6 +7,7 @@
 mod errors;
 mod free;
 mod gate;
+mod giving;
 mod memory;
 mod reader;
 mod sink;

@@ -5,6 +5,7 @@ ghost use Rattle.map_io.specs.Causes.{HasCause};
 ghost use Rattle.map_io.specs.Putting.{TakesSome};
 ghost use Rattle.map_io.specs.Memory.{one_more, is_among, Answers};
 
+use crate::giving::give;
 use crate::{Failed, NoMemory, Sink, Source};
 use std::alloc::Global;
 use std::marker::Model;
@@ -75,11 +76,8 @@ impl Source for MemSource {
             self.faults = self.faults.saturating_add(1);
             return Err(Failed);
         }
-        let left = self.bytes.len() - self.given;
-        let count = (self.piece as usize).min(buf.len()).min(left);
-        let end = self.given + count;
-        buf[..count].copy_from_slice(&self.bytes[self.given..end]);
-        self.given = end;
+        let count = give(&self.bytes[self.given..], self.piece as usize, buf);
+        self.given += count;
         Ok(count)
     }
 }
