@@ -22,3 +22,6 @@ pub use reader::{INPUT_LIMIT, LINE_LIMIT, LineReader, Next, Stop};
 pub use sink::{Sink, put_all};
 pub use source::Source;
 pub use standard::{StdSink, StdSource};
+
+#[cfg(test)]
+mod tests;

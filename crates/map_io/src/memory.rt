@@ -28,11 +28,12 @@ impl Model for MemSource {
     ghost Value = { Supply };
 
     ghost view = { λ s. record {
-        left = drop s.given s.bytes.items;
-        piece = s.piece;
-        fail = s.fail.items;
-        calls = s.calls;
-        faults = s.faults } };
+      left = drop s.given s.bytes.items;
+      piece = s.piece;
+      fail = s.fail.items;
+      calls = s.calls;
+      faults = s.faults;
+    } };
 
     ghost invariant = { λ s. IsGiving s.given (length s.bytes.items) s.piece };
 }
@@ -100,11 +101,12 @@ impl Model for MemSink {
     ghost Value = { Store };
 
     ghost view = { λ s. record {
-        taken = s.bytes.items;
-        room = s.room;
-        fail = s.fail.items;
-        calls = s.calls;
-        faults = s.faults } };
+      taken = s.bytes.items;
+      room = s.room;
+      fail = s.fail.items;
+      calls = s.calls;
+      faults = s.faults;
+    } };
 
     ghost invariant = { λ s. length s.bytes.items + s.room ≤ vec_capacity s.bytes };
 }
@@ -131,7 +133,9 @@ impl MemSink {
         ensures err { OnErr result (self.new ≡ self.old) }
     {
         if bytes > self.room {
-            let capacity = (self.bytes.len() as u64).checked_add(bytes).ok_or(NoMemory)?;
+            let capacity = (self.bytes.len() as u64)
+                .checked_add(bytes)
+                .ok_or(NoMemory)?;
             let mut roomy = Vec::with_capacity(alloc, capacity as usize)?;
             roomy.extend_from_slice(&self.bytes)?;
             self.bytes = roomy;

@@ -61,10 +61,11 @@ impl Model for LineReader {
     ghost use Rattle.map_io.specs.Buffers.{IsSound};
 
     ghost view = { λ r. record {
-        line = r.line.items;
-        pending = slice_range r.buffer.items r.start r.end;
-        passed = r.passed;
-        stop = r.stop } };
+      line = r.line.items;
+      pending = slice_range r.buffer.items r.start r.end;
+      passed = r.passed;
+      stop = r.stop;
+    } };
 
     ghost invariant = { IsSound };
 }
