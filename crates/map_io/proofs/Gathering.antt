@@ -48,7 +48,7 @@ gather_all old mid new a b so_far scan = record {
 line_answered : (line : List ℕ) (next : Next) (old new : Reading) (a b : Option (List ℕ)) → IsPlain line → new.line ≡ take 65536 line → Sizes (length line) next →
     PassesLine new.stop old new a b line → NextGives next old new a b
 line_answered line next old new a b plain kept sizes passes = elim (cases_lt 65536 (length line)) [
-    inr short ↦
+  | inr short ↦
       let whole : new.line ≡ line = kept ∙ take_all 65536 line short in
       rw (sizes.short short) record {
         size = ap length (sym whole);
@@ -57,20 +57,20 @@ line_answered line next old new a b plain kept sizes passes = elim (cases_lt 655
         passes = subst (λ (l : List ℕ). PassesLine new.stop old new a b l) (sym whole) passes;
       }
   | inl long ↦ rw (sizes.long long) record { line = line; long = long; plain = plain; passes = passes }
-  ]
+]
 
 -- a scan found the line feed
 pub line_ended : (next : Next) (old mid new : Reading) (a b : Option (List ℕ)) (size : ℕ) → Gathers old mid a b → Scans true mid new → size ≡ new.passed - old.passed - 1 → Sizes size next → NextGives next old new a b
 line_ended next old mid new a b size so_far scan is sizes =
     let line : List ℕ = so_far.front ++ scan.piece in
     let passes : Passes old new a b (so_far.front ++ (scan.piece ++ 10 ∷ [])) =
-        Passes-append old mid new a b b so_far.front (scan.piece ++ 10 ∷ []) so_far.passes (Passes-scan true mid new b scan) in
+    Passes-append old mid new a b b so_far.front (scan.piece ++ 10 ∷ []) so_far.passes (Passes-scan true mid new b scan) in
     let going : new.stop ≡ Going = scan.stop ∙ so_far.going in
     let joined : Passes old new a b (line ++ 10 ∷ []) = subst (λ (bytes : List ℕ). Passes old new a b bytes) (sym (append_assoc so_far.front scan.piece (10 ∷ []))) passes in
     let long : size ≡ length line = omega (arith, is, joined.counted, length-append line (10 ∷ [])) in
     line_answered line next old new a b (All-append (λ x. x ≢ 10) so_far.front scan.piece so_far.plain scan.plain)
-        (line_scanned true old mid new a b so_far scan) (subst (λ (n : ℕ). Sizes n next) long sizes)
-        (subst (λ (s : Stop). PassesLine s old new a b line) (sym going) joined)
+    (line_scanned true old mid new a b so_far scan) (subst (λ (n : ℕ). Sizes n next) long sizes)
+    (subst (λ (s : Stop). PassesLine s old new a b line) (sym going) joined)
 
 -- a read brought bytes
 pub gather_filled : (old mid new : Reading) (a b c : Option (List ℕ)) → Gathers old mid a b → mid.pending ≡ [] → Fills mid new b c → new.stop ≡ Going → Gathers old new a c
@@ -78,7 +78,7 @@ gather_filled old mid new a b c so_far none fills going =
     let brings : Brings Going new b c = subst (λ (stop : Stop). Brings stop new b c) going fills.brings in
     let came : Consumes (ahead mid b) (ahead new c) [] = Consumes-came mid.pending new.pending b c none brings.1 in
     let passes : Passes old new a c (so_far.front ++ []) = Passes-append old mid new a b c so_far.front [] so_far.passes
-        record { taken = came; counted = omega (arith, fills.passed) } in
+    record { taken = came; counted = omega (arith, fills.passed) } in
     record {
       front = so_far.front;
       plain = so_far.plain;
@@ -92,7 +92,7 @@ Passes-kept : (old mid new : Reading) (a b c : Option (List ℕ)) (so_far : Gath
 Passes-kept old mid new a b c so_far none held passed kept =
     let rest : Consumes (ahead mid b) (ahead new c) [] = Consumes-dropped mid.pending new.pending [] b c none held (Consumes-kept b c kept) in
     let passes : Passes old new a c (so_far.front ++ []) = Passes-append old mid new a b c so_far.front [] so_far.passes
-        record { taken = rest; counted = omega (arith, passed) } in
+    record { taken = rest; counted = omega (arith, passed) } in
     subst (λ (bytes : List ℕ). Passes old new a c bytes) (append-nil so_far.front) passes
 
 -- the input ended with no line begun
@@ -116,7 +116,7 @@ last_line next old mid new a b c size so_far none fills stop other is sizes =
     let long : size ≡ length so_far.front = omega (arith, is, passes.counted) in
     let some : 0 < length so_far.front = omega (arith, passes.counted) in
     line_answered so_far.front next old new a c so_far.plain (fills.line ∙ so_far.line) (subst (λ (n : ℕ). Sizes n next) long sizes)
-        (subst (λ (s : Stop). PassesLine s old new a c so_far.front) (sym stop) (some, passes, record { held = brings.0; left = brings.2 }))
+    (subst (λ (s : Stop). PassesLine s old new a c so_far.front) (sym stop) (some, passes, record { held = brings.0; left = brings.2 }))
 
 -- the source failed
 pub breaks_off : (old mid new : Reading) (a b c : Option (List ℕ)) → Gathers old mid a b → mid.pending ≡ [] → Fills mid new b c → new.stop ≡ AfterFault → BreaksOff old new a c

@@ -13,12 +13,12 @@ take-append_room n xs ys fits =
 -- what was cut off a list before more is added is cut off afterwards
 pub take-append_cut : (n : ℕ) (xs ys : List ℕ) → take n (take n xs ++ ys) ≡ take n (xs ++ ys)
 take-append_cut n xs ys = elim (cases_lt n (length xs)) [
-    inr short ↦ ap (λ front. take n (front ++ ys)) (take_all n xs short)
+  | inr short ↦ ap (λ front. take n (front ++ ys)) (take_all n xs short)
   | inl long ↦
       let cut : length (take n xs) ≡ n = omega (arith, length-take n xs) in
       let fits : n ≤ length xs = omega arith in
       take_at (take n xs) ys n cut ∙ sym (take-append-le n xs ys fits)
-  ]
+]
 
 pub empty_if_no_length : (xs : List ℕ) → length xs ≡ 0 → xs ≡ []
 empty_if_no_length [] none = refl

@@ -18,14 +18,14 @@ pub plain_before_feed : (bytes : List ℕ) (i : ℕ) → position (λ b. b == 10
 plain_before_feed bytes i found =
     let at = position-Some (λ b. b == 10) bytes i 0 found in
     All-from_get_or (λ b. b ≢ 10) (take i bytes) 0
-        (λ k below. let lt : k < i = omega (arith, length-take i bytes) in rw (get_or-take i bytes k 0 lt) (eqb-false _ 10 (at.2 k lt)))
+    (λ k below. let lt : k < i = omega (arith, length-take i bytes) in rw (get_or-take i bytes k 0 lt) (eqb-false _ 10 (at.2 k lt)))
 
 -- and it follows them
 pub split_at_feed : (bytes : List ℕ) (i : ℕ) → position (λ b. b == 10) bytes ≡ Some i → bytes ≡ take i bytes ++ 10 ∷ drop (i + 1) bytes
 split_at_feed bytes i found =
     let at = position-Some (λ b. b == 10) bytes i 0 found in
     sym (take-append-drop i bytes)
-        ∙ ap (λ rest. take i bytes ++ rest) (drop_more bytes i 0 at.0 ∙ ap (λ b. b ∷ drop (i + 1) bytes) (eqb-true _ 10 at.1))
+    ∙ ap (λ rest. take i bytes ++ rest) (drop_more bytes i 0 at.0 ∙ ap (λ b. b ∷ drop (i + 1) bytes) (eqb-true _ 10 at.1))
 
 not_less : (less : Bool) (n : ℕ) → cond less (Some n) None ≡ None → less ≡ false
 not_less true n h = cc
@@ -37,7 +37,7 @@ plain_without_feed bytes none =
     let at = position_or_len (λ b. b == 10) bytes in
     let far = ltb-false at (length bytes) (not_less (nat_lt at (length bytes)) at none) in
     All-from_get_or (λ b. b ≢ 10) bytes 0
-        (λ k below. let lt : k < at = omega (arith, far) in eqb-false _ 10 (fails_before_first (λ b. b == 10) bytes k 0 lt))
+    (λ k below. let lt : k < at = omega (arith, far) in eqb-false _ 10 (fails_before_first (λ b. b == 10) bytes k 0 lt))
 
 -- plain bytes hold no line feed
 pub plain_has_none : (bytes : List ℕ) → IsPlain bytes → Contains bytes 10 → ⊥
@@ -60,8 +60,8 @@ pub scan_found : (line buffer added : List ℕ) (start end passed size : ℕ) (s
     position (λ b. b == 10) (slice_range buffer start end) ≡ Some size →
     added ≡ take 65536 (line ++ take size (slice_range buffer start end)) →
     Scans true
-        record { line = line; pending = slice_range buffer start end; passed = passed; stop = stop }
-        record { line = added; pending = slice_range buffer (start + (size + 1)) end; passed = passed + (size + 1); stop = stop }
+    record { line = line; pending = slice_range buffer start end; passed = passed; stop = stop }
+    record { line = added; pending = slice_range buffer (start + (size + 1)) end; passed = passed + (size + 1); stop = stop }
 scan_found line buffer added start end passed size stop ordered inside within found adds =
     let held : List ℕ = slice_range buffer start end in
     let at = position-Some (λ b. b == 10) held size 0 found in
@@ -87,8 +87,8 @@ pub scan_all : (line buffer added : List ℕ) (start end passed : ℕ) (stop : S
     position (λ b. b == 10) (slice_range buffer start end) ≡ None →
     added ≡ take 65536 (line ++ slice_range buffer start end) →
     Scans false
-        record { line = line; pending = slice_range buffer start end; passed = passed; stop = stop }
-        record { line = added; pending = slice_range buffer end end; passed = passed + length (slice_range buffer start end); stop = stop }
+    record { line = line; pending = slice_range buffer start end; passed = passed; stop = stop }
+    record { line = added; pending = slice_range buffer end end; passed = passed + length (slice_range buffer start end); stop = stop }
 scan_all line buffer added start end passed stop ordered inside within none adds =
     let held : List ℕ = slice_range buffer start end in
     record {

@@ -64,19 +64,18 @@ pub whole_lines-ended : (ls : List (List ℕ)) (rest : List ℕ) → All IsPlain
 whole_lines-ended [] rest plain = refl
 whole_lines-ended (line ∷ more) rest plain =
     ap whole_lines (append_assoc line (10 ∷ ended more) rest)
-        ∙ whole_lines-line line (ended more ++ rest) (All-head IsPlain line more plain)
-        ∙ ap (λ ls. line ∷ ls) (whole_lines-ended more rest (All-tail IsPlain line more plain))
+    ∙ whole_lines-line line (ended more ++ rest) (All-head IsPlain line more plain)
+    ∙ ap (λ ls. line ∷ ls) (whole_lines-ended more rest (All-tail IsPlain line more plain))
 
 pub lines-ended : (ls : List (List ℕ)) (rest : List ℕ) → All IsPlain ls → lines (ended ls ++ rest) ≡ ls ++ lines rest
 lines-ended [] rest plain = refl
 lines-ended (line ∷ more) rest plain =
     ap lines (append_assoc line (10 ∷ ended more) rest)
-        ∙ lines-line line (ended more ++ rest) (All-head IsPlain line more plain)
-        ∙ ap (λ ls. line ∷ ls) (lines-ended more rest (All-tail IsPlain line more plain))
+    ∙ lines-line line (ended more ++ rest) (All-head IsPlain line more plain)
+    ∙ ap (λ ls. line ∷ ls) (lines-ended more rest (All-tail IsPlain line more plain))
 
 -- one more line at the end
 pub ended-push : (ls : List (List ℕ)) (line : List ℕ) → ended (ls ++ line ∷ []) ≡ ended ls ++ (line ++ 10 ∷ [])
 ended-push [] line = refl
 ended-push (first ∷ more) line =
     ap (λ bytes. first ++ 10 ∷ bytes) (ended-push more line) ∙ sym (append_assoc first (10 ∷ ended more) (line ++ 10 ∷ []))
-

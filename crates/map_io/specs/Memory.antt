@@ -30,3 +30,8 @@ is_among fail number = list_any (λ n. n == number) fail
 pub record Answers {E : Type 0} (failing : Bool) (result : Result ℕ E) (answer faults faults_new : ℕ) : Type 0 where
   pub variant : MatchBool failing (IsErr result) (result ≡ Ok answer)
   pub counted : faults_new ≡ (if failing then one_more faults else faults)
+
+-- a source in memory has given no more than it has, and gives a byte at least at a time
+pub record IsGiving (given size piece : ℕ) : Type 0 where
+  pub inside : given ≤ size
+  pub some : 1 ≤ piece

@@ -7,6 +7,14 @@ use Rattle.map_io.specs.declared.reader.Next.{Next}
 use Rattle.map_io.specs.declared.reader.Next.TheVariants.{Line, End, LongLine, ReadFault, InputLimit}
 use Rattle.map_io.specs.Lines.{IsPlain}
 
+-- how many bytes a line may have, without its line feed
+abbrev pub line_limit : ℕ
+line_limit = 65536
+
+-- how many bytes of an input are read
+abbrev pub input_limit : ℕ
+input_limit = 67108864
+
 -- how a reader stands between two calls
 pub record Reading : Type 0 where
   -- the line that was handed out last
@@ -57,14 +65,14 @@ PassesLine AtLimit old new before after line = ⊥
 -- a line of n bytes is handed out
 pub record HandsOut (n : ℕ) (old new : Reading) (before after : Option (List ℕ)) : Type 0 where
   pub size : n ≡ length new.line
-  pub short : n ≤ 65536
+  pub short : n ≤ line_limit
   pub plain : IsPlain new.line
   pub passes : PassesLine new.stop old new before after new.line
 
--- a line of more than 65,536 bytes is passed over
+-- a line of more bytes than the limit is passed over
 pub record PassesOver (old new : Reading) (before after : Option (List ℕ)) : Type 0 where
   pub line : List ℕ
-  pub long : 65536 < length line
+  pub long : line_limit < length line
   pub plain : IsPlain line
   pub passes : PassesLine new.stop old new before after line
 
@@ -88,7 +96,7 @@ pub record ReachesLimit (old new : Reading) (before after : Option (List ℕ)) :
   pub rest : List ℕ
   pub plain : IsPlain rest
   pub counted : new.passed ≡ old.passed + length rest
-  pub full : new.passed ≡ 67108864
+  pub full : new.passed ≡ input_limit
   pub more : ℕ
   pub taken : Consumes (ahead old before) (ahead new after) (rest ++ more ∷ [])
   pub held : new.pending ≡ []

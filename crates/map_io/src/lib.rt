@@ -5,13 +5,23 @@
 #![tactic(auto)]
 
 mod errors;
+mod free;
 mod gate;
+mod giving;
+mod memory;
 mod reader;
 mod sink;
 mod source;
+mod standard;
 
 pub use errors::{Failed, NoMemory};
+pub use free::{FreeSink, FreeSource};
 pub use gate::{Gate, OpenGate};
+pub use memory::{MemSink, MemSource};
 pub use reader::{INPUT_LIMIT, LINE_LIMIT, LineReader, Next, Stop};
 pub use sink::{Sink, put_all};
 pub use source::Source;
+pub use standard::{StdSink, StdSource};
+
+#[cfg(test)]
+mod tests;

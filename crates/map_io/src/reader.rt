@@ -1,7 +1,7 @@
 ghost use Rattle.std.specs.Prelude.{◌≡◌, ◌≢◌, ◌<◌, ◌≤◌, ◌++◌, [], length, take, vec_capacity, position, ◌==◌, Contains, IfOk};
 ghost use Rattle.std.specs.Io.KnownBytes.{ReadConsumes};
 ghost use Rattle.map_io.specs.Causes.{HasCause, Rose};
-ghost use Rattle.map_io.specs.Reading.{fresh, bytes_read, answer_of, NextGives};
+ghost use Rattle.map_io.specs.Reading.{fresh, bytes_read, answer_of, line_limit, input_limit, NextGives};
 ghost use Rattle.map_io.specs.Steps.{Scans, Fills, Sizes};
 
 use crate::{Failed, NoMemory, Source};
@@ -61,10 +61,11 @@ impl Model for LineReader {
     ghost use Rattle.map_io.specs.Buffers.{IsSound};
 
     ghost view = { λ r. record {
-        line = r.line.items;
-        pending = slice_range r.buffer.items r.start r.end;
-        passed = r.passed;
-        stop = r.stop } };
+      line = r.line.items;
+      pending = slice_range r.buffer.items r.start r.end;
+      passed = r.passed;
+      stop = r.stop;
+    } };
 
     ghost invariant = { IsSound };
 }
@@ -108,7 +109,7 @@ impl LineReader {
         ensures later { S.faults source.old ≤ S.faults source.new }
         ensures fault { result ≡ Next.ReadFault → self.old.stop ≢ Stop.AfterFault → Rose (S.faults source.old) (S.faults source.new) }
 
-        ensures within { (bytes_read self.old ≤ 67108864) × (bytes_read self.new ≤ 67108864) }
+        ensures within { (bytes_read self.old ≤ input_limit) × (bytes_read self.new ≤ input_limit) }
     {
         match self.stop {
             Stop::Going => self.next_line(source),
@@ -125,7 +126,7 @@ impl LineReader {
         ensures held { Contains self.old.pending 10 → source.new ≡ source.old }
         ensures later { S.faults source.old ≤ S.faults source.new }
         ensures fault { result ≡ Next.ReadFault → Rose (S.faults source.old) (S.faults source.new) }
-        ensures within { bytes_read self.new ≤ 67108864 }
+        ensures within { bytes_read self.new ≤ input_limit }
     {
         let began = self.begin();
         loop {
@@ -147,7 +148,7 @@ impl LineReader {
     fn begin(&mut self) -> u32
         ensures passed { result ≡ self.old.passed }
         ensures empty { self.new ≡ record self.old { line = [] } }
-        ensures within { bytes_read self.new ≤ 67108864 }
+        ensures within { bytes_read self.new ≤ input_limit }
     {
         self.line.clear();
         self.passed
@@ -216,11 +217,11 @@ fn line_feed(bytes: &[u8]) -> Option<usize>
 
 // Adds a piece to a line, as far as there is room.
 fn gather(line: &mut Vec<u8>, piece: &[u8])
-    requires short { length line.old.items ≤ 65536 }
-    requires room { 65536 ≤ vec_capacity line.old }
-    ensures items { line.new.items ≡ take 65536 (line.old.items ++ piece.now) }
-    ensures short { length line.new.items ≤ 65536 }
-    ensures room { 65536 ≤ vec_capacity line.new }
+    requires short { length line.old.items ≤ line_limit }
+    requires room { line_limit ≤ vec_capacity line.old }
+    ensures items { line.new.items ≡ take line_limit (line.old.items ++ piece.now) }
+    ensures short { length line.new.items ≤ line_limit }
+    ensures room { line_limit ≤ vec_capacity line.new }
 {
     let room = LINE_LIMIT as usize - line.len();
     let _ = line.extend_from_slice(&piece[..room.min(piece.len())]);

@@ -6,4 +6,5 @@ use Rattle.map_io.proofs.sink.put_all.Goals as goal
 pub loop-rest-preserved : goal.loop-rest-preserved
 loop-rest-preserved g c = record {
   taken = rw c.split_at.ensures.back (TakenBefore-more _ _ _ _ _ c.in_ok-taken.taken c.loop-rest.invariant.taken c.in_ok-taken.ensures.bytes);
-  later = omega (arith, c.loop-rest.invariant.later, c.in_ok-taken.ensures.cause.later) }
+  later = omega (arith, c.loop-rest.invariant.later, c.in_ok-taken.ensures.cause.later);
+}

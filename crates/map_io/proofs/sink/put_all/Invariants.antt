@@ -6,7 +6,8 @@ use Rattle.map_io.proofs.sink.put_all.Given as goal
 abbrev pub invariant-loop-rest : goal.invariant-loop-rest
 invariant-loop-rest g l = record {
   taken : TakenBefore (g.K.Sink.taken l.initial.sink) (g.K.Sink.taken l.sink) l.piece l.rest;
-  later : g.K.Sink.faults l.initial.sink ≤ g.K.Sink.faults l.sink }
+  later : g.K.Sink.faults l.initial.sink ≤ g.K.Sink.faults l.sink;
+}
 
 abbrev pub decreases-loop-rest : goal.decreases-loop-rest
 decreases-loop-rest g l = length l.rest

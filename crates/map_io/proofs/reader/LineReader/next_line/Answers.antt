@@ -31,7 +31,7 @@ returns-in-AtEnd-clause-gives g c =
     let stop = sym (ap (λ (r : Reading). r.stop) c.self-in-loop-self.view_is) ∙ c.in-AtEnd.is in
     let passed = ap (λ (r : Reading). r.passed) c.self-in-loop-self.view_is in
     ends _ c.scan.new.self _ _ _ _ (gather_all _ c.loop-self.self _ _ _ c.loop-self.invariant.gathers scan) (scan.all refl) c.fill.ensures.fills stop
-        (omega (arith, passed, c.if-self-began.true, c.begin-began.ensures.passed))
+    (omega (arith, passed, c.if-self-began.true, c.begin-began.ensures.passed))
 
 pub returns-in-AtEnd-2-clause-gives : goal.returns-in-AtEnd-2-clause-gives
 returns-in-AtEnd-2-clause-gives g c =
@@ -39,8 +39,8 @@ returns-in-AtEnd-2-clause-gives g c =
     let stop = sym (ap (λ (r : Reading). r.stop) c.self-in-loop-self.view_is) ∙ c.in-AtEnd.is in
     let passed = ap (λ (r : Reading). r.passed) c.self-in-loop-self.view_is in
     last_line _ _ c.scan.new.self _ _ _ _ _ (gather_all _ c.loop-self.self _ _ _ c.loop-self.invariant.gathers scan) (scan.all refl) c.fill.ensures.fills stop
-        (λ same. c.if-self-began.false (passed ∙ same ∙ sym c.begin-began.ensures.passed))
-        (omega (arith, passed, c.begin-began.ensures.passed)) c.sized-in-AtEnd-2.ensures
+    (λ same. c.if-self-began.false (passed ∙ same ∙ sym c.begin-began.ensures.passed))
+    (omega (arith, passed, c.begin-began.ensures.passed)) c.sized-in-AtEnd-2.ensures
 
 pub returns-in-AfterFault-clause-gives : goal.returns-in-AfterFault-clause-gives
 returns-in-AfterFault-clause-gives g c =

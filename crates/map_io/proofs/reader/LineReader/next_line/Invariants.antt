@@ -12,7 +12,8 @@ invariant-loop-self g l = record {
   gathers : Gathers l.fn.self l.self (g.S.Source.left l.fn.source) (g.S.Source.left l.source);
   unread : Contains l.fn.self.pending 10 → (l.source ≡ l.fn.source) × (l.self.pending ≡ l.fn.self.pending);
   later : g.S.Source.faults l.fn.source ≤ g.S.Source.faults l.source;
-  within : bytes_read l.self ≤ 67108864 }
+  within : bytes_read l.self ≤ 67108864;
+}
 
 abbrev pub decreases-loop-self : goal.decreases-loop-self
 decreases-loop-self g l = 67108864 - bytes_read l.self

@@ -32,15 +32,15 @@ returns-in-Some c =
     let r = c.self.inside in
     let inside : r.end ≤ length r.buffer.items = omega arith in
     rw (← c.self.view_is)
-        (scan_found _ _ _ _ _ _ _ _ c.self.invariant.ordered inside c.self.invariant.within
-            (rw c.deref.ensures.value at (sym c.line_feed.ensures ∙ c.in-Some.is))
-            (rw c.deref.ensures.value at c.gather.ensures.items))
+    (scan_found _ _ _ _ _ _ _ _ c.self.invariant.ordered inside c.self.invariant.within
+    (rw c.deref.ensures.value at (sym c.line_feed.ensures ∙ c.in-Some.is))
+    (rw c.deref.ensures.value at c.gather.ensures.items))
 
 pub returns-in-None : goal.returns-in-None
 returns-in-None c =
     let r = c.self.inside in
     let inside : r.end ≤ length r.buffer.items = omega arith in
     rw (← c.self.view_is, c.deref.ensures.value)
-        (scan_all _ _ _ _ _ _ _ c.self.invariant.ordered inside c.self.invariant.within
-            (rw c.deref.ensures.value at (sym c.line_feed.ensures ∙ c.in-None.is))
-            (rw c.deref.ensures.value at c.gather-in-None.ensures.items))
+    (scan_all _ _ _ _ _ _ _ c.self.invariant.ordered inside c.self.invariant.within
+    (rw c.deref.ensures.value at (sym c.line_feed.ensures ∙ c.in-None.is))
+    (rw c.deref.ensures.value at c.gather-in-None.ensures.items))
