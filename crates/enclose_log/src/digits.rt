@@ -70,8 +70,10 @@ impl Turn {
 
 /// All 32 digits of two mantissas, of the first rounded down and of the second rounded up, side by side.
 pub(crate) fn digits(low: u64, high: u64) -> (Turn, Turn)
-    requires low { low < 10 * one_mantissa }
-    requires high { high ≤ 10 * one_mantissa }
+    requires low_least { one_mantissa ≤ low }
+    requires low_below { low < 10 * one_mantissa }
+    requires high_least { one_mantissa ≤ high }
+    requires high_most { high ≤ 10 * one_mantissa }
     ensures low { result.0 ≡ digits_low low }
     ensures high { result.1 ≡ digits_high high }
 {

@@ -1,0 +1,4 @@
+pub mod DecadeLemmas
+pub mod Powers
+pub mod Quotients
+pub mod Turns
