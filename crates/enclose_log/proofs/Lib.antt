@@ -1,4 +1,5 @@
 pub mod DecadeLemmas
+pub mod Law
 pub mod Powers
 pub mod Quotients
 pub mod Turns
