@@ -93,14 +93,14 @@ turns_high-at_least b x m (suc i) start =
   rw power (turn_high-at_least b x (2 ^ i) _ _ (turns_high-at_least b x m i start))
 
 -- the digits rounded up: as they are where nothing is left, or else one more
-rounded_up-cases : (t : LgTurn) → ((t.mantissa ≡ one_mantissa) × (rounded_up t ≡ t.digits)) ⊎ (rounded_up t ≡ t.digits + 1)
+pub rounded_up-cases : (t : LgTurn) → ((t.mantissa ≡ one_mantissa) × (rounded_up t ≡ t.digits)) ⊎ (rounded_up t ≡ t.digits + 1)
 rounded_up-cases t =
   elim (cases_eq t.mantissa one_mantissa) [
     inl same ↦ (let e : (t.mantissa == one_mantissa) ≡ true = search (rules, tests, same) in inl (same, rw e (omega arith)))
   | inr other ↦ (let e : (t.mantissa == one_mantissa) ≡ false = search (rules, tests, other) in inr (rw e refl)) ]
 
 -- The whole law, of a number x whose decade is k and of the 10^k u that it is measured by
-low-law : (k x m i u : ℕ) → u ≡ 2 ^ i → 10 ^ k * u * m ≤ x * one_mantissa → one_mantissa ≤ m → m < 10 * one_mantissa →
+pub low-law : (k x m i u : ℕ) → u ≡ 2 ^ i → 10 ^ k * u * m ≤ x * one_mantissa → one_mantissa ≤ m → m < 10 * one_mantissa →
   10 ^ (k * u + (turns turn_low i (record { mantissa = m; digits = 0 })).digits) * u ^ u ≤ x ^ u
 low-law k x m i u e start least below =
   let t = turns turn_low i (record { mantissa = m; digits = 0 }) in
@@ -114,7 +114,7 @@ low-law k x m i u e start least below =
   le_of_mul-le-mul_right {k = one_mantissa} (rw digits (omega (arith, grown, rw base at kept_u))) (omega arith)
 
 -- the same of the digits rounded up, one more where something is left
-high-law : (k x m i u : ℕ) → u ≡ 2 ^ i → x * one_mantissa ≤ 10 ^ k * u * m → one_mantissa ≤ m → m ≤ 10 * one_mantissa →
+pub high-law : (k x m i u : ℕ) → u ≡ 2 ^ i → x * one_mantissa ≤ 10 ^ k * u * m → one_mantissa ≤ m → m ≤ 10 * one_mantissa →
   x ^ u ≤ 10 ^ (k * u + rounded_up (turns turn_high i (record { mantissa = m; digits = 0 }))) * u ^ u
 high-law k x m i u e start least most =
   let t = turns turn_high i (record { mantissa = m; digits = 0 }) in

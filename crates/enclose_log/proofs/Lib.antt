@@ -3,3 +3,4 @@ pub mod Law
 pub mod Powers
 pub mod Quotients
 pub mod Turns
+pub mod Value

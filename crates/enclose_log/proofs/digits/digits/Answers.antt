@@ -19,10 +19,6 @@ pub next_low-down-requires-clause-digits : goal.next_low-down-requires-clause-di
 next_low-down-requires-clause-digits c =
   rw c.loop-turn.invariant.down (within_32 _ c.loop-turn._turn (omega arith) (turns_low-in_range c.args.low c.loop-turn._turn c.requires.low_least c.requires.low_below).digits)
 
-pub returns-clause-low : goal.returns-clause-low
-unfolding digits_low
-returns-clause-low c = c.loop-turn.invariant.down ∙ ap (λ i. turns turn_low i (record { mantissa = c.args.low; digits = 0 })) (omega arith)
-
 pub next_high-up-requires-clause-mantissa : goal.next_high-up-requires-clause-mantissa
 next_high-up-requires-clause-mantissa c =
   rw c.loop-turn.invariant.up (turns_high-in_range c.args.high c.loop-turn._turn c.requires.high_least c.requires.high_most).most
@@ -31,6 +27,9 @@ pub next_high-up-requires-clause-digits : goal.next_high-up-requires-clause-digi
 next_high-up-requires-clause-digits c =
   rw c.loop-turn.invariant.up (within_32 _ c.loop-turn._turn (omega arith) (turns_high-in_range c.args.high c.loop-turn._turn c.requires.high_least c.requires.high_most).digits)
 
-pub returns-clause-high : goal.returns-clause-high
-unfolding digits_high
-returns-clause-high c = c.loop-turn.invariant.up ∙ ap (λ i. turns turn_high i (record { mantissa = c.args.high; digits = 0 })) (omega arith)
+pub returns-clause-low : goal.returns-clause-low
+unfolding digits_low
+returns-clause-low c = ?
+
+pub rounded_up-requires : goal.rounded_up-requires
+rounded_up-requires c = ?
