@@ -1,3 +1,11 @@
+pub mod Encloses
+pub mod ExpNeg
 pub mod Interval
 pub mod Lg
+pub mod Powers
+pub mod Round
+pub mod Rules
+pub mod Ten
+pub mod Tree
 pub mod Units
+pub mod Values

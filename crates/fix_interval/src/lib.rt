@@ -2,5 +2,9 @@
 #![tactic(auto)]
 
 mod iv;
+mod truth;
+mod values;
 
 pub use iv::{Iv, OPEN_HI, OPEN_LO};
+pub use truth::Truth;
+pub use values::{add, hull, less, max, min, neg, pick, sub};
