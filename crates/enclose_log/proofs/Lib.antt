@@ -1,5 +1,6 @@
 pub mod DecadeLemmas
 pub mod Law
+pub mod LgInterval
 pub mod Powers
 pub mod Quotients
 pub mod Turns

@@ -1,7 +1,7 @@
 //! The logarithm of an interval.
 
-ghost use Rattle.std.specs.Prelude.{◌≡◌, ◌<◌, ◌≤◌, ◌*◌, ◌^◌, ◌≤ℤ◌, IsTrue, IsSomeAnd, IfSome, pos, neg_ℤ, Some};
-ghost use Rattle.fix_interval.specs.Lg.{lg_of, is_at_least, decade_and_digits};
+ghost use Rattle.std.specs.Prelude.{◌≡◌, ◌<◌, ◌≤◌, ◌*◌, ◌^◌, ◌≤ℤ◌, IsSomeAnd, IfSome, pos, neg_ℤ, Some};
+ghost use Rattle.fix_interval.specs.Lg.{lg_of, decade_and_digits};
 
 use crate::digits::digits;
 use crate::start::Start;
@@ -13,13 +13,13 @@ use fix_interval::Iv;
 ///
 /// Bounded ends are from -10 to 29, and from 1 on no logarithm is negative.
 pub fn lg(a: Iv) -> Iv
-    requires { IsTrue (is_at_least (pos 1) a.lo) }
+    requires { IsSomeAnd a.lo (λ x. pos 1 ≤ℤ x) }
     ensures value { result ≡ lg_of a }
     ensures low { IsSomeAnd result.lo
         (λ z. (neg_ℤ (pos (10 * 2 ^ 32)) ≤ℤ z) × (z ≤ℤ pos (29 * 2 ^ 32))) }
     ensures high { IfSome result.hi
         (λ z. (neg_ℤ (pos (10 * 2 ^ 32)) ≤ℤ z) × (z ≤ℤ pos (29 * 2 ^ 32))) }
-    ensures from_one { IsTrue (is_at_least (pos (2 ^ 32)) a.lo)
+    ensures from_one { IsSomeAnd a.lo (λ x. pos (2 ^ 32) ≤ℤ x)
         → IsSomeAnd result.lo (λ z. pos 0 ≤ℤ z) }
 {
     let Some(low) = a.low() else {
