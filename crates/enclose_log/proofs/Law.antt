@@ -99,6 +99,9 @@ rounded_up-cases t =
     inl same ↦ (let e : (t.mantissa == one_mantissa) ≡ true = search (rules, tests, same) in inl (same, rw e (omega arith)))
   | inr other ↦ (let e : (t.mantissa == one_mantissa) ≡ false = search (rules, tests, other) in inr (rw e refl)) ]
 
+pub rounded_up-le : (t : LgTurn) → rounded_up t ≤ t.digits + 1
+rounded_up-le t = elim (rounded_up-cases t) [ inl c ↦ rw c.1 (omega arith) | inr c ↦ rw c (omega arith) ]
+
 -- The whole law, of a number x whose decade is k and of the 10^k u that it is measured by
 pub low-law : (k x m i u : ℕ) → u ≡ 2 ^ i → 10 ^ k * u * m ≤ x * one_mantissa → one_mantissa ≤ m → m < 10 * one_mantissa →
   10 ^ (k * u + (turns turn_low i (record { mantissa = m; digits = 0 })).digits) * u ^ u ≤ x ^ u

@@ -1,6 +1,8 @@
 -- The logarithm of a whole interval, from those of its ends.
 use Rattle.std.proofs.Common.{◌≡◌, ℕ, zero, suc, ◌+◌, ◌-◌, ◌*◌, ◌^◌, ◌<◌, ◌≤◌, Bool, true, false, refl, sym, ap, ◌∙◌, arith, rules, tests, ℤ, pos, negsuc, ◌-ℤ◌, ◌≤ℤ◌, neg_ℤ, unsigned_abs, Option, Some, None, IsSomeAnd, IfSome}
-use Rattle.std.proofs.lemmas.Int.{ints}
+use Rattle.std.proofs.lemmas.Int.{ints, to_z-of_z}
+use mir.Syntax.{w128}
+use mir.Val.{SFits, to_z, of_z}
 use Rattle.std.specs.Option.{option_map}
 use Rattle.std.specs.Prelude.{int_le}
 use Rattle.fix_interval.specs.Interval.{Interval, All, IsInterval, IsEnd, IsOrdered}
@@ -108,13 +110,15 @@ pub lg_of-from_one : (i : Interval) → IsInterval i → IsPositive i.lo → IsS
 lg_of-from_one i whole positive from = rw (lg_of-ends i.lo i.hi positive) (ends-from_one i.lo i.hi whole from)
 
 -- the calculated ends
-pub low_end-is : (n k m f : ℕ) (end : Option ℤ) → k ≡ decade_of n → m ≡ mantissa_low n → f ≡ (digits_low m).digits → end ≡ Some (decade_and_digits k f) → end ≡ Some (lg_low n)
+pub low_end-is : (z : ℤ) (k m f : ℕ) (end : Option ℤ) → SFits w128 z → k ≡ decade_of (unsigned_abs (to_z w128 (of_z w128 z))) → m ≡ mantissa_low (unsigned_abs (to_z w128 (of_z w128 z))) → f ≡ (digits_low m).digits → end ≡ Some (decade_and_digits k f) → end ≡ Some (lg_low (unsigned_abs z))
 unfolding lg_low
-low_end-is n k m f end decade mantissa digits made = rw (made, digits, decade, mantissa) refl
+low_end-is z k m f end fits decade mantissa digits made =
+  rw (made, digits, simp to_z-of_z at decade, simp to_z-of_z at mantissa) refl
 
-pub high_end-is : (n k m f : ℕ) (end : Option ℤ) → k ≡ decade_of n → m ≡ mantissa_high n → f ≡ rounded_up (digits_high m) → end ≡ Some (decade_and_digits k f) → end ≡ Some (lg_high n)
+pub high_end-is : (z : ℤ) (k m f : ℕ) (end : Option ℤ) → SFits w128 z → k ≡ decade_of (unsigned_abs (to_z w128 (of_z w128 z))) → m ≡ mantissa_high (unsigned_abs (to_z w128 (of_z w128 z))) → f ≡ rounded_up (digits_high m) → end ≡ Some (decade_and_digits k f) → end ≡ Some (lg_high (unsigned_abs z))
 unfolding lg_high
-high_end-is n k m f end decade mantissa digits made = rw (made, digits, decade, mantissa) refl
+high_end-is z k m f end fits decade mantissa digits made =
+  rw (made, digits, simp to_z-of_z at decade, simp to_z-of_z at mantissa) refl
 
 pub made-bounded : (i : Interval) (l h : ℤ) (low high : Option ℤ) → Some l ≡ i.lo → Some h ≡ i.hi → IsPositive i.lo → low ≡ Some (lg_low (unsigned_abs l)) → high ≡ Some (lg_high (unsigned_abs h)) → record { lo = low; hi = high } ≡ lg_of i
 made-bounded i l h low high from to positive below above =
