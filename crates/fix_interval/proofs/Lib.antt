@@ -1,2 +1,4 @@
 pub mod Intervals
 pub mod Order
+pub mod Ratios
+pub mod Rounding

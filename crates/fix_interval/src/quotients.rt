@@ -1,6 +1,7 @@
 //! Constants and quotients of intervals.
 
 ghost use Rattle.std.specs.Prelude.{◌≡◌, ◌<◌, ◌^◌, ◌/◌, ℤ, pos, neg_ℤ, ◌*ℤ◌, ◌<ℤ◌, ◌≤ℤ◌, unsigned_abs};
+ghost use Rattle.std.specs.Int.{div_ceil};
 ghost use Rattle.fix_interval.specs.Units.{unit};
 ghost use Rattle.fix_interval.specs.Round.{floor_of, ceil_of};
 ghost use Rattle.fix_interval.specs.Values.{ratio_of, quotient_of_ends, div_of};
@@ -83,13 +84,25 @@ fn rounded(n: i128, d: u128) -> (i128, i128)
     ensures floor { result.0 ≡ floor_of n d }
     ensures ceil { result.1 ≡ ceil_of n d }
 {
-    let size = n.unsigned_abs();
-    let inner = quotient(size, d);
-    let outer = if inner * d == size { inner } else { inner + 1 };
+    let (inner, outer) = natural_quotients(n.unsigned_abs(), d);
     if 0 <= n {
         (inner as i128, outer as i128)
     } else {
         (-(outer as i128), -(inner as i128))
+    }
+}
+
+/// The quotient of two numbers without sign rounded down, and rounded up, by one division.
+fn natural_quotients(n: u128, d: u128) -> (u128, u128)
+    requires { 0 < d }
+    ensures down { result.0 ≡ n / d }
+    ensures up { result.1 ≡ div_ceil n d }
+{
+    let inner = quotient(n, d);
+    if inner * d == n {
+        (inner, inner)
+    } else {
+        (inner, inner + 1)
     }
 }
 
