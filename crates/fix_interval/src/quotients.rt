@@ -1,9 +1,9 @@
 //! Constants and quotients of intervals.
 
 ghost use Rattle.std.specs.Prelude.{◌≡◌, ◌<◌, ◌^◌, ◌/◌, ℤ, pos, neg_ℤ, ◌*ℤ◌, ◌<ℤ◌, ◌≤ℤ◌, unsigned_abs};
-ghost use Rattle.std.specs.Int.{div_ceil};
+ghost use Rattle.std.specs.Int.{div_ceil, int_min, int_max};
 ghost use Rattle.fix_interval.specs.Units.{unit};
-ghost use Rattle.fix_interval.specs.Round.{floor_of, ceil_of};
+ghost use Rattle.fix_interval.specs.Round.{floor_of, ceil_of, floor_quotient, ceil_quotient};
 ghost use Rattle.fix_interval.specs.Values.{ratio_of, quotient_of_ends, div_of};
 
 use crate::iv::Iv;
@@ -29,8 +29,7 @@ pub fn ratio(p: i128, q: i128) -> Iv
     ensures { result ≡ ratio_of p (unsigned_abs q) }
 {
     if p.unsigned_abs() < DIVIDEND_LIMIT {
-        let (low, high) = rounded(p * UNIT, q.unsigned_abs());
-        Iv::of_ends(Some(low), Some(high))
+        fraction(p, q.unsigned_abs())
     } else {
         Iv::ALL
     }
@@ -62,19 +61,50 @@ fn quotient_of_spans(a: Span, b: Span) -> Iv
     }
 }
 
-/// The quotient by a positive divisor: its low end is that of the low dividend by the divisor that makes it
-/// less, and its high end that of the high dividend by the divisor that makes it greater.
+/// The quotient by a positive divisor.
 fn quotient_by_positive(a: Span, b: Span) -> Iv
     requires positive { pos 0 <ℤ b.lo }
     requires low_dividend { unsigned_abs a.lo < 2 ^ 94 }
     requires high_dividend { unsigned_abs a.hi < 2 ^ 94 }
     ensures { result ≡ quotient_of_ends a.lo a.hi b.lo b.hi }
 {
-    let nearest = b.lo.unsigned_abs();
-    let farthest = b.hi.unsigned_abs();
-    let low = rounded(a.lo * UNIT, if 0 <= a.lo { farthest } else { nearest });
-    let high = rounded(a.hi * UNIT, if 0 <= a.hi { nearest } else { farthest });
-    Iv::of_ends(Some(low.0), Some(high.1))
+    Iv::of_ends(least_quotient(a.lo, b), greatest_quotient(a.hi, b))
+}
+
+/// The lesser quotient of `x` by the ends of a positive divisor: by the greater end where it isn't negative.
+fn least_quotient(x: i128, by: Span) -> Option<i128>
+    requires positive { pos 0 <ℤ by.lo }
+    requires small { unsigned_abs x < 2 ^ 94 }
+    ensures { result ≡ Some (int_min (floor_quotient (x *ℤ pos unit) by.lo) (floor_quotient (x *ℤ pos unit) by.hi)) }
+{
+    if 0 <= x {
+        fraction(x, by.hi.unsigned_abs()).low()
+    } else {
+        fraction(x, by.lo.unsigned_abs()).low()
+    }
+}
+
+/// The greater quotient of `x` by the ends of a positive divisor: by the lesser end where it isn't negative.
+fn greatest_quotient(x: i128, by: Span) -> Option<i128>
+    requires positive { pos 0 <ℤ by.lo }
+    requires small { unsigned_abs x < 2 ^ 94 }
+    ensures { result ≡ Some (int_max (ceil_quotient (x *ℤ pos unit) by.lo) (ceil_quotient (x *ℤ pos unit) by.hi)) }
+{
+    if 0 <= x {
+        fraction(x, by.lo.unsigned_abs()).high()
+    } else {
+        fraction(x, by.hi.unsigned_abs()).high()
+    }
+}
+
+/// The least interval that holds a fraction with a positive divisor.
+fn fraction(x: i128, d: u128) -> Iv
+    requires small { unsigned_abs x < 2 ^ 94 }
+    requires divisor { 0 < d }
+    ensures { result ≡ ratio_of x d }
+{
+    let (low, high) = rounded(x * UNIT, d);
+    Iv::of_ends(Some(low), Some(high))
 }
 
 /// The quotient rounded down, and rounded up.
