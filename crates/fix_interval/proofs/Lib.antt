@@ -1,3 +1,4 @@
+pub mod Dividing
 pub mod Intervals
 pub mod Order
 pub mod Ratios
