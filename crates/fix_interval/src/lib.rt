@@ -2,9 +2,16 @@
 #![tactic(auto)]
 
 mod iv;
+mod products;
+mod quotients;
+mod roots;
+mod span;
 mod truth;
 mod values;
 
 pub use iv::{Iv, OPEN_HI, OPEN_LO};
+pub use products::mul;
+pub use quotients::{div, exact, ratio};
+pub use roots::root;
 pub use truth::Truth;
 pub use values::{add, hull, less, max, min, neg, pick, sub};

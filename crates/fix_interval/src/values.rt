@@ -80,7 +80,7 @@ pub fn pick(t: Truth, yes: Iv, no: Iv) -> Iv
 }
 
 /// This number of units as an end: unbounded where its absolute value reaches 2^126.
-fn end(units: i128) -> Option<i128>
+pub(crate) fn end(units: i128) -> Option<i128>
     ensures { result ≡ end_of units }
 {
     if units.unsigned_abs() < END_LIMIT { Some(units) } else { None }

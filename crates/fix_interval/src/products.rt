@@ -1,0 +1,80 @@
+//! Products of intervals.
+
+ghost use Rattle.std.specs.Prelude.{◌≡◌, ◌<◌, ◌^◌, ℤ, pos, ◌*ℤ◌, ◌≤ℤ◌, unsigned_abs};
+ghost use Rattle.fix_interval.specs.Interval.{IsEnd, IsOrdered};
+ghost use Rattle.fix_interval.specs.Units.{unit};
+ghost use Rattle.fix_interval.specs.Round.{floor_of, ceil_of};
+ghost use Rattle.fix_interval.specs.Values.{end_of, product_of_ends, rounded_outward, mul_of};
+
+use crate::iv::Iv;
+use crate::span::{Span, bounded};
+use crate::values::end;
+
+/// The product of two quantities: from the least of the four products of ends to the greatest, rounded
+/// outward. Nothing is known where an end is unbounded or such a product reaches 2^126.
+pub fn mul(a: Iv, b: Iv) -> Iv
+    ensures { result ≡ mul_of a b }
+{
+    match (bounded(a), bounded(b)) {
+        (Some(a), Some(b)) => product_of_spans(a, b),
+        _ => Iv::ALL,
+    }
+}
+
+fn product_of_spans(a: Span, b: Span) -> Iv
+    ensures { result ≡ product_of_ends a.lo a.hi b.lo b.hi }
+{
+    if 0 <= a.lo {
+        multiple_of_span(a, b)
+    } else if 0 <= b.lo {
+        multiple_of_span(b, a)
+    } else {
+        product_of_mixed(a, b)
+    }
+}
+
+/// The product where the first factor isn't negative, so that two products of ends are enough.
+fn multiple_of_span(a: Span, b: Span) -> Iv
+    requires { pos 0 ≤ℤ a.lo }
+    ensures { result ≡ product_of_ends a.lo a.hi b.lo b.hi }
+{
+    let least = product(if 0 <= b.lo { a.lo } else { a.hi }, b.lo);
+    let greatest = product(if 0 <= b.hi { a.hi } else { a.lo }, b.hi);
+    from_products(least, greatest)
+}
+
+/// The product by all four products of ends.
+fn product_of_mixed(a: Span, b: Span) -> Iv
+    ensures { result ≡ product_of_ends a.lo a.hi b.lo b.hi }
+{
+    let (Some(p), Some(q)) = (product(a.lo, b.lo), product(a.lo, b.hi)) else {
+        return Iv::ALL;
+    };
+    let (Some(r), Some(s)) = (product(a.hi, b.lo), product(a.hi, b.hi)) else {
+        return Iv::ALL;
+    };
+    from_products(Some(p.min(q).min(r.min(s))), Some(p.max(q).max(r.max(s))))
+}
+
+/// The product of two ends in units of 2^-64, or `None` where it reaches 2^126.
+fn product(x: i128, y: i128) -> Option<i128>
+    ensures { result ≡ end_of (x *ℤ y) }
+{
+    match (i64::try_from(x), i64::try_from(y)) {
+        (Ok(x), Ok(y)) => end(x as i128 * y as i128),
+        _ => end(x.checked_mul(y)?),
+    }
+}
+
+/// The interval from the least to the greatest product, rounded outward to units of 2^-32.
+fn from_products(least: Option<i128>, greatest: Option<i128>) -> Iv
+    requires low_end { IsEnd least }
+    requires high_end { IsEnd greatest }
+    requires ordered { IsOrdered least greatest }
+    ensures { result ≡ rounded_outward least greatest }
+{
+    match (least, greatest) {
+        (Some(least), Some(greatest)) => Iv::of_ends(Some(least >> 32), Some(-(-greatest >> 32))),
+        _ => Iv::ALL,
+    }
+}
