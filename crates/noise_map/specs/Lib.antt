@@ -6,3 +6,4 @@ pub mod Level
 pub mod Run
 pub mod Outcome
 pub mod Taking
+pub mod Progress

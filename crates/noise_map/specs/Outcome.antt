@@ -2,14 +2,11 @@
 use Rattle.std.specs.Prelude.{◌≡◌, ℕ, ◌+◌, ◌≤◌, Bool, true, false, List, [], ◌∷◌, ◌++◌, length, take, Option, IfSome}
 use Rattle.std.specs.Io.KnownBytes.{Consumes, Appends, IsAtEnd}
 use Rattle.map_io.specs.Lines.{lines, whole_lines, all_but_last}
+use Rattle.map_io.specs.Reading.{input_limit}
 use Rattle.noise_map.specs.declared.status.Status.{Status}
 use Rattle.noise_map.specs.declared.status.Status.TheVariants.{Done, SomeRefused, Usage, ReadFault, WriteFault, NoMemory, InputLimit}
 use Rattle.noise_map.specs.Sheet.{Sheet, empty_sheet}
 use Rattle.noise_map.specs.Run as run
-
--- how many bytes of an input are read
-abbrev pub input_limit : ℕ
-input_limit = 67108864
 
 -- what these lines do, from an empty scene on
 abbrev pub run_of : List (List ℕ) → run.Done

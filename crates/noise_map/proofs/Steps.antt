@@ -1,0 +1,282 @@
+-- A run goes on line by line, and ends.
+use Rattle.std.proofs.Common.{◌≡◌, ℕ, ◌+◌, ◌<◌, ◌≤◌, Bool, true, false, ◌||◌, cond, List, [], ◌∷◌, ◌++◌, length, take, Option, refl, sym, ap, ◌∙◌, subst, append_assoc, add-one, add-zero, zero-add, append-nil, arith, rules}
+use Rattle.std.proofs.Math.Bool.{or-false, or_assoc}
+use Rattle.std.proofs.lemmas.List.{length-append}
+use Rattle.std.proofs.Math.Seq.{take-append_seam, take-length}
+use Rattle.std.proofs.lemmas.List.Elements.{All-nil, All-push}
+use Rattle.std.specs.Prelude.{Some, None, Result, Ok, Err, All, IfSome}
+use Rattle.std.specs.Io.KnownBytes.{Consumes, Appends, IsAtEnd, prepend_known}
+use Rattle.std.proofs.KnownBytes.{Appends-trans, Appends-nil, Consumes-trans, Consumes-nil, Consumes-whole, prepend_known-nil}
+use Rattle.map_io.specs.declared.reader.Stop.{Stop}
+use Rattle.map_io.specs.declared.reader.Stop.TheVariants.{Going, AtEnd, AfterFault, AtLimit}
+use Rattle.map_io.specs.Lines.{IsPlain, lines, whole_lines, ended, all_but_last}
+use Rattle.map_io.specs.LineLaws as laws
+use Rattle.map_io.specs.Reading.{Reading, fresh, ahead, Passes, PassesLine, NothingAhead, HandsOut, PassesOver, Ends, BreaksOff, ReachesLimit, input_limit}
+use Rattle.noise_map.specs.declared.step.Stopped.{Stopped}
+use Rattle.noise_map.specs.declared.step.Stopped.TheVariants as stops
+use Rattle.noise_map.specs.declared.status.Status.{Status}
+use Rattle.noise_map.specs.declared.status.Status.TheVariants as status
+use Rattle.noise_map.specs.Sheet.{Sheet, empty_sheet}
+use Rattle.noise_map.specs.Run.{Done, quiet, line_done, lines_done, followed}
+use Rattle.noise_map.specs.Taking.{TakesFront, Does}
+use Rattle.noise_map.specs.Outcome.{run_of, CoversAll, CoversRead, CoversLimit, CoversFront, TakesPartOf, Outcome}
+use Rattle.noise_map.specs.Progress.{status_at_end, status_of, HandedOut, Progress}
+
+abbrev done_with : Sheet → List ℕ → Bool → Done
+done_with sheet text refused = record { sheet = sheet; text = text; refused = refused }
+
+with_text : (sheet : Sheet) (s t : List ℕ) (refused : Bool) → s ≡ t → done_with sheet s refused ≡ done_with sheet t refused
+with_text sheet s t refused e = ap (λ u. done_with sheet u refused) e
+
+with_refused : (sheet : Sheet) (text : List ℕ) (a b : Bool) → a ≡ b → done_with sheet text a ≡ done_with sheet text b
+with_refused sheet text a b e = ap (λ c. done_with sheet text c) e
+
+-- nothing more, and nothing before
+followed-quiet : (first : Done) → followed first (quiet first.sheet) ≡ first
+followed-quiet first =
+    with_text first.sheet _ _ (first.refused || false) (append-nil first.text) ∙ with_refused first.sheet first.text _ _ (or-false first.refused)
+
+followed-assoc : (first second third : Done) → followed (followed first second) third ≡ followed first (followed second third)
+followed-assoc first second third =
+    with_text third.sheet _ _ ((first.refused || second.refused) || third.refused) (append_assoc first.text second.text third.text)
+        ∙ with_refused third.sheet (first.text ++ (second.text ++ third.text)) _ _ (or_assoc first.refused second.refused third.refused)
+
+-- one more line after others
+pub lines_done-push : (number : ℕ) (sheet : Sheet) (done : List (List ℕ)) (line : List ℕ) → lines_done number sheet (done ++ line ∷ []) ≡ followed (lines_done number sheet done) (line_done (number + length done) (lines_done number sheet done).sheet line)
+unfolding lines_done
+lines_done-push number sheet [] line =
+    followed-quiet (line_done number sheet line) ∙ ap (λ n. line_done n sheet line) (sym (add-zero number))
+lines_done-push number sheet (first ∷ more) line =
+    let one = line_done number sheet first in
+    let rest = lines_done (number + 1) one.sheet more in
+    ap (followed one) (lines_done-push (number + 1) one.sheet more line)
+        ∙ sym (followed-assoc one rest (line_done (number + 1 + length more) rest.sheet line))
+        ∙ ap (λ n. followed (followed one rest) (line_done n rest.sheet line)) (omega arith)
+
+pub run_of-push : (done : List (List ℕ)) (line : List ℕ) → run_of (done ++ line ∷ []) ≡ followed (run_of done) (line_done (length done + 1) (run_of done).sheet line)
+run_of-push done line = lines_done-push 1 empty_sheet done line ∙ ap (λ n. followed (run_of done) (line_done n (run_of done).sheet line)) (omega arith)
+
+pub all_but_last-push : (done : List (List ℕ)) (line : List ℕ) → all_but_last (done ++ line ∷ []) ≡ done
+all_but_last-push [] line = refl
+all_but_last-push (first ∷ []) line = refl
+all_but_last-push (first ∷ second ∷ more) line = ap (λ ls. first ∷ ls) (all_but_last-push (second ∷ more) line)
+
+begun : (left : Option (List ℕ)) → Consumes left (ahead fresh left) []
+begun None = tt
+begun (Some bytes) = refl
+
+none_plain : All IsPlain []
+none_plain = All-nil IsPlain
+
+-- a run that has just begun
+pub started : (left taken : Option (List ℕ)) → Progress fresh empty_sheet 0 false left left taken taken
+unfolding lines_done
+started left taken = record {
+  done = [];
+  plain = none_plain;
+  counted = refl;
+  few = omega arith;
+  sheet_is = refl;
+  refused_is = refl;
+  written = Appends-nil taken;
+  handed_out = (begun left, refl);
+}
+
+-- ---- what lies ahead
+
+nothing_ahead : (r : Reading) (after : Option (List ℕ)) → NothingAhead r after → IsAtEnd (ahead r after)
+nothing_ahead r None nothing = tt
+nothing_ahead r (Some bytes) nothing = ap (λ p. p ++ bytes) nothing.held ∙ nothing.left
+
+only_left : (r : Reading) (before after : Option (List ℕ)) (bytes : List ℕ) → r.pending ≡ [] → Consumes before (ahead r after) bytes → Consumes before after bytes
+only_left r before after bytes held consumed =
+    subst (λ o. Consumes before o bytes) (ap (λ p. prepend_known p after) held ∙ prepend_known-nil after) consumed
+
+-- these lines and this one make all lines
+all_lines : (done : List (List ℕ)) (line bytes : List ℕ) → All IsPlain done → IsPlain line → 0 < length line → bytes ≡ ended done ++ line → lines bytes ≡ done ++ line ∷ []
+all_lines done line bytes plain line_plain some is =
+    ap lines is ∙ laws.lines-ended done line plain ∙ ap (λ ls. done ++ ls) (laws.lines-last line line_plain some)
+
+-- ---- one more line
+
+pub more_handed_out : (stop : Stop) (r r' : Reading) (before now after : Option (List ℕ)) (done : List (List ℕ)) (line : List ℕ) → All IsPlain done → IsPlain line → HandedOut Going r before now done → r'.passed ≤ input_limit → PassesLine stop r r' now after line → HandedOut stop r' before after (done ++ line ∷ [])
+more_handed_out Going r r' before now after done line plain line_plain handed within passes =
+    let whole = laws.ended-push done line in
+    (subst (Consumes before (ahead r' after)) (sym whole) (Consumes-trans before (ahead r now) (ahead r' after) (ended done) (line ++ 10 ∷ []) handed.0 passes.taken),
+     passes.counted ∙ ap (λ n. n + length (line ++ 10 ∷ [])) handed.1 ∙ sym (length-append (ended done) (line ++ 10 ∷ [])) ∙ ap length (sym whole))
+more_handed_out AtEnd r r' before now after done line plain line_plain handed within passes =
+    let consumed = Consumes-trans before (ahead r now) (ahead r' after) (ended done) line handed.0 passes.1.taken in
+    let count : length (ended done ++ line) ≤ input_limit = omega (arith, length-append (ended done) line, handed.1, passes.1.counted) in
+    (Consumes-whole before (ahead r' after) (ended done ++ line) (λ bytes. (lines bytes ≡ done ++ line ∷ []) × (length bytes ≤ input_limit)) consumed (nothing_ahead r' after passes.2)
+        (all_lines done line (ended done ++ line) plain line_plain passes.0 refl, count),
+     passes.2)
+more_handed_out AfterFault r r' before now after done line plain line_plain handed within passes = passes
+more_handed_out AtLimit r r' before now after done line plain line_plain handed within passes = passes
+
+-- a line passed has a byte at least
+passed_more : (stop : Stop) (r r' : Reading) (now after : Option (List ℕ)) (line : List ℕ) → PassesLine stop r r' now after line → r.passed + 1 ≤ r'.passed
+passed_more Going r r' now after line passes = omega (arith, length-append line (10 ∷ []), passes.counted)
+passed_more AtEnd r r' now after line passes = omega (arith, passes.0, passes.1.counted)
+passed_more AfterFault r r' now after line passes = absurd passes
+passed_more AtLimit r r' now after line passes = absurd passes
+
+run_of-next : (done : List (List ℕ)) (line : List ℕ) (count : ℕ) (sheet : Sheet) → length done ≡ count → (run_of done).sheet ≡ sheet → run_of (done ++ line ∷ []) ≡ followed (run_of done) (line_done (count + 1) sheet line)
+run_of-next done line count sheet counted is =
+    run_of-push done line ∙ ap (λ n. followed (run_of done) (line_done (n + 1) (run_of done).sheet line)) counted ∙ ap (λ s. followed (run_of done) (line_done (count + 1) s line)) is
+
+pub went_on : (r r' : Reading) (sheet sheet' : Sheet) (count : ℕ) (refused was : Bool) (left now after taken_before taken_now taken_after : Option (List ℕ)) (line : List ℕ)
+    → (p : Progress r sheet count refused left now taken_before taken_now) → HandedOut Going r left now p.done → IsPlain line → PassesLine r'.stop r r' now after line → r'.passed ≤ input_limit
+    → Does (Ok was) (line_done (count + 1) sheet line) sheet sheet' taken_now taken_after
+    → Progress r' sheet' (count + 1) (refused || was) left after taken_before taken_after
+went_on r r' sheet sheet' count refused was left now after taken_before taken_now taken_after line p handed line_plain passes within does =
+    let next = run_of-next p.done line count sheet p.counted p.sheet_is in
+    record {
+      done = p.done ++ line ∷ [];
+      plain = All-push IsPlain p.done line p.plain line_plain;
+      counted = length-append p.done (line ∷ []) ∙ ap (λ n. n + 1) p.counted;
+      few = omega (arith, p.few, passed_more r'.stop r r' now after line passes);
+      sheet_is = ap (λ (d : Done). d.sheet) next ∙ sym does.1;
+      refused_is = ap (λ (d : Done). d.refused) next ∙ ap (λ b. b || (line_done (count + 1) sheet line).refused) p.refused_is ∙ ap (λ b. refused || b) (sym does.0);
+      written = subst (Appends taken_before taken_after) (sym (ap (λ (d : Done). d.text) next)) (Appends-trans taken_before taken_now taken_after (run_of p.done).text (line_done (count + 1) sheet line).text p.written does.2);
+      handed_out = more_handed_out r'.stop r r' left now after p.done line p.plain line_plain handed within passes;
+    }
+
+-- ---- how a run ends
+
+abbrev AllDone : List (List ℕ) → List ℕ → Type 0
+AllDone done bytes = (lines bytes ≡ done) × (length bytes ≤ input_limit)
+
+-- all lines are done, and the status tells whether one was refused
+at_end : (refused : Bool) (count : ℕ) (left after taken_before taken_after : Option (List ℕ)) (done : List (List ℕ))
+    → length done ≡ count → CoversAll left after done → (run_of done).refused ≡ refused → Appends taken_before taken_after (run_of done).text
+    → Outcome (status_at_end refused) count left after taken_before taken_after
+at_end true count left after taken_before taken_after done counted covers told written =
+    record { done = done; counted = counted; covers = covers; refused = told; writes = written }
+at_end false count left after taken_before taken_after done counted covers told written =
+    record { done = done; counted = counted; covers = covers; refused = told; writes = written }
+
+pub ended_now : (r r' : Reading) (sheet : Sheet) (count : ℕ) (refused : Bool) (left now after taken_before taken_now : Option (List ℕ))
+    → (p : Progress r sheet count refused left now taken_before taken_now) → HandedOut Going r left now p.done → Ends r r' now after → r'.passed ≤ input_limit
+    → Outcome (status_at_end refused) count left after taken_before taken_now
+ended_now r r' sheet count refused left now after taken_before taken_now p handed ends within =
+    let all : lines (ended p.done ++ []) ≡ p.done = laws.lines-ended p.done [] p.plain ∙ ap (λ ls. p.done ++ ls) laws.lines-empty ∙ append-nil p.done in
+    let few : length (ended p.done ++ []) ≤ input_limit = omega (arith, length-append (ended p.done) [], handed.1, ends.passes.counted) in
+    let consumed = Consumes-trans left (ahead r now) (ahead r' after) (ended p.done) [] handed.0 ends.passes.taken in
+    at_end refused count left after taken_before taken_now p.done p.counted
+        (record { ended = ends.nothing.left; all = Consumes-whole left (ahead r' after) (ended p.done ++ []) (AllDone p.done) consumed (nothing_ahead r' after ends.nothing) (all, few) })
+        p.refused_is p.written
+
+pub ended_before : (r : Reading) (sheet : Sheet) (count : ℕ) (refused : Bool) (left now taken_before taken_now : Option (List ℕ))
+    → (p : Progress r sheet count refused left now taken_before taken_now) → HandedOut AtEnd r left now p.done
+    → Outcome (status_at_end refused) count left now taken_before taken_now
+ended_before r sheet count refused left now taken_before taken_now p handed =
+    at_end refused count left now taken_before taken_now p.done p.counted (record { ended = handed.1.left; all = handed.0 }) p.refused_is p.written
+
+-- the whole lines of what was read
+whole : (done : List (List ℕ)) (rest : List ℕ) → All IsPlain done → IsPlain rest → whole_lines (ended done ++ rest) ≡ done
+whole done rest plain rest_plain = laws.whole_lines-ended done rest plain ∙ ap (λ ls. done ++ ls) (laws.whole_lines-plain rest rest_plain) ∙ append-nil done
+
+pub failed_to_read : (r r' : Reading) (sheet : Sheet) (count : ℕ) (refused : Bool) (left now after taken_before taken_now : Option (List ℕ))
+    → (p : Progress r sheet count refused left now taken_before taken_now) → HandedOut Going r left now p.done → BreaksOff r r' now after → r'.passed ≤ input_limit
+    → Outcome status.ReadFault count left after taken_before taken_now
+failed_to_read r r' sheet count refused left now after taken_before taken_now p handed breaks within = record {
+  done = p.done;
+  counted = p.counted;
+  covers = record {
+    read = ended p.done ++ breaks.rest;
+    consumed = only_left r' left after _ breaks.held (Consumes-trans left (ahead r now) (ahead r' after) (ended p.done) breaks.rest handed.0 breaks.passes.taken);
+    within = omega (arith, length-append (ended p.done) breaks.rest, handed.1, breaks.passes.counted);
+    all = whole p.done breaks.rest p.plain breaks.plain;
+  };
+  refused = tt;
+  writes = p.written;
+}
+
+pub reached_limit : (r r' : Reading) (sheet : Sheet) (count : ℕ) (refused : Bool) (left now after taken_before taken_now : Option (List ℕ))
+    → (p : Progress r sheet count refused left now taken_before taken_now) → HandedOut Going r left now p.done → ReachesLimit r r' now after
+    → Outcome status.InputLimit count left after taken_before taken_now
+reached_limit r r' sheet count refused left now after taken_before taken_now p handed reaches = record {
+  done = p.done;
+  counted = p.counted;
+  covers = record {
+    read = ended p.done ++ reaches.rest;
+    more = reaches.more;
+    consumed =
+        only_left r' left after _ reaches.held
+            (subst (Consumes left (ahead r' after)) (sym (append_assoc (ended p.done) reaches.rest (reaches.more ∷ [])))
+                (Consumes-trans left (ahead r now) (ahead r' after) (ended p.done) (reaches.rest ++ reaches.more ∷ []) handed.0 reaches.taken));
+    full = length-append (ended p.done) reaches.rest ∙ ap (λ n. n + length reaches.rest) (sym handed.1) ∙ sym reaches.counted ∙ reaches.full;
+    all = whole p.done reaches.rest p.plain reaches.plain;
+  };
+  refused = tt;
+  writes = p.written;
+}
+
+-- ---- how a run is broken off
+
+-- these lines are the first of the input
+first_lines : (stop : Stop) (r : Reading) (before after : Option (List ℕ)) (done : List (List ℕ)) → All IsPlain done → HandedOut stop r before after done → CoversFront before done
+first_lines Going r None after done plain handed = tt
+first_lines Going r (Some bytes) None done plain handed = absurd handed.0
+first_lines Going r (Some bytes) (Some rest) done plain handed =
+    ap (take (length done)) (ap lines handed.0 ∙ laws.lines-ended done (r.pending ++ rest) plain) ∙ take-append_seam done (lines (r.pending ++ rest))
+first_lines AtEnd r None after done plain handed = tt
+first_lines AtEnd r (Some bytes) after done plain handed = ap (take (length done)) handed.0.0 ∙ take-length done
+first_lines AfterFault r before after done plain handed = absurd handed
+first_lines AtLimit r before after done plain handed = absurd handed
+
+broken_front : (r r' : Reading) (sheet : Sheet) (count : ℕ) (refused : Bool) (left now after taken_before taken_now : Option (List ℕ)) (line : List ℕ)
+    → (p : Progress r sheet count refused left now taken_before taken_now) → HandedOut Going r left now p.done → IsPlain line → PassesLine r'.stop r r' now after line → r'.passed ≤ input_limit
+    → CoversFront left (p.done ++ line ∷ [])
+broken_front r r' sheet count refused left now after taken_before taken_now line p handed line_plain passes within =
+    first_lines r'.stop r' left after (p.done ++ line ∷ []) (All-push IsPlain p.done line p.plain line_plain)
+        (more_handed_out r'.stop r r' left now after p.done line p.plain line_plain handed within passes)
+
+broken_text : (r : Reading) (sheet : Sheet) (count : ℕ) (refused : Bool) (left now taken_before taken_now taken_after : Option (List ℕ)) (line : List ℕ)
+    → (p : Progress r sheet count refused left now taken_before taken_now) → TakesFront taken_now taken_after (line_done (count + 1) sheet line).text
+    → TakesPartOf taken_before taken_after (p.done ++ line ∷ [])
+broken_text r sheet count refused left now taken_before taken_now taken_after line p takes =
+    let next = run_of-next p.done line count sheet p.counted p.sheet_is in
+    let before = (run_of p.done).text in
+    record {
+      part = before ++ takes.front;
+      rest = takes.rest;
+      front = ap (λ (d : Done). d.text) next ∙ ap (λ t. before ++ t) takes.parts ∙ sym (append_assoc before takes.front takes.rest);
+      last = takes.front;
+      others = ap (λ ls. (run_of ls).text ++ takes.front) (sym (all_but_last-push p.done line));
+      taken = Appends-trans taken_before taken_now taken_after before takes.front p.written takes.taken;
+    }
+
+pub broken_off : (stopped : Stopped) (r r' : Reading) (sheet sheet' : Sheet) (count : ℕ) (refused : Bool) (left now after taken_before taken_now taken_after : Option (List ℕ)) (line : List ℕ)
+    → (p : Progress r sheet count refused left now taken_before taken_now) → HandedOut Going r left now p.done → IsPlain line → PassesLine r'.stop r r' now after line → r'.passed ≤ input_limit
+    → Does (Err stopped) (line_done (count + 1) sheet line) sheet sheet' taken_now taken_after
+    → Outcome (status_of stopped) (count + 1) left after taken_before taken_after
+broken_off stops.WriteFault r r' sheet sheet' count refused left now after taken_before taken_now taken_after line p handed line_plain passes within does = record {
+  done = p.done ++ line ∷ [];
+  counted = length-append p.done (line ∷ []) ∙ ap (λ n. n + 1) p.counted;
+  covers = broken_front r r' sheet count refused left now after taken_before taken_now line p handed line_plain passes within;
+  refused = tt;
+  writes = broken_text r sheet count refused left now taken_before taken_now taken_after line p does.1;
+}
+broken_off stops.NoMemory r r' sheet sheet' count refused left now after taken_before taken_now taken_after line p handed line_plain passes within does = record {
+  done = p.done ++ line ∷ [];
+  counted = length-append p.done (line ∷ []) ∙ ap (λ n. n + 1) p.counted;
+  covers = broken_front r r' sheet count refused left now after taken_before taken_now line p handed line_plain passes within;
+  refused = tt;
+  writes = broken_text r sheet count refused left now taken_before taken_now taken_after line p does.1;
+}
+
+-- a run that had no memory for its reader
+nothing_covered : (left : Option (List ℕ)) → CoversFront left []
+nothing_covered None = tt
+nothing_covered (Some bytes) = refl
+
+pub never_begun : (left taken : Option (List ℕ)) → Outcome status.NoMemory 0 left left taken taken
+unfolding lines_done
+never_begun left taken = record {
+  done = [];
+  counted = refl;
+  covers = nothing_covered left;
+  refused = tt;
+  writes = record { part = []; rest = []; front = refl; last = []; others = refl; taken = Appends-nil taken };
+}

@@ -1,0 +1,50 @@
+-- How far a run has come.
+use Rattle.std.specs.Prelude.{◌≡◌, ℕ, ◌≤◌, Bool, true, false, List, length, Option, Some, None, if◌then◌else◌, All, IfSome}
+use Rattle.std.specs.Io.KnownBytes.{Consumes, Appends}
+use Rattle.map_io.specs.declared.reader.Stop.{Stop}
+use Rattle.map_io.specs.declared.reader.Stop.TheVariants.{Going, AtEnd, AfterFault, AtLimit}
+use Rattle.map_io.specs.declared.reader.Next.{Next}
+use Rattle.map_io.specs.declared.reader.Next.TheVariants as next
+use Rattle.map_io.specs.Lines.{IsPlain, lines, ended}
+use Rattle.map_io.specs.Reading.{Reading, NothingAhead, ahead, input_limit}
+use Rattle.noise_map.specs.declared.status.Status.{Status}
+use Rattle.noise_map.specs.declared.status.Status.TheVariants as status
+use Rattle.noise_map.specs.declared.step.Stopped.{Stopped}
+use Rattle.noise_map.specs.declared.step.Stopped.TheVariants as stops
+use Rattle.noise_map.specs.Sheet.{Sheet}
+use Rattle.noise_map.specs.Outcome.{run_of}
+
+-- the status of a run whose input has ended
+abbrev pub status_at_end : Bool → Status
+status_at_end refused = if refused then status.SomeRefused else status.Done
+
+-- the status with which an answer of the reader ends a run, if it is no line
+abbrev pub ending_of : Next → Bool → Option Status
+ending_of (next.Line n) refused = None
+ending_of next.LongLine refused = None
+ending_of next.End refused = Some (status_at_end refused)
+ending_of next.ReadFault refused = Some status.ReadFault
+ending_of next.InputLimit refused = Some status.InputLimit
+
+-- these lines were handed out: each with its line feed, or all there are, the last of them with none
+abbrev pub HandedOut : Stop → Reading → Option (List ℕ) → Option (List ℕ) → List (List ℕ) → Type 0
+HandedOut Going reader before now done = Consumes before (ahead reader now) (ended done) × (reader.passed ≡ length (ended done))
+HandedOut AtEnd reader before now done = IfSome before (λ bytes. (lines bytes ≡ done) × (length bytes ≤ input_limit)) × NothingAhead reader now
+HandedOut AfterFault reader before now done = ⊥
+HandedOut AtLimit reader before now done = ⊥
+
+-- These lines were done, and the run may go on.
+pub record Progress (reader : Reading) (sheet : Sheet) (count : ℕ) (refused : Bool) (left_before left_now taken_before taken_now : Option (List ℕ)) : Type 0 where
+  pub done : List (List ℕ)
+  pub plain : All IsPlain done
+  pub counted : length done ≡ count
+  pub few : count ≤ reader.passed
+  pub sheet_is : (run_of done).sheet ≡ sheet
+  pub refused_is : (run_of done).refused ≡ refused
+  pub written : Appends taken_before taken_now (run_of done).text
+  pub handed_out : HandedOut reader.stop reader left_before left_now done
+
+-- the status of a run whose line could not be done to its end
+abbrev pub status_of : Stopped → Status
+status_of stops.WriteFault = status.WriteFault
+status_of stops.NoMemory = status.NoMemory
