@@ -1,5 +1,5 @@
 -- A run goes on line by line, and ends.
-use Rattle.std.proofs.Common.{◌≡◌, ℕ, ◌+◌, ◌<◌, ◌≤◌, Bool, true, false, ◌||◌, cond, List, [], ◌∷◌, ◌++◌, length, take, Option, refl, sym, ap, ◌∙◌, subst, append_assoc, add-one, add-zero, zero-add, append-nil, arith, rules}
+use Rattle.std.proofs.Common.{◌≡◌, ◌≢◌, ℕ, ◌+◌, ◌-◌, ◌<◌, ◌≤◌, Bool, true, false, ◌||◌, cond, List, [], ◌∷◌, ◌++◌, length, take, Option, refl, sym, ap, ◌∙◌, subst, append_assoc, add-one, add-zero, zero-add, append-nil, lit≤, arith}
 use Rattle.std.proofs.Math.Bool.{or-false, or_assoc}
 use Rattle.std.proofs.lemmas.List.{length-append}
 use Rattle.std.proofs.Math.Seq.{take-append_seam, take-length}
@@ -9,9 +9,11 @@ use Rattle.std.specs.Io.KnownBytes.{Consumes, Appends, IsAtEnd, prepend_known}
 use Rattle.std.proofs.KnownBytes.{Appends-trans, Appends-nil, Consumes-trans, Consumes-nil, Consumes-whole, prepend_known-nil}
 use Rattle.map_io.specs.declared.reader.Stop.{Stop}
 use Rattle.map_io.specs.declared.reader.Stop.TheVariants.{Going, AtEnd, AfterFault, AtLimit}
+use Rattle.map_io.specs.declared.reader.Next.{Next}
+use Rattle.map_io.specs.declared.reader.Next.TheVariants as next
 use Rattle.map_io.specs.Lines.{IsPlain, lines, whole_lines, ended, all_but_last}
 use Rattle.map_io.specs.LineLaws as laws
-use Rattle.map_io.specs.Reading.{Reading, fresh, ahead, Passes, PassesLine, NothingAhead, HandsOut, PassesOver, Ends, BreaksOff, ReachesLimit, input_limit}
+use Rattle.map_io.specs.Reading.{Reading, fresh, ahead, Passes, PassesLine, NothingAhead, HandsOut, PassesOver, Ends, BreaksOff, ReachesLimit, NextGives, answer_of, bytes_read, input_limit}
 use Rattle.noise_map.specs.declared.step.Stopped.{Stopped}
 use Rattle.noise_map.specs.declared.step.Stopped.TheVariants as stops
 use Rattle.noise_map.specs.declared.status.Status.{Status}
@@ -20,7 +22,7 @@ use Rattle.noise_map.specs.Sheet.{Sheet, empty_sheet}
 use Rattle.noise_map.specs.Run.{Done, quiet, line_done, lines_done, followed}
 use Rattle.noise_map.specs.Taking.{TakesFront, Does}
 use Rattle.noise_map.specs.Outcome.{run_of, CoversAll, CoversRead, CoversLimit, CoversFront, TakesPartOf, Outcome}
-use Rattle.noise_map.specs.Progress.{status_at_end, status_of, HandedOut, Progress}
+use Rattle.noise_map.specs.Progress.{status_at_end, status_of, ending_of, IsTextOf, HandedOut, Progress}
 
 abbrev done_with : Sheet → List ℕ → Bool → Done
 done_with sheet text refused = record { sheet = sheet; text = text; refused = refused }
@@ -280,3 +282,110 @@ never_begun left taken = record {
   refused = tt;
   writes = record { part = []; rest = []; front = refl; last = []; others = refl; taken = Appends-nil taken };
 }
+
+-- ---- one turn of the loop
+
+some_injective : {X : Type 0} {x y : X} → Some x ≡ Some y → x ≡ y
+some_injective e = cc
+
+pub started_as : (r : Reading) (sheet : Sheet) (left taken : Option (List ℕ)) → r ≡ fresh → sheet ≡ empty_sheet → Progress r sheet 0 false left left taken taken
+started_as r sheet left taken r_is sheet_is =
+    subst (λ (s : Sheet). Progress r s 0 false left left taken taken) (sym sheet_is) (subst (λ (q : Reading). Progress q empty_sheet 0 false left left taken taken) (sym r_is) (started left taken))
+
+pub within_at_start : (r : Reading) → r ≡ fresh → bytes_read r ≤ input_limit
+within_at_start r is = let P : Reading → Type 0 = λ q. bytes_read q ≤ input_limit in subst P (sym is) fresh_within
+  where
+    fresh_within : bytes_read fresh ≤ input_limit
+    fresh_within = lit≤ tt
+
+-- a stopped reader answers the same, and neither reads nor changes
+abbrev pub StaysStopped : Next → Reading → Reading → Option (List ℕ) → Option (List ℕ) → Type 0
+StaysStopped answer r r' now after = (r.stop ≢ Going) → (answer ≡ answer_of r.stop) × (r' ≡ r) × (after ≡ now)
+
+ended_by : (stop : Stop) (answer : Next) (status : Status) (r r' : Reading) (sheet : Sheet) (count : ℕ) (refused : Bool) (left now after taken_before taken_now : Option (List ℕ))
+    → r.stop ≡ stop → (p : Progress r sheet count refused left now taken_before taken_now) → HandedOut stop r left now p.done → bytes_read r' ≤ input_limit
+    → ending_of answer refused ≡ Some status → (r.stop ≡ Going → NextGives answer r r' now after) → StaysStopped answer r r' now after
+    → Outcome status count left after taken_before taken_now
+ended_by Going (next.Line n) status r r' sheet count refused left now after taken_before taken_now is p handed within ends gives stays = cc
+ended_by Going next.LongLine status r r' sheet count refused left now after taken_before taken_now is p handed within ends gives stays = cc
+ended_by Going next.End status r r' sheet count refused left now after taken_before taken_now is p handed within ends gives stays =
+    subst (λ (s : Status). Outcome s count left after taken_before taken_now) (some_injective ends) (ended_now r r' sheet count refused left now after taken_before taken_now p handed (gives is) (omega arith))
+ended_by Going next.ReadFault status r r' sheet count refused left now after taken_before taken_now is p handed within ends gives stays =
+    subst (λ (s : Status). Outcome s count left after taken_before taken_now) (some_injective ends) (failed_to_read r r' sheet count refused left now after taken_before taken_now p handed (gives is) (omega arith))
+ended_by Going next.InputLimit status r r' sheet count refused left now after taken_before taken_now is p handed within ends gives stays =
+    subst (λ (s : Status). Outcome s count left after taken_before taken_now) (some_injective ends) (reached_limit r r' sheet count refused left now after taken_before taken_now p handed (gives is))
+ended_by AtEnd answer status r r' sheet count refused left now after taken_before taken_now is p handed within ends gives stays =
+    let kept = stays (λ going. let clash : AtEnd ≡ Going = sym is ∙ going in cc) in
+    let end : status_at_end refused ≡ status = some_injective (sym (ap (λ a. ending_of a refused) (kept.0 ∙ ap answer_of is)) ∙ ends) in
+    subst (λ (o : Option (List ℕ)). Outcome status count left o taken_before taken_now) (sym kept.2)
+        (subst (λ (s : Status). Outcome s count left now taken_before taken_now) end (ended_before r sheet count refused left now taken_before taken_now p handed))
+ended_by AfterFault answer status r r' sheet count refused left now after taken_before taken_now is p handed within ends gives stays = absurd handed
+ended_by AtLimit answer status r r' sheet count refused left now after taken_before taken_now is p handed within ends gives stays = absurd handed
+
+pub run_ended : (answer : Next) (status : Status) (r r' : Reading) (sheet : Sheet) (count : ℕ) (refused : Bool) (left now after taken_before taken_now : Option (List ℕ))
+    → Progress r sheet count refused left now taken_before taken_now → bytes_read r' ≤ input_limit
+    → ending_of answer refused ≡ Some status → (r.stop ≡ Going → NextGives answer r r' now after) → StaysStopped answer r r' now after
+    → Outcome status count left after taken_before taken_now
+run_ended answer status r r' sheet count refused left now after taken_before taken_now p within ends gives stays =
+    ended_by r.stop answer status r r' sheet count refused left now after taken_before taken_now refl p p.handed_out within ends gives stays
+
+-- A line was handed out, or a long one passed over, by a reader that goes on.
+pub record Handed (answer : Next) (r r' : Reading) (left now after : Option (List ℕ)) (done : List (List ℕ)) : Type 0 where
+  pub so_far : HandedOut Going r left now done
+  pub line : List ℕ
+  pub plain : IsPlain line
+  pub passes : PassesLine r'.stop r r' now after line
+  pub text : IsTextOf answer r'.line line
+
+handed_by : (stop : Stop) (answer : Next) (r r' : Reading) (refused : Bool) (left now after : Option (List ℕ)) (done : List (List ℕ))
+    → r.stop ≡ stop → HandedOut stop r left now done → ending_of answer refused ≡ None → (r.stop ≡ Going → NextGives answer r r' now after) → StaysStopped answer r r' now after
+    → Handed answer r r' left now after done
+handed_by Going (next.Line n) r r' refused left now after done is handed goes gives stays =
+    let out = gives is in record { so_far = handed; line = r'.line; plain = out.plain; passes = out.passes; text = refl }
+handed_by Going next.LongLine r r' refused left now after done is handed goes gives stays =
+    let over = gives is in record { so_far = handed; line = over.line; plain = over.plain; passes = over.passes; text = over.long }
+handed_by Going next.End r r' refused left now after done is handed goes gives stays = cc
+handed_by Going next.ReadFault r r' refused left now after done is handed goes gives stays = cc
+handed_by Going next.InputLimit r r' refused left now after done is handed goes gives stays = cc
+handed_by AtEnd answer r r' refused left now after done is handed goes gives stays =
+    let kept = stays (λ going. let clash : AtEnd ≡ Going = sym is ∙ going in cc) in
+    let end : ending_of next.End refused ≡ None = sym (ap (λ a. ending_of a refused) (kept.0 ∙ ap answer_of is)) ∙ goes in cc
+handed_by AfterFault answer r r' refused left now after done is handed goes gives stays = absurd handed
+handed_by AtLimit answer r r' refused left now after done is handed goes gives stays = absurd handed
+
+pub line_handed : (answer : Next) (r r' : Reading) (sheet : Sheet) (count : ℕ) (refused : Bool) (left now after taken_before taken_now : Option (List ℕ))
+    → (p : Progress r sheet count refused left now taken_before taken_now) → ending_of answer refused ≡ None → (r.stop ≡ Going → NextGives answer r r' now after) → StaysStopped answer r r' now after
+    → Handed answer r r' left now after p.done
+line_handed answer r r' sheet count refused left now after taken_before taken_now p goes gives stays = handed_by r.stop answer r r' refused left now after p.done refl p.handed_out goes gives stays
+
+-- what a line that the reader holds has done, or one that is too long
+abbrev pub DoesNext : Result Bool Stopped → Next → List ℕ → ℕ → Sheet → Sheet → Option (List ℕ) → Option (List ℕ) → Type 0
+DoesNext result answer held number old new before after = (text : List ℕ) → IsTextOf answer held text → Does result (line_done number old text) old new before after
+
+text_held : (answer : Next) (r r' : Reading) (left now after : Option (List ℕ)) (done : List (List ℕ)) (held : List ℕ) → held ≡ r'.line → (h : Handed answer r r' left now after done) → IsTextOf answer held h.line
+text_held answer r r' left now after done held is h = subst (λ (t : List ℕ). IsTextOf answer t h.line) (sym is) h.text
+
+pub turned : (answer : Next) (held : List ℕ) (r r' : Reading) (sheet sheet' : Sheet) (count : ℕ) (refused was : Bool) (left now after taken_before taken_now taken_after : Option (List ℕ))
+    → Progress r sheet count refused left now taken_before taken_now → ending_of answer refused ≡ None → (r.stop ≡ Going → NextGives answer r r' now after) → StaysStopped answer r r' now after
+    → bytes_read r' ≤ input_limit → held ≡ r'.line → DoesNext (Ok was) answer held (count + 1) sheet sheet' taken_now taken_after
+    → Progress r' sheet' (count + 1) (refused || was) left after taken_before taken_after
+turned answer held r r' sheet sheet' count refused was left now after taken_before taken_now taken_after p goes gives stays within is does =
+    let h = line_handed answer r r' sheet count refused left now after taken_before taken_now p goes gives stays in
+    went_on r r' sheet sheet' count refused was left now after taken_before taken_now taken_after h.line p h.so_far h.plain h.passes (omega arith)
+        (does h.line (text_held answer r r' left now after p.done held is h))
+
+pub turned_off : (stopped : Stopped) (answer : Next) (held : List ℕ) (r r' : Reading) (sheet sheet' : Sheet) (count : ℕ) (refused : Bool) (left now after taken_before taken_now taken_after : Option (List ℕ))
+    → Progress r sheet count refused left now taken_before taken_now → ending_of answer refused ≡ None → (r.stop ≡ Going → NextGives answer r r' now after) → StaysStopped answer r r' now after
+    → bytes_read r' ≤ input_limit → held ≡ r'.line → DoesNext (Err stopped) answer held (count + 1) sheet sheet' taken_now taken_after
+    → Outcome (status_of stopped) (count + 1) left after taken_before taken_after
+turned_off stopped answer held r r' sheet sheet' count refused left now after taken_before taken_now taken_after p goes gives stays within is does =
+    let h = line_handed answer r r' sheet count refused left now after taken_before taken_now p goes gives stays in
+    broken_off stopped r r' sheet sheet' count refused left now after taken_before taken_now taken_after h.line p h.so_far h.plain h.passes (omega arith)
+        (does h.line (text_held answer r r' left now after p.done held is h))
+
+pub passes_on : (answer : Next) (r r' : Reading) (sheet : Sheet) (count : ℕ) (refused : Bool) (left now after taken_before taken_now : Option (List ℕ))
+    → Progress r sheet count refused left now taken_before taken_now → ending_of answer refused ≡ None → (r.stop ≡ Going → NextGives answer r r' now after) → StaysStopped answer r r' now after
+    → bytes_read r' ≤ input_limit → input_limit - r'.passed < input_limit - r.passed
+passes_on answer r r' sheet count refused left now after taken_before taken_now p goes gives stays within =
+    let h = line_handed answer r r' sheet count refused left now after taken_before taken_now p goes gives stays in
+    omega (arith, passed_more r'.stop r r' now after h.line h.passes)

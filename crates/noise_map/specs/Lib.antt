@@ -7,3 +7,4 @@ pub mod Run
 pub mod Outcome
 pub mod Taking
 pub mod Progress
+pub mod Words

@@ -1,12 +1,12 @@
 -- How far a run has come.
-use Rattle.std.specs.Prelude.{◌≡◌, ℕ, ◌≤◌, Bool, true, false, List, length, Option, Some, None, if◌then◌else◌, All, IfSome}
+use Rattle.std.specs.Prelude.{◌≡◌, ℕ, ◌<◌, ◌≤◌, Bool, true, false, List, length, Option, Some, None, if◌then◌else◌, All, IfSome}
 use Rattle.std.specs.Io.KnownBytes.{Consumes, Appends}
 use Rattle.map_io.specs.declared.reader.Stop.{Stop}
 use Rattle.map_io.specs.declared.reader.Stop.TheVariants.{Going, AtEnd, AfterFault, AtLimit}
 use Rattle.map_io.specs.declared.reader.Next.{Next}
 use Rattle.map_io.specs.declared.reader.Next.TheVariants as next
 use Rattle.map_io.specs.Lines.{IsPlain, lines, ended}
-use Rattle.map_io.specs.Reading.{Reading, NothingAhead, ahead, input_limit}
+use Rattle.map_io.specs.Reading.{Reading, NothingAhead, ahead, input_limit, line_limit}
 use Rattle.noise_map.specs.declared.status.Status.{Status}
 use Rattle.noise_map.specs.declared.status.Status.TheVariants as status
 use Rattle.noise_map.specs.declared.step.Stopped.{Stopped}
@@ -48,3 +48,19 @@ pub record Progress (reader : Reading) (sheet : Sheet) (count : ℕ) (refused : 
 abbrev pub status_of : Stopped → Status
 status_of stops.WriteFault = status.WriteFault
 status_of stops.NoMemory = status.NoMemory
+
+-- the reader answered a line, which it holds if it isn't too long
+abbrev pub IsLineOf : Next → List ℕ → Type 0
+IsLineOf (next.Line n) held = length held ≤ line_limit
+IsLineOf next.LongLine held = Unit {0}
+IsLineOf next.End held = ⊥
+IsLineOf next.ReadFault held = ⊥
+IsLineOf next.InputLimit held = ⊥
+
+-- the text of the line that it answered: the one that it holds, or any that is too long
+abbrev pub IsTextOf : Next → List ℕ → List ℕ → Type 0
+IsTextOf (next.Line n) held text = text ≡ held
+IsTextOf next.LongLine held text = line_limit < length text
+IsTextOf next.End held text = ⊥
+IsTextOf next.ReadFault held text = ⊥
+IsTextOf next.InputLimit held text = ⊥

@@ -4,6 +4,7 @@
 mod command;
 mod parts;
 mod rows;
+mod run;
 mod scene;
 mod status;
 mod step;

@@ -1,5 +1,5 @@
 //! One line after another: what each does to the scene, and what it writes.
-ghost use Rattle.std.specs.Prelude.{◌≡◌, flat_map, is_none, length};
+ghost use Rattle.std.specs.Prelude.{◌≡◌, ◌<◌, ◌≤◌, ℕ, List, flat_map, is_none, length};
 ghost use Rattle.std.specs.List.{list_all};
 ghost use Rattle.noise_map.specs.Taking.{Takes, Stops, Does};
 ghost use Rattle.noise_map.specs.Rows.{settle_row};
@@ -180,4 +180,27 @@ fn read_and_obey<K: Sink>(alloc: Global, scene: &mut Scene, number: u64, line: &
         Err(LineError::NoMemory) => Err(Stopped::NoMemory),
         Err(LineError::NotBuilt) => refuse(alloc, scene, number, Fault::NotBuilt, out),
     }
+}
+
+/// Does a line of at most 65,536 bytes, by its number from 1, and answers whether it was refused.
+#[tactic(auto, unfolding(crate::specs::Run::line_done))]
+pub fn do_line<K: Sink>(alloc: Global, scene: &mut Scene, number: u64, line: &[u8], out: &mut K) -> Result<bool, Stopped>
+    requires { length line.now ≤ 65536 }
+    ensures done { Does result (line_done number scene.old line.now) scene.old scene.new (K.taken out.old) (K.taken out.new) }
+    ensures cause { Stops result (K.faults out.old) (K.faults out.new) }
+{
+    if is_blank_text(line) {
+        Ok(false)
+    } else {
+        read_and_obey(alloc, scene, number, line, out)
+    }
+}
+
+/// Refuses a line of more than 65,536 bytes.
+#[tactic(auto, unfolding(crate::specs::Run::line_done))]
+pub fn refuse_long<K: Sink>(alloc: Global, scene: &Scene, number: u64, out: &mut K) -> Result<bool, Stopped>
+    ensures done { (line : List ℕ) → 65536 < length line → Does result (line_done number scene.now line) scene.now scene.now (K.taken out.old) (K.taken out.new) }
+    ensures cause { Stops result (K.faults out.old) (K.faults out.new) }
+{
+    refuse(alloc, scene, number, Fault::LongLine, out)
 }

@@ -1,0 +1,84 @@
+//! The top call: all that the program does.
+ghost use Rattle.std.specs.Prelude.{◌≡◌, ◌≤◌, ℕ, Bool, true, false, List, length, map, string_bytes};
+ghost use Rattle.map_io.specs.Causes.{Rose};
+ghost use Rattle.map_io.specs.Reading.{HandsOut, PassesOver};
+ghost use Rattle.noise_map.specs.Words.{is_command_line};
+ghost use Rattle.noise_map.specs.Run.{line_done, refusal};
+ghost use Rattle.noise_map.specs.Taking.{Does, Stops};
+ghost use Rattle.noise_map.specs.Progress.{ending_of, status_of, IsLineOf, IsTextOf};
+ghost use Rattle.noise_map.specs.Outcome.{Outcome};
+
+use crate::rows::Fault;
+use crate::scene::Scene;
+use crate::status::{Report, Status};
+use crate::step::{Stopped, do_line, refuse_long};
+use map_io::{Gate, LineReader, Next, Sink, Source};
+use std::alloc::Global;
+
+/// The status with which an answer of the reader ends a run, if it is no line.
+fn ending(next: Next, refused: bool) -> Option<Status>
+    ensures { result ≡ ending_of next refused }
+{
+    match next {
+        Next::Line(_) | Next::LongLine => None,
+        Next::End if refused => Some(Status::SomeRefused),
+        Next::End => Some(Status::Done),
+        Next::ReadFault => Some(Status::ReadFault),
+        Next::InputLimit => Some(Status::InputLimit),
+    }
+}
+
+fn status_when(stopped: Stopped) -> Status
+    ensures { result ≡ status_of stopped }
+{
+    match stopped {
+        Stopped::WriteFault => Status::WriteFault,
+        Stopped::NoMemory => Status::NoMemory,
+    }
+}
+
+/// Does the line that the reader has handed out, or refuses the long one that it has passed over.
+fn do_next<K: Sink>(alloc: Global, scene: &mut Scene, number: u64, next: Next, line: &[u8], out: &mut K) -> Result<bool, Stopped>
+    requires { IsLineOf next line.now }
+    ensures done { (text : List ℕ) → IsTextOf next line.now text → Does result (line_done number scene.old text) scene.old scene.new (K.taken out.old) (K.taken out.new) }
+    ensures cause { Stops result (K.faults out.old) (K.faults out.new) }
+{
+    if matches!(next, Next::LongLine) {
+        refuse_long(alloc, scene, number, out)
+    } else {
+        do_line(alloc, scene, number, line, out)
+    }
+}
+
+/// Reads line after line and does each, until the input ends or something stops it.
+fn run_lines<S: Source, K: Sink>(alloc: Global, input: &mut S, out: &mut K) -> Report
+    ensures outcome { Outcome result.status result.lines (S.left input.old) (S.left input.new) (K.taken out.old) (K.taken out.new) }
+    ensures read_fault { result.status ≡ Status.ReadFault → Rose (S.faults input.old) (S.faults input.new) }
+    ensures write_fault { result.status ≡ Status.WriteFault → Rose (K.faults out.old) (K.faults out.new) }
+{
+    let Ok(mut reader) = LineReader::new(alloc) else {
+        return Report {
+            status: Status::NoMemory,
+            lines: 0,
+        };
+    };
+    let mut scene = Scene::empty(alloc);
+    let mut lines = 0;
+    let mut refused = false;
+    loop {
+        let next = reader.next(input);
+        if let Some(status) = ending(next, refused) {
+            return Report { status, lines };
+        }
+        lines += 1;
+        match do_next(alloc, &mut scene, lines, next, reader.line(), out) {
+            Ok(was_refused) => refused |= was_refused,
+            Err(stopped) => {
+                return Report {
+                    status: status_when(stopped),
+                    lines,
+                };
+            }
+        }
+    }
+}
