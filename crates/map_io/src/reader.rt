@@ -1,7 +1,8 @@
 ghost use Rattle.std.specs.Prelude.{◌≡◌, ◌≢◌, ◌<◌, ◌≤◌, ◌++◌, [], length, take, vec_capacity, position, ◌==◌, Contains, IfOk};
 ghost use Rattle.std.specs.Io.KnownBytes.{ReadConsumes};
 ghost use Rattle.map_io.specs.Causes.{HasCause, Rose};
-ghost use Rattle.map_io.specs.Reading.{fresh, bytes_read, answer_of, line_limit, input_limit, NextGives};
+ghost use Rattle.map_io.specs.Reading.{fresh, ahead, bytes_read, answer_of, line_limit, input_limit, NextGives};
+ghost use Rattle.map_io.specs.LinesAhead.{IfBothKnown, TakesLine};
 ghost use Rattle.map_io.specs.Steps.{Scans, Fills, Sizes};
 
 use crate::{Failed, NoMemory, Source};
@@ -97,6 +98,10 @@ impl LineReader {
     /// Reads on to the end of the next line.
     pub fn next<S: Source>(&mut self, source: &mut S) -> Next
         ensures going { self.old.stop ≡ Stop.Going → NextGives result self.old self.new (S.left source.old) (S.left source.new) }
+
+        // So where the source tells, an answer takes a line off those of the bytes ahead, however the reads cut them.
+        ensures lines { self.old.stop ≡ Stop.Going →
+            IfBothKnown (ahead self.old (S.left source.old)) (ahead self.new (S.left source.new)) (TakesLine result self.new.line) }
 
         // A stopped reader answers the same, and neither reads nor changes.
         ensures stopped { self.old.stop ≢ Stop.Going →
