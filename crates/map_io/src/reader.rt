@@ -36,13 +36,18 @@ pub enum Next {
 /// Whether a reader goes on, and else what stopped it.
 #[derive(Clone, Copy, Debug, PartialEq, Eq)]
 pub enum Stop {
+    /// It goes on.
     Going,
+    /// The input has ended.
     AtEnd,
+    /// The source has failed.
     AfterFault,
+    /// More bytes came than the limit of the input has.
     AtLimit,
 }
 
-/// Reads an input line by line.
+/// Reads an input line by line. Contracts see the line that was handed out last, the bytes that are held, how many bytes
+/// were passed, and whether the reader is stopped. Once stopped it stays so.
 #[derive(Drop)]
 pub struct LineReader {
     line: Vec<u8>,
@@ -95,7 +100,10 @@ impl LineReader {
         &self.line
     }
 
-    /// Reads on to the end of the next line.
+    /// Goes on to the end of the next line, and answers its size in bytes, or why it hands none out. A line ends with a
+    /// line feed (byte 10) or with the end of the input, where an empty rest is no line. Each read asks for at most
+    /// 8,192 bytes and for no more than the limit leaves; with all of the limit read, one byte is asked for, and it is
+    /// the answer `InputLimit` where it comes. A line that a fault or the limit breaks off is never handed out.
     pub fn next<S: Source>(&mut self, source: &mut S) -> Next
         ensures going { self.old.stop ≡ Stop.Going → NextGives result self.old self.new (S.left source.old) (S.left source.new) }
 
