@@ -1,15 +1,14 @@
 -- A line that is gathered from what is held and what is read, up to the answer.
-use Rattle.std.proofs.Common.{◌≡◌, ◌≢◌, ◌≤◌, ◌<◌, ◌+◌, ◌-◌, ℕ, Bool, true, false, List, [], ◌∷◌, ◌++◌, length, take, Option, refl, ap, sym, subst, inl, inr, ◌∙◌, append_assoc, append-nil, arith, length-append}
-use Rattle.std.specs.Io.KnownBytes.{Consumes, Keeps, IsAtEnd, prepend_known}
+use Rattle.std.proofs.Common.{◌≡◌, ◌≢◌, ◌<◌, ◌-◌, ℕ, Bool, true, false, List, [], ◌∷◌, ◌++◌, length, take, Option, ap, sym, subst, inl, inr, ◌∙◌, append_assoc, append-nil, arith, length-append}
+use Rattle.std.specs.Io.KnownBytes.{Consumes, Keeps}
 use Rattle.std.proofs.lemmas.Bool.{cases_lt}
 use Rattle.std.proofs.lemmas.List.{take_all}
 use Rattle.std.proofs.lemmas.List.Elements.{All-append}
 use Rattle.map_io.specs.declared.reader.Stop.{Stop}
 use Rattle.map_io.specs.declared.reader.Stop.TheVariants.{Going, AtEnd, AfterFault, AtLimit}
 use Rattle.map_io.specs.declared.reader.Next.{Next}
-use Rattle.map_io.specs.declared.reader.Next.TheVariants.{Line, End, LongLine, ReadFault, InputLimit}
 use Rattle.map_io.specs.Lines.{IsPlain}
-use Rattle.map_io.specs.Reading.{Reading, ahead, Passes, PassesLine, NothingAhead, HandsOut, PassesOver, Ends, BreaksOff, ReachesLimit, NextGives}
+use Rattle.map_io.specs.Reading.{Reading, ahead, Passes, PassesLine, Ends, BreaksOff, ReachesLimit, NextGives}
 use Rattle.map_io.specs.Steps.{Scans, Fills, Brings, Gathers, Sizes, feed_if}
 use Rattle.map_io.proofs.Lists.{take-append_cut, empty_if_no_length}
 use Rattle.map_io.proofs.Known.{Consumes-append, Consumes-held, Consumes-came, Consumes-kept, Consumes-dropped}

@@ -2,3 +2,4 @@ pub mod Lists
 pub mod Scanning
 pub mod Known
 pub mod Gathering
+pub mod Taking

@@ -1,6 +1,6 @@
 -- A scan of what a reader holds.
-use Rattle.std.proofs.Common.{◌≡◌, ◌≢◌, ◌==◌, ℕ, ◌+◌, ◌-◌, ◌<◌, ◌≤◌, Bool, true, false, cond, Option, Some, None, List, [], ◌∷◌, ◌++◌, length, take, drop, get_or, nat_lt, refl, ap, sym, ◌∙◌, subst, append_assoc, arith, length-append, length-take, length-drop, append-nil}
-use Rattle.std.specs.Prelude.{slice_range, All, Contains}
+use Rattle.std.proofs.Common.{◌≡◌, ◌≢◌, ◌==◌, ℕ, ◌+◌, ◌-◌, ◌<◌, ◌≤◌, Bool, true, false, cond, Some, None, List, [], ◌∷◌, ◌++◌, length, take, drop, nat_lt, refl, ap, sym, ◌∙◌, subst, append_assoc, arith, length-append, length-take, length-drop, append-nil}
+use Rattle.std.specs.Prelude.{slice_range, Contains}
 use Rattle.std.specs.List.{position, position_or_len}
 use Rattle.std.proofs.lemmas.List.{take-append-drop, drop-drop, get_or-take, drop_more}
 use Rattle.std.proofs.lemmas.List.Quantifiers.{position-Some}

@@ -1,5 +1,5 @@
 -- What a reader keeps of its buffers.
-use Rattle.std.specs.Prelude.{◌≡◌, ◌+◌, ◌-◌, ◌≤◌, ℕ, length}
+use Rattle.std.specs.Prelude.{◌≡◌, ◌+◌, ◌-◌, ◌≤◌, length}
 use Rattle.std.specs.Vec.{vec_capacity}
 use Rattle.map_io.specs.Reading.{line_limit, input_limit}
 use Rattle.map_io.specs.declared.reader.LineReader.TheInside.{Inside}

@@ -2,6 +2,7 @@ pub mod Causes
 pub mod Lines
 pub mod LineLaws
 pub mod Reading
+pub mod LinesAhead
 pub mod Steps
 pub mod Buffers
 pub mod Putting

@@ -1,6 +1,6 @@
 -- The lines of bytes. A line ends with a line feed (10) or with the end of the bytes; an empty rest at the end is no line.
-use Rattle.std.specs.Prelude.{◌≡◌, ◌≢◌, ◌==◌, ℕ, List, [], ◌∷◌, ◌++◌, length, All}
-use Rattle.std.specs.List.{slice_split, flat_map}
+use Rattle.std.specs.Prelude.{◌≢◌, ◌==◌, ℕ, List, [], ◌∷◌, ◌++◌, All}
+use Rattle.std.specs.List.{slice_split}
 
 -- no line feed is among the bytes
 abbrev pub IsPlain : List ℕ → Type 0

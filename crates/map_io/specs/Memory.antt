@@ -1,5 +1,5 @@
 -- Sources and sinks in memory, which fail at the calls of a list.
-use Rattle.std.specs.Prelude.{◌≡◌, ◌==◌, ◌+◌, ◌-◌, ◌^◌, ◌≤◌, ℕ, Bool, if◌then◌else◌, ◌||◌, nat_lt, min, List, [], ◌∷◌, ◌++◌, length, Result, Ok, MatchBool, IsErr}
+use Rattle.std.specs.Prelude.{◌≡◌, ◌==◌, ◌+◌, ◌-◌, ◌^◌, ◌≤◌, ℕ, Bool, if◌then◌else◌, min, List, Result, Ok, MatchBool, IsErr}
 use Rattle.std.specs.List.{list_any}
 
 -- what a source in memory has left, how much it gives at most at once, the calls that fail, counted from 1, how many calls there were, and how many of them failed

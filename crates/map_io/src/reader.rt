@@ -1,7 +1,8 @@
 ghost use Rattle.std.specs.Prelude.{◌≡◌, ◌≢◌, ◌<◌, ◌≤◌, ◌++◌, [], length, take, vec_capacity, position, ◌==◌, Contains, IfOk};
 ghost use Rattle.std.specs.Io.KnownBytes.{ReadConsumes};
 ghost use Rattle.map_io.specs.Causes.{HasCause, Rose};
-ghost use Rattle.map_io.specs.Reading.{fresh, bytes_read, answer_of, line_limit, input_limit, NextGives};
+ghost use Rattle.map_io.specs.Reading.{fresh, ahead, bytes_read, answer_of, line_limit, input_limit, NextGives};
+ghost use Rattle.map_io.specs.LinesAhead.{IfBothKnown, TakesLine};
 ghost use Rattle.map_io.specs.Steps.{Scans, Fills, Sizes};
 
 use crate::{Failed, NoMemory, Source};
@@ -35,13 +36,18 @@ pub enum Next {
 /// Whether a reader goes on, and else what stopped it.
 #[derive(Clone, Copy, Debug, PartialEq, Eq)]
 pub enum Stop {
+    /// It goes on.
     Going,
+    /// The input has ended.
     AtEnd,
+    /// The source has failed.
     AfterFault,
+    /// More bytes came than the limit of the input has.
     AtLimit,
 }
 
-/// Reads an input line by line.
+/// Reads an input line by line. Contracts see the line that was handed out last, the bytes that are held, how many bytes
+/// were passed, and whether the reader is stopped. Once stopped it stays so.
 #[derive(Drop)]
 pub struct LineReader {
     line: Vec<u8>,
@@ -94,9 +100,16 @@ impl LineReader {
         &self.line
     }
 
-    /// Reads on to the end of the next line.
+    /// Goes on to the end of the next line, and answers its size in bytes, or why it hands none out. A line ends with a
+    /// line feed (byte 10) or with the end of the input, where an empty rest is no line. Each read asks for at most
+    /// 8,192 bytes and for no more than the limit leaves; with all of the limit read, one byte is asked for, and it is
+    /// the answer `InputLimit` where it comes. A line that a fault or the limit breaks off is never handed out.
     pub fn next<S: Source>(&mut self, source: &mut S) -> Next
         ensures going { self.old.stop ≡ Stop.Going → NextGives result self.old self.new (S.left source.old) (S.left source.new) }
+
+        // So where the source tells, an answer takes a line off those of the bytes ahead, however the reads cut them.
+        ensures lines { self.old.stop ≡ Stop.Going →
+            IfBothKnown (ahead self.old (S.left source.old)) (ahead self.new (S.left source.new)) (TakesLine result self.new.line) }
 
         // A stopped reader answers the same, and neither reads nor changes.
         ensures stopped { self.old.stop ≢ Stop.Going →

@@ -1,5 +1,5 @@
 -- What has room of the piece is what has room of the line and the piece.
-use Rattle.std.proofs.Common.{◌≡◌, ℕ, ◌-◌, ◌≤◌, min, length, take, arith, sym}
+use Rattle.std.proofs.Common.{◌-◌, length, arith}
 use Rattle.std.proofs.lemmas.List.{take_min}
 use Rattle.std.proofs.lemmas.Grind.{common_steps}
 use Rattle.map_io.proofs.Lists.{take-append_room}

@@ -1,5 +1,5 @@
 -- A write takes more of the rest.
-use Rattle.std.proofs.Common.{◌≡◌, ◌≤◌, ◌+◌, ◌-◌, ℕ, length, take, drop, arith}
+use Rattle.std.proofs.Common.{arith}
 use Rattle.map_io.proofs.Known.{TakenBefore-more}
 use Rattle.map_io.proofs.sink.put_all.Goals as goal
 

@@ -1,5 +1,5 @@
 -- What was taken is what comes before the rest.
-use Rattle.std.proofs.Common.{◌≡◌, ◌≤◌, length}
+use Rattle.std.proofs.Common.{◌≤◌, length}
 use Rattle.map_io.specs.Putting.{TakenBefore}
 use Rattle.map_io.proofs.sink.put_all.Given as goal
 

@@ -1,5 +1,5 @@
 -- The line is gathered by scans and reads, and the last of them decides the answer.
-use Rattle.std.proofs.Common.{◌≡◌, ◌≢◌, ◌∙◌, sym, ap, subst, refl, List, ℕ, ◌+◌, ◌-◌, ◌≤◌, arith}
+use Rattle.std.proofs.Common.{◌∙◌, sym, ap, subst, refl, List, ℕ, arith}
 use Rattle.std.specs.Prelude.{Contains}
 use Rattle.map_io.specs.Reading.{Reading}
 use Rattle.map_io.proofs.Scanning.{scan_had_none}

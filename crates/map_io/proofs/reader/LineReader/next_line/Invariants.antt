@@ -1,7 +1,6 @@
 -- What was passed since the call began is the line so far.
-use Rattle.std.proofs.Common.{◌≡◌, ◌≤◌, ◌-◌, ℕ}
+use Rattle.std.proofs.Common.{◌≡◌, ◌≤◌, ◌-◌}
 use Rattle.std.specs.Prelude.{Contains}
-use Rattle.map_io.specs.declared.reader.Stop.TheVariants.{Going}
 use Rattle.map_io.specs.Reading.{bytes_read}
 use Rattle.map_io.specs.Steps.{Gathers}
 use Rattle.map_io.proofs.reader.LineReader.next_line.Given as goal

@@ -1,5 +1,5 @@
 -- A scan moves what is held, up to the first line feed.
-use Rattle.std.proofs.Common.{◌≡◌, ◌∙◌, sym, ℕ, ◌+◌, ◌-◌, ◌<◌, ◌≤◌, length, take, drop, arith, length-take}
+use Rattle.std.proofs.Common.{◌∙◌, sym, ◌-◌, ◌≤◌, length, drop, arith, length-take}
 use Rattle.map_io.proofs.Scanning.{scan_found, scan_all, found_below}
 use Rattle.map_io.proofs.reader.LineReader.scan.Goals as goal
 
