@@ -68,32 +68,34 @@ fn quotient_by_positive(a: Span, b: Span) -> Iv
     requires high_dividend { unsigned_abs a.hi < 2 ^ 94 }
     ensures { result ≡ quotient_of_ends a.lo a.hi b.lo b.hi }
 {
-    Iv::of_ends(least_quotient(a.lo, b), greatest_quotient(a.hi, b))
+    Iv::of_ends(least_quotient(a, b), greatest_quotient(a, b))
 }
 
-/// The lesser quotient of `x` by the ends of a positive divisor: by the greater end where it isn't negative.
-fn least_quotient(x: i128, by: Span) -> Option<i128>
+/// The lesser quotient of the low end by the ends of a positive divisor: by the greater of them where the
+/// low end isn't negative.
+fn least_quotient(a: Span, by: Span) -> Option<i128>
     requires positive { pos 0 <ℤ by.lo }
-    requires small { unsigned_abs x < 2 ^ 94 }
-    ensures { result ≡ Some (int_min (floor_quotient (x *ℤ pos unit) by.lo) (floor_quotient (x *ℤ pos unit) by.hi)) }
+    requires small { unsigned_abs a.lo < 2 ^ 94 }
+    ensures { result ≡ Some (int_min (floor_quotient (a.lo *ℤ pos unit) by.lo) (floor_quotient (a.lo *ℤ pos unit) by.hi)) }
 {
-    if 0 <= x {
-        fraction(x, by.hi.unsigned_abs()).low()
+    if 0 <= a.lo {
+        fraction(a.lo, by.hi.unsigned_abs()).low()
     } else {
-        fraction(x, by.lo.unsigned_abs()).low()
+        fraction(a.lo, by.lo.unsigned_abs()).low()
     }
 }
 
-/// The greater quotient of `x` by the ends of a positive divisor: by the lesser end where it isn't negative.
-fn greatest_quotient(x: i128, by: Span) -> Option<i128>
+/// The greater quotient of the high end by the ends of a positive divisor: by the lesser of them where the
+/// high end isn't negative.
+fn greatest_quotient(a: Span, by: Span) -> Option<i128>
     requires positive { pos 0 <ℤ by.lo }
-    requires small { unsigned_abs x < 2 ^ 94 }
-    ensures { result ≡ Some (int_max (ceil_quotient (x *ℤ pos unit) by.lo) (ceil_quotient (x *ℤ pos unit) by.hi)) }
+    requires small { unsigned_abs a.hi < 2 ^ 94 }
+    ensures { result ≡ Some (int_max (ceil_quotient (a.hi *ℤ pos unit) by.lo) (ceil_quotient (a.hi *ℤ pos unit) by.hi)) }
 {
-    if 0 <= x {
-        fraction(x, by.lo.unsigned_abs()).high()
+    if 0 <= a.hi {
+        fraction(a.hi, by.lo.unsigned_abs()).high()
     } else {
-        fraction(x, by.hi.unsigned_abs()).high()
+        fraction(a.hi, by.hi.unsigned_abs()).high()
     }
 }
 
