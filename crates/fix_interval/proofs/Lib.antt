@@ -1,4 +1,5 @@
 pub mod Dividing
+pub mod Ends
 pub mod Intervals
 pub mod Order
 pub mod Ratios

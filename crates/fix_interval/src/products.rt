@@ -15,10 +15,13 @@ use crate::values::end;
 pub fn mul(a: Iv, b: Iv) -> Iv
     ensures { result ≡ mul_of a b }
 {
-    match (bounded(a), bounded(b)) {
-        (Some(a), Some(b)) => product_of_spans(a, b),
-        _ => Iv::ALL,
-    }
+    let Some(first) = bounded(a) else {
+        return Iv::ALL;
+    };
+    let Some(second) = bounded(b) else {
+        return Iv::ALL;
+    };
+    product_of_spans(first, second)
 }
 
 fn product_of_spans(a: Span, b: Span) -> Iv

@@ -1,6 +1,6 @@
 //! Constants and quotients of intervals.
 
-ghost use Rattle.std.specs.Prelude.{◌≡◌, ◌<◌, ◌^◌, ◌/◌, ℤ, pos, neg_ℤ, ◌*ℤ◌, ◌<ℤ◌, ◌≤ℤ◌, unsigned_abs};
+ghost use Rattle.std.specs.Prelude.{◌≡◌, ◌<◌, ◌^◌, ◌/◌, ℤ, pos, neg_ℤ, ◌*ℤ◌, ◌<ℤ◌, ◌≤ℤ◌, unsigned_abs, IsTrue, ◌↔◌};
 ghost use Rattle.std.specs.Int.{div_ceil, int_min, int_max};
 ghost use Rattle.fix_interval.specs.Units.{unit};
 ghost use Rattle.fix_interval.specs.Round.{floor_of, ceil_of, floor_quotient, ceil_quotient};
@@ -41,16 +41,19 @@ pub fn ratio(p: i128, q: i128) -> Iv
 pub fn div(a: Iv, b: Iv) -> Iv
     ensures { result ≡ div_of a b }
 {
-    match (bounded(a), bounded(b)) {
-        (Some(a), Some(b)) => quotient_of_spans(a, b),
-        _ => Iv::ALL,
-    }
+    let Some(first) = bounded(a) else {
+        return Iv::ALL;
+    };
+    let Some(second) = bounded(b) else {
+        return Iv::ALL;
+    };
+    quotient_of_spans(first, second)
 }
 
 fn quotient_of_spans(a: Span, b: Span) -> Iv
     ensures { result ≡ quotient_of_ends a.lo a.hi b.lo b.hi }
 {
-    if a.lo.unsigned_abs() >= DIVIDEND_LIMIT || a.hi.unsigned_abs() >= DIVIDEND_LIMIT {
+    if !is_dividend(a) {
         Iv::ALL
     } else if 0 < b.lo {
         quotient_by_positive(a, b)
@@ -59,6 +62,13 @@ fn quotient_of_spans(a: Span, b: Span) -> Iv
     } else {
         Iv::ALL
     }
+}
+
+/// Whether both ends stay below the limit of dividends.
+fn is_dividend(a: Span) -> bool
+    ensures { IsTrue result ↔ ((unsigned_abs a.lo < 2 ^ 94) × (unsigned_abs a.hi < 2 ^ 94)) }
+{
+    a.lo.unsigned_abs() < DIVIDEND_LIMIT && a.hi.unsigned_abs() < DIVIDEND_LIMIT
 }
 
 /// The quotient by a positive divisor.
