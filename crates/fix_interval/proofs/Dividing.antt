@@ -165,7 +165,7 @@ floor_quotient-le-ceil_quotient x (negsuc d) h = absurd (omega (arith, ints))
 least-le-greatest : (p q r s : ℤ) → p ≤ℤ r → int_min p q ≤ℤ int_max r s
 least-le-greatest p q r s h = omega (arith, ints, clamps)
 
-≤ℤ_trans : (x y z : ℤ) → x ≤ℤ y → y ≤ℤ z → x ≤ℤ z
+pub ≤ℤ_trans : (x y z : ℤ) → x ≤ℤ y → y ≤ℤ z → x ≤ℤ z
 ≤ℤ_trans x y z h k = omega (arith, ints)
 
 pub IsInterval-quotient_by_positive : (al ah bl bh : ℤ) → pos 0 <ℤ bl → bl ≤ℤ bh → al ≤ℤ ah → unsigned_abs al < 2 ^ 94 → unsigned_abs ah < 2 ^ 94 → IsInterval (quotient_of_ends al ah bl bh)
