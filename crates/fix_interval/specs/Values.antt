@@ -102,11 +102,17 @@ rounded_outward (Some least) (Some greatest) =
 rounded_outward (Some least) None = All
 rounded_outward None greatest = All
 
--- the four products of ends. One of them reaches 2^126 exactly where the least or the greatest does
+-- the least and the greatest of the four products of ends
+abbrev pub least_product : ℤ → ℤ → ℤ → ℤ → ℤ
+least_product al ah bl bh = least_of (al *ℤ bl) (al *ℤ bh) (ah *ℤ bl) (ah *ℤ bh)
+
+abbrev pub greatest_product : ℤ → ℤ → ℤ → ℤ → ℤ
+greatest_product al ah bl bh = greatest_of (al *ℤ bl) (al *ℤ bh) (ah *ℤ bl) (ah *ℤ bh)
+
+-- one of the four products reaches 2^126 exactly where the least or the greatest does
 abbrev pub product_of_ends : ℤ → ℤ → ℤ → ℤ → Interval
 product_of_ends al ah bl bh =
-    let p = al *ℤ bl in let q = al *ℤ bh in let r = ah *ℤ bl in let s = ah *ℤ bh in
-    rounded_outward (end_of (least_of p q r s)) (end_of (greatest_of p q r s))
+    rounded_outward (end_of (least_product al ah bl bh)) (end_of (greatest_product al ah bl bh))
 
 unfoldable pub mul_of : Interval → Interval → Interval
 mul_of a b = on_ends product_of_ends a.lo a.hi b.lo b.hi

@@ -1,6 +1,6 @@
 //! Constants and quotients of intervals.
 
-ghost use Rattle.std.specs.Prelude.{◌≡◌, ◌<◌, ◌^◌, ◌/◌, ℤ, pos, neg_ℤ, ◌*ℤ◌, ◌<ℤ◌, ◌≤ℤ◌, unsigned_abs};
+ghost use Rattle.std.specs.Prelude.{◌≡◌, ◌<◌, ◌^◌, ◌/◌, ℤ, pos, neg_ℤ, ◌*ℤ◌, ◌<ℤ◌, ◌≤ℤ◌, unsigned_abs, IsTrue, ◌↔◌};
 ghost use Rattle.std.specs.Int.{div_ceil, int_min, int_max};
 ghost use Rattle.fix_interval.specs.Units.{unit};
 ghost use Rattle.fix_interval.specs.Round.{floor_of, ceil_of, floor_quotient, ceil_quotient};
@@ -41,16 +41,19 @@ pub fn ratio(p: i128, q: i128) -> Iv
 pub fn div(a: Iv, b: Iv) -> Iv
     ensures { result ≡ div_of a b }
 {
-    match (bounded(a), bounded(b)) {
-        (Some(a), Some(b)) => quotient_of_spans(a, b),
-        _ => Iv::ALL,
-    }
+    let Some(first) = bounded(a) else {
+        return Iv::ALL;
+    };
+    let Some(second) = bounded(b) else {
+        return Iv::ALL;
+    };
+    quotient_of_spans(first, second)
 }
 
 fn quotient_of_spans(a: Span, b: Span) -> Iv
     ensures { result ≡ quotient_of_ends a.lo a.hi b.lo b.hi }
 {
-    if a.lo.unsigned_abs() >= DIVIDEND_LIMIT || a.hi.unsigned_abs() >= DIVIDEND_LIMIT {
+    if !is_dividend(a) {
         Iv::ALL
     } else if 0 < b.lo {
         quotient_by_positive(a, b)
@@ -61,6 +64,13 @@ fn quotient_of_spans(a: Span, b: Span) -> Iv
     }
 }
 
+/// Whether both ends stay below the limit of dividends.
+fn is_dividend(a: Span) -> bool
+    ensures { IsTrue result ↔ ((unsigned_abs a.lo < 2 ^ 94) × (unsigned_abs a.hi < 2 ^ 94)) }
+{
+    a.lo.unsigned_abs() < DIVIDEND_LIMIT && a.hi.unsigned_abs() < DIVIDEND_LIMIT
+}
+
 /// The quotient by a positive divisor.
 fn quotient_by_positive(a: Span, b: Span) -> Iv
     requires positive { pos 0 <ℤ b.lo }
@@ -68,32 +78,34 @@ fn quotient_by_positive(a: Span, b: Span) -> Iv
     requires high_dividend { unsigned_abs a.hi < 2 ^ 94 }
     ensures { result ≡ quotient_of_ends a.lo a.hi b.lo b.hi }
 {
-    Iv::of_ends(least_quotient(a.lo, b), greatest_quotient(a.hi, b))
+    Iv::of_ends(least_quotient(a, b), greatest_quotient(a, b))
 }
 
-/// The lesser quotient of `x` by the ends of a positive divisor: by the greater end where it isn't negative.
-fn least_quotient(x: i128, by: Span) -> Option<i128>
+/// The lesser quotient of the low end by the ends of a positive divisor: by the greater of them where the
+/// low end isn't negative.
+fn least_quotient(a: Span, by: Span) -> Option<i128>
     requires positive { pos 0 <ℤ by.lo }
-    requires small { unsigned_abs x < 2 ^ 94 }
-    ensures { result ≡ Some (int_min (floor_quotient (x *ℤ pos unit) by.lo) (floor_quotient (x *ℤ pos unit) by.hi)) }
+    requires small { unsigned_abs a.lo < 2 ^ 94 }
+    ensures { result ≡ Some (int_min (floor_quotient (a.lo *ℤ pos unit) by.lo) (floor_quotient (a.lo *ℤ pos unit) by.hi)) }
 {
-    if 0 <= x {
-        fraction(x, by.hi.unsigned_abs()).low()
+    if 0 <= a.lo {
+        fraction(a.lo, by.hi.unsigned_abs()).low()
     } else {
-        fraction(x, by.lo.unsigned_abs()).low()
+        fraction(a.lo, by.lo.unsigned_abs()).low()
     }
 }
 
-/// The greater quotient of `x` by the ends of a positive divisor: by the lesser end where it isn't negative.
-fn greatest_quotient(x: i128, by: Span) -> Option<i128>
+/// The greater quotient of the high end by the ends of a positive divisor: by the lesser of them where the
+/// high end isn't negative.
+fn greatest_quotient(a: Span, by: Span) -> Option<i128>
     requires positive { pos 0 <ℤ by.lo }
-    requires small { unsigned_abs x < 2 ^ 94 }
-    ensures { result ≡ Some (int_max (ceil_quotient (x *ℤ pos unit) by.lo) (ceil_quotient (x *ℤ pos unit) by.hi)) }
+    requires small { unsigned_abs a.hi < 2 ^ 94 }
+    ensures { result ≡ Some (int_max (ceil_quotient (a.hi *ℤ pos unit) by.lo) (ceil_quotient (a.hi *ℤ pos unit) by.hi)) }
 {
-    if 0 <= x {
-        fraction(x, by.lo.unsigned_abs()).high()
+    if 0 <= a.hi {
+        fraction(a.hi, by.lo.unsigned_abs()).high()
     } else {
-        fraction(x, by.hi.unsigned_abs()).high()
+        fraction(a.hi, by.hi.unsigned_abs()).high()
     }
 }
 

@@ -1,6 +1,6 @@
 //! Square roots of intervals.
 
-ghost use Rattle.std.specs.Prelude.{◌≡◌, ◌<◌, ◌^◌, ◌*◌, pos};
+ghost use Rattle.std.specs.Prelude.{◌≡◌, ◌<◌, ◌≤◌, ◌^◌, ◌*◌, pos};
 ghost use Rattle.fix_interval.specs.Units.{unit};
 ghost use Rattle.fix_interval.specs.Round.{floor_root, ceil_root};
 ghost use Rattle.fix_interval.specs.Values.{low_radicand, root_of_high, is_below_zero, root_of};
@@ -35,11 +35,18 @@ fn below_zero(high: Option<i128>) -> bool
 fn low_root(low: Option<i128>) -> i128
     ensures { result ≡ pos (floor_root (low_radicand low * unit)) }
 {
-    let radicand = match low {
+    (radicand(low) * UNIT).isqrt() as i128
+}
+
+/// What the root of a low end is taken of.
+fn radicand(low: Option<i128>) -> u128
+    ensures value { result ≡ low_radicand low }
+    ensures limited { result < 2 ^ 95 }
+{
+    match low {
         Some(end) if 0 < end => (end as u128).min(RADICAND_LIMIT - 1),
         _ => 0,
-    };
-    (radicand * UNIT).isqrt() as i128
+    }
 }
 
 /// The root of a high end, rounded up.
@@ -47,12 +54,16 @@ fn high_root(high: Option<i128>) -> Option<i128>
     ensures { result ≡ root_of_high high }
 {
     match high {
-        Some(end) if 0 <= end && (end as u128) < RADICAND_LIMIT => {
-            let square = end as u128 * UNIT;
-            let root = square.isqrt();
-            let rounded = if root * root == square { root } else { root + 1 };
-            Some(rounded as i128)
-        }
+        Some(end) if 0 <= end && (end as u128) < RADICAND_LIMIT => Some(rounded_up(end as u128 * UNIT) as i128),
         _ => None,
     }
+}
+
+/// The root rounded up.
+fn rounded_up(n: u128) -> u128
+    ensures value { result ≡ ceil_root n }
+    ensures limited { result ≤ 2 ^ 64 }
+{
+    let root = n.isqrt();
+    if root * root == n { root } else { root + 1 }
 }

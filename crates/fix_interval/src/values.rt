@@ -121,7 +121,7 @@ fn greater_of_lows(x: Option<i128>, y: Option<i128>) -> Option<i128>
 }
 
 /// The lesser of two low ends; unbounded is minus infinity.
-fn lesser_of_lows(x: Option<i128>, y: Option<i128>) -> Option<i128>
+pub(crate) fn lesser_of_lows(x: Option<i128>, y: Option<i128>) -> Option<i128>
     ensures { result ≡ lesser_low x y }
 {
     match (x, y) {
@@ -131,7 +131,7 @@ fn lesser_of_lows(x: Option<i128>, y: Option<i128>) -> Option<i128>
 }
 
 /// The greater of two high ends; unbounded is plus infinity.
-fn greater_of_highs(x: Option<i128>, y: Option<i128>) -> Option<i128>
+pub(crate) fn greater_of_highs(x: Option<i128>, y: Option<i128>) -> Option<i128>
     ensures { result ≡ greater_high x y }
 {
     match (x, y) {
