@@ -55,8 +55,8 @@ fn decay_down(exponent: u64) -> u64
     requires { exponent < 23 * 2 ^ 32 }
     ensures { result ≡ exp_neg_low exponent }
 {
-    let whole = (exponent >> 32) as usize;
-    product_low(&DECAY_LOW, WHOLE_LOW[whole], (exponent & u64::from(u32::MAX)) as u32) >> 28
+    let start = WHOLE_LOW[(exponent >> 32) as usize];
+    product_low(&DECAY_LOW, start, (exponent & u64::from(u32::MAX)) as u32) >> 28
 }
 
 /// The same, rounded up.
@@ -64,8 +64,8 @@ fn decay_up(exponent: u64) -> u64
     requires { exponent < 23 * 2 ^ 32 }
     ensures { result ≡ exp_neg_high exponent }
 {
-    let whole = (exponent >> 32) as usize;
-    let product = product_high(&DECAY_HIGH, WHOLE_HIGH[whole], (exponent & u64::from(u32::MAX)) as u32);
+    let start = WHOLE_HIGH[(exponent >> 32) as usize];
+    let product = product_high(&DECAY_HIGH, start, (exponent & u64::from(u32::MAX)) as u32);
     (product >> 28) + u64::from(product & ((1 << 28) - 1) != 0)
 }
 

@@ -2,7 +2,7 @@
 
 ghost use Rattle.std.specs.Prelude.{◌≡◌, ◌<◌, ◌≤◌, ◌*◌, ◌^◌, ◌≤ℤ◌, IsSomeAnd, IfSome, pos, Some, option_and_then};
 ghost use Rattle.std.specs.Option.{option_map_or};
-ghost use Rattle.fix_interval.specs.Ten.{ten_of, ten_low, ten_high, raised_low, raised_high};
+ghost use Rattle.fix_interval.specs.Ten.{ten_of, ten_low, ten_high, raised_low, raised_high, fraction_low, fraction_high};
 
 use crate::product::{ONE, product_high, product_low};
 use crate::tables::{POWERS_OF_TEN, TEN_HIGH, TEN_LOW};
@@ -58,7 +58,7 @@ fn power_down(exponent: u64) -> u128
     ensures value { result ≡ raised_low exponent }
     ensures bound { result < 2 ^ 100 }
 {
-    let fraction = product_low(&TEN_LOW, ONE, (exponent & u64::from(u32::MAX)) as u32);
+    let fraction = fraction_down((exponent & u64::from(u32::MAX)) as u32);
     let whole = (exponent >> 32) as usize;
     if whole < 20 {
         u128::from((fraction >> 28) / POWERS_OF_TEN[20 - whole])
@@ -75,7 +75,7 @@ fn power_up(exponent: u64) -> u128
     ensures positive { 0 < result }
     ensures bound { result < 2 ^ 100 }
 {
-    let fraction = product_high(&TEN_HIGH, ONE, (exponent & u64::from(u32::MAX)) as u32);
+    let fraction = fraction_up((exponent & u64::from(u32::MAX)) as u32);
     let whole = (exponent >> 32) as usize;
     if whole < 20 {
         let units = (fraction >> 28) + u64::from(fraction & ((1 << 28) - 1) != 0);
@@ -84,6 +84,20 @@ fn power_up(exponent: u64) -> u128
         let product = u128::from(fraction) * u128::from(POWERS_OF_TEN[whole - 20]);
         (product + ((1 << 28) - 1)) >> 28
     }
+}
+
+/// Ten to the power of a fraction of 2^-32nds, in units of 2^-60, rounded down.
+fn fraction_down(fraction: u32) -> u64
+    ensures { result ≡ fraction_low fraction }
+{
+    product_low(&TEN_LOW, ONE, fraction)
+}
+
+/// The same, rounded up.
+fn fraction_up(fraction: u32) -> u64
+    ensures { result ≡ fraction_high fraction }
+{
+    product_high(&TEN_HIGH, ONE, fraction)
 }
 
 #[cfg(test)]

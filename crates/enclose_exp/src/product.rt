@@ -1,8 +1,8 @@
 //! Products of factors, in units of 2^-60.
 
 ghost use Rattle.std.specs.Prelude.{◌≡◌, ◌<◌, ◌*◌, ◌^◌, Bool, if◌then◌else◌, slice_index};
-ghost use Rattle.fix_interval.specs.Roots.{times_low, times_high, product_low, product_high};
-ghost use Rattle.enclose_exp.specs.Fits.{ProductsFitLow, ProductsFitHigh};
+ghost use Rattle.fix_interval.specs.Roots.{times_low, times_high, product};
+ghost use Rattle.enclose_exp.specs.Fits.{ProductsFit};
 
 /// The number 1 as factors count it.
 pub(crate) const ONE: u64 = 1 << 60;
@@ -10,8 +10,8 @@ pub(crate) const ONE: u64 = 1 << 60;
 /// The start times the factor of each place whose digit in the fraction is 1, rounded down. The places are
 /// those of the 32 binary digits of a fraction of 2^-32nds, the highest first.
 pub(crate) fn product_low(factors: &[u64; 32], start: u64, fraction: u32) -> u64
-    requires { ProductsFitLow (λ place. slice_index factors.now place) start fraction }
-    ensures { result ≡ product_low (λ place. slice_index factors.now place) start fraction 32 }
+    requires { ProductsFit times_low (λ place. slice_index factors.now place) start fraction }
+    ensures { result ≡ product times_low (λ place. slice_index factors.now place) start fraction 32 }
 {
     let mut product = start;
     for (place, factor) in factors.iter().enumerate() {
@@ -23,8 +23,8 @@ pub(crate) fn product_low(factors: &[u64; 32], start: u64, fraction: u32) -> u64
 
 /// The same product, rounded up.
 pub(crate) fn product_high(factors: &[u64; 32], start: u64, fraction: u32) -> u64
-    requires { ProductsFitHigh (λ place. slice_index factors.now place) start fraction }
-    ensures { result ≡ product_high (λ place. slice_index factors.now place) start fraction 32 }
+    requires { ProductsFit times_high (λ place. slice_index factors.now place) start fraction }
+    ensures { result ≡ product times_high (λ place. slice_index factors.now place) start fraction 32 }
 {
     let mut product = start;
     for (place, factor) in factors.iter().enumerate() {

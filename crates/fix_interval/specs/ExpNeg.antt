@@ -6,7 +6,7 @@ use Rattle.fix_interval.specs.Units.{unit}
 use Rattle.fix_interval.specs.Interval.{Interval, All}
 use Rattle.fix_interval.specs.Lg.{is_at_least}
 use Rattle.fix_interval.specs.Powers.{factorial_20, exponential_sum}
-use Rattle.fix_interval.specs.Roots.{one_factor, times_low, times_high, root_low, root_high, product_low, product_high}
+use Rattle.fix_interval.specs.Roots.{one_factor, times_low, times_high, root_low, root_high, product}
 
 -- 1/e rounded down and rounded up, in units of 2^-60
 unfoldable pub inverse_e_low : ℕ
@@ -33,10 +33,10 @@ decay_factor_high place = root_high inverse_e_high (suc place)
 
 -- 1/e to the power n, the whole part first and then the digits, in units of 2^-60
 unfoldable pub decay_low : ℕ → ℕ
-decay_low n = product_low decay_factor_low (whole_decay_low (n / unit)) (n % unit) 32
+decay_low n = product times_low decay_factor_low (whole_decay_low (n / unit)) (n % unit) 32
 
 unfoldable pub decay_high : ℕ → ℕ
-decay_high n = product_high decay_factor_high (whole_decay_high (n / unit)) (n % unit) 32
+decay_high n = product times_high decay_factor_high (whole_decay_high (n / unit)) (n % unit) 32
 
 -- 1/e to the power n, rounded down and rounded up; from 23 on it is less than the least end above 0
 unfoldable pub exp_neg_low : ℕ → ℕ

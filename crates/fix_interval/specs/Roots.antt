@@ -28,15 +28,9 @@ root_high factor (suc i) = ceil_root (root_high factor i * one_factor)
 abbrev pub digit_at : ℕ → ℕ → ℕ
 digit_at fraction place = fraction / 2 ^ (31 - place) % 2
 
--- the start times the factor of each of the first places whose digit is 1
-unfoldable pub product_low : (ℕ → ℕ) → ℕ → ℕ → ℕ → ℕ
-product_low factor start fraction zero = start
-product_low factor start fraction (suc place) =
-  let product = product_low factor start fraction place in
-  if digit_at fraction place == 1 then times_low product (factor place) else product
-
-unfoldable pub product_high : (ℕ → ℕ) → ℕ → ℕ → ℕ → ℕ
-product_high factor start fraction zero = start
-product_high factor start fraction (suc place) =
-  let product = product_high factor start fraction place in
-  if digit_at fraction place == 1 then times_high product (factor place) else product
+-- The start times the factor of each of the first places whose digit is 1. `times` rounds each product
+unfoldable pub product : (ℕ → ℕ → ℕ) → (ℕ → ℕ) → ℕ → ℕ → ℕ → ℕ
+product times factor start fraction zero = start
+product times factor start fraction (suc place) =
+  let before = product times factor start fraction place in
+  if digit_at fraction place == 1 then times before (factor place) else before

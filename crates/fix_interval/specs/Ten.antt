@@ -4,7 +4,7 @@ use Rattle.std.specs.Int.{div_ceil}
 use Rattle.std.specs.Option.{option_map_or}
 use Rattle.fix_interval.specs.Units.{unit}
 use Rattle.fix_interval.specs.Interval.{Interval}
-use Rattle.fix_interval.specs.Roots.{one_factor, root_low, root_high, product_low, product_high}
+use Rattle.fix_interval.specs.Roots.{one_factor, times_low, times_high, root_low, root_high, product}
 
 -- the factor of the digit at a place: 10 to the power of 1/2, 1/4 and so on
 unfoldable pub ten_factor_low : ℕ → ℕ
@@ -15,10 +15,10 @@ ten_factor_high place = root_high (10 * one_factor) (suc place)
 
 -- 10 to the power of a fraction, in units of 2^-60
 unfoldable pub fraction_low : ℕ → ℕ
-fraction_low fraction = product_low ten_factor_low one_factor fraction 32
+fraction_low fraction = product times_low ten_factor_low one_factor fraction 32
 
 unfoldable pub fraction_high : ℕ → ℕ
-fraction_high fraction = product_high ten_factor_high one_factor fraction 32
+fraction_high fraction = product times_high ten_factor_high one_factor fraction 32
 
 -- 10 to the power s - 20, where s is in units of 2^-32: so that exponents are not negative they count from -20
 abbrev pub raised_low : ℕ → ℕ
