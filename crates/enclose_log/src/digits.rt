@@ -1,6 +1,6 @@
 //! The binary digits of a logarithm, one a turn.
 
-ghost use Rattle.std.specs.Prelude.{◌≡◌, ◌<◌, ◌≤◌, ◌*◌, ◌^◌};
+ghost use Rattle.std.specs.Prelude.{◌≡◌, ◌<◌, ◌≤◌, ◌+◌, ◌*◌, ◌^◌, if◌then◌else◌};
 ghost use Rattle.fix_interval.specs.Lg.{LgTurn, turn_low, turn_high, one_mantissa, digits_low, digits_high, rounded_up};
 
 use std::marker::Model;
@@ -43,10 +43,7 @@ impl Turn {
         let tenth = half / 5;
         let whole = ((square >> 58) & WORD) as u64;
         let one = half >= 5 * ONE;
-        Turn {
-            mantissa: if one { tenth } else { whole },
-            digits: 2 * self.digits + u64::from(one),
-        }
+        self.followed_by(one, if one { tenth } else { whole })
     }
 
     /// The next digit, rounded up.
@@ -61,8 +58,18 @@ impl Turn {
         let tenth = (half + 4) / 5;
         let whole = (((square + ((1 << 58) - 1)) >> 58) & WORD) as u64;
         let one = half > 5 * ONE;
+        self.followed_by(one, if one { tenth } else { whole })
+    }
+
+    /// After one more digit, with the mantissa that it leaves.
+    #[inline(always)]
+    fn followed_by(self, one: bool, mantissa: u64) -> Turn
+        requires { self.digits < 2 ^ 32 }
+        ensures { result
+            ≡ record { mantissa = mantissa; digits = 2 * self.digits + (if one then 1 else 0) } }
+    {
         Turn {
-            mantissa: if one { tenth } else { whole },
+            mantissa,
             digits: 2 * self.digits + u64::from(one),
         }
     }

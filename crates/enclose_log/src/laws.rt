@@ -11,5 +11,4 @@ pub fn logarithm_is_enclosed()
     ensures interval { (i : Interval) → IsInterval i → IsSomeAnd i.lo (λ x. pos 1 ≤ℤ x) → IsInterval (lg_of i) }
     ensures encloses { (i : Interval) → IsInterval i → IsSomeAnd i.lo (λ x. pos 1 ≤ℤ x)
         → HoldsLogarithm i (lg_of i) }
-{
-}
+{}

@@ -30,18 +30,18 @@ one_mantissa = 2 ^ 58
 -- one digit, with quotients rounded down
 abbrev pub turn_low : LgTurn → LgTurn
 turn_low turn =
-  let square = turn.mantissa * turn.mantissa / one_mantissa in
-  if nat_le (10 * one_mantissa) square
-  then record { mantissa = square / 10; digits = 2 * turn.digits + 1 }
-  else record { mantissa = square; digits = 2 * turn.digits }
+    let square = turn.mantissa * turn.mantissa / one_mantissa in
+    if nat_le (10 * one_mantissa) square
+    then record { mantissa = square / 10; digits = 2 * turn.digits + 1 }
+    else record { mantissa = square; digits = 2 * turn.digits }
 
 -- one digit, with quotients rounded up
 abbrev pub turn_high : LgTurn → LgTurn
 turn_high turn =
-  let square = div_ceil (turn.mantissa * turn.mantissa) one_mantissa in
-  if nat_lt (10 * one_mantissa) square
-  then record { mantissa = div_ceil square 10; digits = 2 * turn.digits + 1 }
-  else record { mantissa = square; digits = 2 * turn.digits }
+    let square = div_ceil (turn.mantissa * turn.mantissa) one_mantissa in
+    if nat_lt (10 * one_mantissa) square
+    then record { mantissa = div_ceil square 10; digits = 2 * turn.digits + 1 }
+    else record { mantissa = square; digits = 2 * turn.digits }
 
 -- a number of turns, one after the other
 unfoldable pub turns : (LgTurn → LgTurn) → ℕ → LgTurn → LgTurn
@@ -86,11 +86,12 @@ is_at_least z (Some end) = int_le z end
 -- the logarithm of an interval, end by end; of one that does not stand above 0 nothing is known
 unfoldable pub lg_of : Interval → Interval
 lg_of i =
-  if is_at_least (pos 1) i.lo
-  then record {
-    lo = option_map (λ z. lg_low (unsigned_abs z)) i.lo;
-    hi = option_map (λ z. lg_high (unsigned_abs z)) i.hi }
-  else All
+    if is_at_least (pos 1) i.lo
+    then record {
+      lo = option_map (λ z. lg_low (unsigned_abs z)) i.lo;
+      hi = option_map (λ z. lg_high (unsigned_abs z)) i.hi;
+    }
+    else All
 
 -- a is at most the logarithm of n: 10^(a / 2^32) ≤ n / 2^32, raised to the power 2^32. A negative power of
 -- ten stands on the other side

@@ -4,5 +4,5 @@ use Rattle.enclose_log.proofs.start.decade.Goals as goal
 
 pub returns-else-end-eq0 : goal.returns-else-end-eq0
 returns-else-end-eq0 c =
-  let r = c.ilog10-else-end-eq0 in
-  decade-from_one c.args.end _ r.result c.requires.below refl r.ensures.power_le r.ensures.next_power_gt
+    let r = c.ilog10-else-end-eq0 in
+    decade-from_one c.args.end _ r.result c.requires.below refl r.ensures.power_le r.ensures.next_power_gt

@@ -8,4 +8,4 @@ returns-clause-low c = quotient-parts c.args.end c.args.power (2 ^ 26) c.require
 
 pub returns-clause-high : goal.returns-clause-high
 returns-clause-high c =
-  quotient_up-parts c.args.end c.args.power (2 ^ 26) c.from.result c.requires.positive (grind (arith, nat_tests))
+    quotient_up-parts c.args.end c.args.power (2 ^ 26) c.from.result c.requires.positive (grind (arith, nat_tests))

@@ -1,4 +1,4 @@
-use Rattle.std.proofs.Common.{◌+◌, ◌^◌, ℕ, refl, ap, ◌∙◌, zero-add}
+use Rattle.std.proofs.Common.{◌^◌, refl, ap, ◌∙◌, zero-add}
 use Rattle.enclose_log.specs.declared.start.TheConstants.{POWERS}
 use Rattle.enclose_log.proofs.Powers.{are_powers-at}
 use Rattle.enclose_log.proofs.start.power_of_ten.Goals as goal

@@ -1,6 +1,4 @@
-use Rattle.std.proofs.Common.{◌≡◌, ℕ, ◌*◌, ◌/◌, ◌^◌, ◌∙◌, sym, ap, arith}
-use Rattle.std.specs.Int.{div_ceil}
-use Rattle.fix_interval.specs.Lg.{decade_of}
+use Rattle.std.proofs.Common.{sym}
 use Rattle.enclose_log.proofs.DecadeLemmas.{decade_of-is, mantissa_low-within, mantissa_high-within}
 use Rattle.enclose_log.proofs.start.Start.of.Goals as goal
 
@@ -15,17 +13,16 @@ returns-clause-high c = rw (decade_of-is c.args.end c.decade-decade.result c.dec
 
 pub returns-clause-low_least : goal.returns-clause-low_least
 returns-clause-low_least c =
-  rw c.mantissas-low.ensures.low (mantissa_low-within c.args.end c.decade-decade.result c.decade-decade.ensures).0
+    rw c.mantissas-low.ensures.low (mantissa_low-within c.args.end c.decade-decade.result c.decade-decade.ensures).0
 
 pub returns-clause-low_below : goal.returns-clause-low_below
 returns-clause-low_below c =
-  rw c.mantissas-low.ensures.low (mantissa_low-within c.args.end c.decade-decade.result c.decade-decade.ensures).1
+    rw c.mantissas-low.ensures.low (mantissa_low-within c.args.end c.decade-decade.result c.decade-decade.ensures).1
 
 pub returns-clause-high_least : goal.returns-clause-high_least
 returns-clause-high_least c =
-  rw c.mantissas-low.ensures.high (mantissa_high-within c.args.end c.decade-decade.result c.decade-decade.ensures).0
+    rw c.mantissas-low.ensures.high (mantissa_high-within c.args.end c.decade-decade.result c.decade-decade.ensures).0
 
 pub returns-clause-high_most : goal.returns-clause-high_most
 returns-clause-high_most c =
-  rw c.mantissas-low.ensures.high (mantissa_high-within c.args.end c.decade-decade.result c.decade-decade.ensures).1
-
+    rw c.mantissas-low.ensures.high (mantissa_high-within c.args.end c.decade-decade.result c.decade-decade.ensures).1
