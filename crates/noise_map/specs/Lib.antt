@@ -8,3 +8,4 @@ pub mod Outcome
 pub mod Taking
 pub mod Progress
 pub mod Words
+pub mod Status

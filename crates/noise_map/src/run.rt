@@ -1,5 +1,5 @@
 //! The top call: all that the program does.
-ghost use Rattle.std.specs.Prelude.{◌≡◌, ◌≤◌, ℕ, Bool, true, false, List, length, map, string_bytes};
+ghost use Rattle.std.specs.Prelude.{◌≡◌, ◌↔◌, ◌≤◌, ℕ, Bool, true, false, List, length, map, string_bytes};
 ghost use Rattle.map_io.specs.Causes.{Rose};
 ghost use Rattle.map_io.specs.Reading.{HandsOut, PassesOver};
 ghost use Rattle.noise_map.specs.Words.{is_command_line};
@@ -81,4 +81,28 @@ fn run_lines<S: Source, K: Sink>(alloc: Global, input: &mut S, out: &mut K) -> R
             }
         }
     }
+}
+
+/// All that the program does: it reads the words of the command line, then line after line of the input, and writes the
+/// rows of each line before the next is read.
+pub fn run<S: Source + Send, K: Sink + Send, G: Gate + Sync>(alloc: Global, words: &[String], input: &mut S, out: &mut K, _gate: &G) -> Report
+    // The words are no command line: nothing is read or written.
+    ensures usage { (result.status ≡ Status.Usage) ↔ (is_command_line (map string_bytes words.now) ≡ false) }
+    ensures untouched { result.status ≡ Status.Usage → (input.new ≡ input.old) × (out.new ≡ out.old) × (result.lines ≡ 0) }
+
+    // Else the lines done, by the status, and what the sink has taken of their text.
+    ensures outcome { is_command_line (map string_bytes words.now) ≡ true →
+        Outcome result.status result.lines (S.left input.old) (S.left input.new) (K.taken out.old) (K.taken out.new) }
+
+    // A fault is answered only where the source or the sink has failed in this call.
+    ensures read_fault { result.status ≡ Status.ReadFault → Rose (S.faults input.old) (S.faults input.new) }
+    ensures write_fault { result.status ≡ Status.WriteFault → Rose (K.faults out.old) (K.faults out.new) }
+{
+    if words.len() != 1 {
+        return Report {
+            status: Status::Usage,
+            lines: 0,
+        };
+    }
+    run_lines(alloc, input, out)
 }

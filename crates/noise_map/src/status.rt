@@ -1,4 +1,8 @@
 //! How a run ends.
+ghost use Rattle.std.specs.Prelude.{◌≡◌};
+ghost use Rattle.noise_map.specs.Status.{exit_code_of, fault_of};
+
+use thiserror::Error;
 
 /// How a run ended.
 #[derive(Clone, Copy, Debug, PartialEq, Eq)]
@@ -17,6 +21,52 @@ pub enum Status {
     NoMemory,
     /// 67,108,864 bytes were read, and one more came.
     InputLimit,
+}
+
+impl Status {
+    /// The exit status of the program, from 0 to 6.
+    pub fn exit_code(self) -> u8
+        ensures { result ≡ exit_code_of self }
+    {
+        match self {
+            Status::Done => 0,
+            Status::SomeRefused => 1,
+            Status::Usage => 2,
+            Status::ReadFault => 3,
+            Status::WriteFault => 4,
+            Status::NoMemory => 5,
+            Status::InputLimit => 6,
+        }
+    }
+
+    /// What is said of it on standard error, for those statuses that break a run off.
+    pub fn fault(self) -> Option<Fault>
+        ensures { result ≡ fault_of self }
+    {
+        match self {
+            Status::Done | Status::SomeRefused => None,
+            Status::Usage => Some(Fault::Usage),
+            Status::ReadFault => Some(Fault::Read),
+            Status::WriteFault => Some(Fault::Write),
+            Status::NoMemory => Some(Fault::Memory),
+            Status::InputLimit => Some(Fault::Limit),
+        }
+    }
+}
+
+/// What broke a run off, as standard error says it.
+#[derive(Clone, Copy, Debug, Drop, Error, PartialEq, Eq)]
+pub enum Fault {
+    #[error("usage")]
+    Usage,
+    #[error("read fault")]
+    Read,
+    #[error("write fault")]
+    Write,
+    #[error("no memory")]
+    Memory,
+    #[error("input limit")]
+    Limit,
 }
 
 /// What a run answers.
