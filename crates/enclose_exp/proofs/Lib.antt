@@ -4,5 +4,7 @@ pub mod Law
 pub mod Powers
 pub mod Roots
 pub mod Scaling
+pub mod Shifted
 pub mod TableLemmas
+pub mod TenInterval
 pub mod TenLaw

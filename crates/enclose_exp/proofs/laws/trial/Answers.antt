@@ -1,5 +1,5 @@
 use Rattle.std.proofs.Common.{refl}
-use Rattle.enclose_exp.proofs.TenLaw.{raised_low-law}
+use Rattle.enclose_exp.proofs.TenInterval.{Place}
 use Rattle.enclose_exp.proofs.laws.trial.Goals as goal
 
 pub returns : goal.returns
