@@ -1,3 +1,10 @@
 pub mod Products
+pub mod Exponents
+pub mod Law
+pub mod Powers
 pub mod Roots
+pub mod Scaling
+pub mod Shifted
 pub mod TableLemmas
+pub mod TenInterval
+pub mod TenLaw

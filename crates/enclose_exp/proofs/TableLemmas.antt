@@ -11,7 +11,7 @@ use Rattle.fix_interval.specs.ExpNeg.{inverse_e_low, inverse_e_high, whole_decay
 use Rattle.fix_interval.specs.Powers.{factorial_20, exponential_sum}
 use Rattle.enclose_exp.specs.declared.tables.TheConstants.{TEN_LOW, TEN_HIGH, DECAY_LOW, DECAY_HIGH, WHOLE_LOW, WHOLE_HIGH, POWERS_OF_TEN}
 use Rattle.enclose_exp.specs.Fits.{ProductsFit}
-use Rattle.enclose_exp.proofs.Products.{Grows, product_of_all, product-same, fits-growing, fits-shrinking}
+use Rattle.enclose_exp.proofs.Products.{Grows, product_of_all, product-same, product-le_all, fits-growing, fits-shrinking}
 use Rattle.enclose_exp.proofs.Roots.{are_roots_low, are_roots_high, roots_low-at, roots_high-at}
 
 -- ---- the two roundings of a product
@@ -116,3 +116,14 @@ decay_low-is start fraction = product-same times_low (λ i. get_or DECAY_LOW i 0
 
 pub decay_high-is : (start fraction : ℕ) → product times_high (λ i. get_or DECAY_HIGH i 0) start fraction 32 ≡ product times_high decay_factor_high start fraction 32
 decay_high-is start fraction = product-same times_high (λ i. get_or DECAY_HIGH i 0) decay_factor_high start fraction 32 decay_high-at
+
+-- fractions of a power fit 64 bits
+pub fraction_low-small : (fraction : ℕ) → fraction_low fraction < 2 ^ 64
+fraction_low-small fraction =
+  let most : product_of_all times_low TEN_LOW one_factor < 2 ^ 64 = lit< tt in
+  rw (← ten_low-is fraction) (omega (arith, most, product-le_all times_low one_factor grows-low TEN_LOW one_factor fraction 32 (λ i h. all_from-at one_factor TEN_LOW i refl h) (omega arith)))
+
+pub fraction_high-small : (fraction : ℕ) → fraction_high fraction < 2 ^ 64
+fraction_high-small fraction =
+  let most : product_of_all times_high TEN_HIGH one_factor < 2 ^ 64 = lit< tt in
+  rw (← ten_high-is fraction) (omega (arith, most, product-le_all times_high one_factor grows-high TEN_HIGH one_factor fraction 32 (λ i h. all_from-at one_factor TEN_HIGH i refl h) (omega arith)))

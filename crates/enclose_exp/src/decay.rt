@@ -4,7 +4,7 @@ ghost use Rattle.std.specs.Prelude.{◌≡◌, ◌<◌, ◌≤◌, ◌*◌, ◌^
 ghost use Rattle.std.specs.Option.{option_map, option_map_or, ForSome};
 ghost use Rattle.fix_interval.specs.ExpNeg.{exp_neg_of, exp_neg_low, exp_neg_high};
 
-use crate::product::{product_high, product_low};
+use crate::product::{product_high, product_low, units_up};
 use crate::tables::{DECAY_HIGH, DECAY_LOW, WHOLE_HIGH, WHOLE_LOW};
 use fix_interval::Iv;
 
@@ -23,16 +23,18 @@ pub fn exp_neg(a: Iv) -> Iv
     Iv::of_ends(low_decay(a.high()), high_decay(a.low()))
 }
 
-/// The low end of the result, from the high end of the argument.
+/// The low end of the result, from the high end of the argument. Unbounded, that gives 0.
 fn low_decay(end: Option<i128>) -> Option<i128>
     requires { ForSome end (λ x. pos 0 ≤ℤ x) }
     ensures { result ≡ Some (pos (option_map_or (λ z. exp_neg_low (unsigned_abs z)) end 0)) }
 {
-    match end {
-        Some(exponent) if exponent < GREATEST => {
-            Some(i128::from(decay_down(exponent as u64)))
-        }
-        _ => Some(0),
+    let Some(exponent) = end else {
+        return Some(0);
+    };
+    if exponent < GREATEST {
+        Some(i128::from(decay_down(exponent as u64)))
+    } else {
+        Some(0)
     }
 }
 
@@ -41,12 +43,11 @@ fn high_decay(end: Option<i128>) -> Option<i128>
     requires { ForSome end (λ x. pos 0 ≤ℤ x) }
     ensures { result ≡ option_map (λ z. pos (exp_neg_high (unsigned_abs z))) end }
 {
-    match end {
-        Some(exponent) if exponent < GREATEST => {
-            Some(i128::from(decay_up(exponent as u64)))
-        }
-        Some(_) => Some(1),
-        None => None,
+    let exponent = end?;
+    if exponent < GREATEST {
+        Some(i128::from(decay_up(exponent as u64)))
+    } else {
+        Some(1)
     }
 }
 
@@ -56,7 +57,7 @@ fn decay_down(exponent: u64) -> u64
     ensures { result ≡ exp_neg_low exponent }
 {
     let start = WHOLE_LOW[(exponent >> 32) as usize];
-    product_low(&DECAY_LOW, start, (exponent & u64::from(u32::MAX)) as u32) >> 28
+    product_low(&DECAY_LOW, start, (exponent % (1 << 32)) as u32) >> 28
 }
 
 /// The same, rounded up.
@@ -65,8 +66,7 @@ fn decay_up(exponent: u64) -> u64
     ensures { result ≡ exp_neg_high exponent }
 {
     let start = WHOLE_HIGH[(exponent >> 32) as usize];
-    let product = product_high(&DECAY_HIGH, start, (exponent & u64::from(u32::MAX)) as u32);
-    (product >> 28) + u64::from(product & ((1 << 28) - 1) != 0)
+    units_up(product_high(&DECAY_HIGH, start, (exponent % (1 << 32)) as u32))
 }
 
 #[cfg(test)]

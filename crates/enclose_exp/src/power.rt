@@ -4,7 +4,7 @@ ghost use Rattle.std.specs.Prelude.{◌≡◌, ◌<◌, ◌≤◌, ◌*◌, ◌^
 ghost use Rattle.std.specs.Option.{option_map_or};
 ghost use Rattle.fix_interval.specs.Ten.{ten_of, ten_low, ten_high, raised_low, raised_high, fraction_low, fraction_high};
 
-use crate::product::{ONE, product_high, product_low};
+use crate::product::{ONE, product_high, product_low, units_up};
 use crate::tables::{POWERS_OF_TEN, TEN_HIGH, TEN_LOW};
 use fix_interval::Iv;
 
@@ -25,29 +25,33 @@ pub fn ten(a: Iv) -> Iv
     Iv::of_ends(low_power(a.low()), high_power(a.high()))
 }
 
-/// Ten to the power of a low end.
+/// Ten to the power of a low end. Unbounded, it gives 0.
 fn low_power(end: Option<i128>) -> Option<i128>
     ensures { result ≡ Some (pos (option_map_or ten_low end 0)) }
 {
-    match end {
-        Some(exponent) if exponent >= GREATEST => Some(100_000_000_000_000_000_000 << 32),
-        Some(exponent) if exponent >= LEAST => {
-            Some(power_down((exponent + GREATEST) as u64) as i128)
-        }
-        _ => Some(0),
+    let Some(exponent) = end else {
+        return Some(0);
+    };
+    if exponent >= GREATEST {
+        Some(100_000_000_000_000_000_000 << 32)
+    } else if exponent < LEAST {
+        Some(0)
+    } else {
+        Some(power_down((exponent + GREATEST) as u64) as i128)
     }
 }
 
-/// Ten to the power of a high end.
+/// Ten to the power of a high end. Unbounded, it stays so.
 fn high_power(end: Option<i128>) -> Option<i128>
     ensures { result ≡ option_and_then ten_high end }
 {
-    match end {
-        Some(exponent) if exponent < LEAST => Some(1),
-        Some(exponent) if exponent < GREATEST => {
-            Some(power_up((exponent + GREATEST) as u64) as i128)
-        }
-        _ => None,
+    let exponent = end?;
+    if exponent >= GREATEST {
+        None
+    } else if exponent < LEAST {
+        Some(1)
+    } else {
+        Some(power_up((exponent + GREATEST) as u64) as i128)
     }
 }
 
@@ -58,12 +62,12 @@ fn power_down(exponent: u64) -> u128
     ensures value { result ≡ raised_low exponent }
     ensures bound { result < 2 ^ 100 }
 {
-    let fraction = fraction_down((exponent & u64::from(u32::MAX)) as u32);
+    let fraction = fraction_down((exponent % (1 << 32)) as u32);
     let whole = (exponent >> 32) as usize;
     if whole < 20 {
-        u128::from((fraction >> 28) / POWERS_OF_TEN[20 - whole])
+        u128::from((fraction >> 28) / power_of_ten(20 - whole))
     } else {
-        (u128::from(fraction) * u128::from(POWERS_OF_TEN[whole - 20])) >> 28
+        (u128::from(fraction) * u128::from(power_of_ten(whole - 20))) >> 28
     }
 }
 
@@ -72,18 +76,25 @@ fn power_up(exponent: u64) -> u128
     requires above { 2 ^ 32 ≤ exponent }
     requires below { exponent < 40 * 2 ^ 32 }
     ensures value { result ≡ raised_high exponent }
-    ensures positive { 0 < result }
-    ensures bound { result < 2 ^ 100 }
+    ensures bound { result < 2 ^ 101 }
 {
-    let fraction = fraction_up((exponent & u64::from(u32::MAX)) as u32);
+    let fraction = fraction_up((exponent % (1 << 32)) as u32);
     let whole = (exponent >> 32) as usize;
     if whole < 20 {
-        let units = (fraction >> 28) + u64::from(fraction & ((1 << 28) - 1) != 0);
-        u128::from(units.div_ceil(POWERS_OF_TEN[20 - whole]))
+        u128::from(units_up(fraction).div_ceil(power_of_ten(20 - whole)))
     } else {
-        let product = u128::from(fraction) * u128::from(POWERS_OF_TEN[whole - 20]);
+        let product = u128::from(fraction) * u128::from(power_of_ten(whole - 20));
         (product + ((1 << 28) - 1)) >> 28
     }
+}
+
+/// 10 to a whole power below 20.
+fn power_of_ten(exponent: usize) -> u64
+    requires { exponent < 20 }
+    ensures value { result ≡ 10 ^ exponent }
+    ensures positive { 0 < result }
+{
+    POWERS_OF_TEN[exponent]
 }
 
 /// Ten to the power of a fraction of 2^-32nds, in units of 2^-60, rounded down.

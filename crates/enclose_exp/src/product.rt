@@ -1,6 +1,7 @@
 //! Products of factors, in units of 2^-60.
 
 ghost use Rattle.std.specs.Prelude.{◌≡◌, ◌<◌, ◌*◌, ◌^◌, Bool, if◌then◌else◌, slice_index};
+ghost use Rattle.std.specs.Int.{div_ceil};
 ghost use Rattle.fix_interval.specs.Roots.{times_low, times_high, product};
 ghost use Rattle.enclose_exp.specs.Fits.{ProductsFit};
 
@@ -32,6 +33,13 @@ pub(crate) fn product_high(factors: &[u64; 32], start: u64, fraction: u32) -> u6
         product = next_high(product, *factor, digit);
     }
     product
+}
+
+/// A factor in units of 2^-32, rounded up.
+pub(crate) fn units_up(factor: u64) -> u64
+    ensures { result ≡ div_ceil factor (2 ^ 28) }
+{
+    (factor >> 28) + u64::from(factor % (1 << 28) != 0)
 }
 
 /// The product with one more factor, rounded down, if the digit is 1. A digit 0 multiplies by one, which

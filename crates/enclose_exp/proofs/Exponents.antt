@@ -1,0 +1,56 @@
+-- The ranges of exponents.
+use Rattle.std.proofs.Common.{◌≡◌, ℕ, zero, suc, ◌+◌, ◌-◌, ◌*◌, ◌/◌, ◌%◌, ◌^◌, ◌<◌, ◌≤◌, true, false, refl, sym, ap, ◌∙◌, arith, rules, ℤ, pos, negsuc, ◌+ℤ◌, ◌≤ℤ◌, ◌<ℤ◌, neg_ℤ, unsigned_abs, Option, Some, None}
+use Rattle.std.proofs.lemmas.Int.{ints}
+use Rattle.std.specs.Prelude.{int_le, int_lt}
+use mir.Syntax.{w128}
+use mir.Val.{SFits, to_z, of_z}
+use Rattle.fix_interval.specs.Units.{unit, unit-is}
+use Rattle.fix_interval.specs.Ten.{ten_low, ten_high, raised_low, raised_high}
+
+pub ten_low-greatest : (n : ℤ) → pos (20 * 2 ^ 32) ≤ℤ n → ten_low n ≡ 10 ^ 20 * 2 ^ 32
+unfolding ten_low
+ten_low-greatest n h = rw unit-is (let e : int_le (pos (20 * 2 ^ 32)) n ≡ true = grind (arith, ints) in rw e refl)
+
+pub ten_low-least : (n : ℤ) → n <ℤ neg_ℤ (pos (19 * 2 ^ 32)) → ten_low n ≡ 0
+unfolding ten_low
+ten_low-least n h =
+  rw unit-is (let e : int_le (pos (20 * 2 ^ 32)) n ≡ false = grind (arith, ints) in
+    let f : int_lt n (neg_ℤ (pos (19 * 2 ^ 32))) ≡ true = grind (arith, ints) in rw (e, f) refl)
+
+pub ten_low-within : (n : ℤ) → neg_ℤ (pos (19 * 2 ^ 32)) ≤ℤ n → n <ℤ pos (20 * 2 ^ 32) → ten_low n ≡ raised_low (unsigned_abs (n +ℤ pos (20 * 2 ^ 32)))
+unfolding ten_low
+ten_low-within n low high =
+  rw unit-is (let e : int_le (pos (20 * 2 ^ 32)) n ≡ false = grind (arith, ints) in
+    let f : int_lt n (neg_ℤ (pos (19 * 2 ^ 32))) ≡ false = grind (arith, ints) in rw (e, f) refl)
+
+pub ten_high-greatest : (n : ℤ) → pos (20 * 2 ^ 32) ≤ℤ n → ten_high n ≡ None
+unfolding ten_high
+ten_high-greatest n h = rw unit-is (let e : int_le (pos (20 * 2 ^ 32)) n ≡ true = grind (arith, ints) in rw e refl)
+
+pub ten_high-least : (n : ℤ) → n <ℤ neg_ℤ (pos (19 * 2 ^ 32)) → ten_high n ≡ Some (pos 1)
+unfolding ten_high
+ten_high-least n h =
+  rw unit-is (let e : int_le (pos (20 * 2 ^ 32)) n ≡ false = grind (arith, ints) in
+    let f : int_lt n (neg_ℤ (pos (19 * 2 ^ 32))) ≡ true = grind (arith, ints) in rw (e, f) refl)
+
+pub ten_high-within : (n : ℤ) → neg_ℤ (pos (19 * 2 ^ 32)) ≤ℤ n → n <ℤ pos (20 * 2 ^ 32) → ten_high n ≡ Some (pos (raised_high (unsigned_abs (n +ℤ pos (20 * 2 ^ 32)))))
+unfolding ten_high
+ten_high-within n low high =
+  rw unit-is (let e : int_le (pos (20 * 2 ^ 32)) n ≡ false = grind (arith, ints) in
+    let f : int_lt n (neg_ℤ (pos (19 * 2 ^ 32))) ≡ false = grind (arith, ints) in rw (e, f) refl)
+
+-- what the code calculates within the range
+pub low-made : (z : ℤ) (r : ℕ) → SFits w128 z → neg_ℤ (pos (19 * 2 ^ 32)) ≤ℤ z → z <ℤ pos (20 * 2 ^ 32) →
+  r ≡ raised_low (unsigned_abs (to_z w128 (of_z w128 (to_z w128 (of_z w128 z) +ℤ pos (20 * 2 ^ 32))))) → r < 2 ^ 101 → Some (to_z w128 r) ≡ Some (pos (ten_low z))
+low-made z r fits low high made small =
+  let shifted : to_z w128 (of_z w128 (to_z w128 (of_z w128 z) +ℤ pos (20 * 2 ^ 32))) ≡ z +ℤ pos (20 * 2 ^ 32) = omega (arith, ints) in
+  let value : r ≡ ten_low z = made ∙ ap (λ y. raised_low (unsigned_abs y)) shifted ∙ sym (ten_low-within z low high) in
+  let whole : to_z w128 r ≡ pos r = omega (arith, ints) in
+  ap Some (whole ∙ ap pos value)
+
+pub high-made : (z : ℤ) (r : ℕ) → SFits w128 z → neg_ℤ (pos (19 * 2 ^ 32)) ≤ℤ z → z <ℤ pos (20 * 2 ^ 32) →
+  r ≡ raised_high (unsigned_abs (to_z w128 (of_z w128 (to_z w128 (of_z w128 z) +ℤ pos (20 * 2 ^ 32))))) → r < 2 ^ 101 → Some (to_z w128 r) ≡ ten_high z
+high-made z r fits low high made small =
+  let shifted : to_z w128 (of_z w128 (to_z w128 (of_z w128 z) +ℤ pos (20 * 2 ^ 32))) ≡ z +ℤ pos (20 * 2 ^ 32) = omega (arith, ints) in
+  let whole : to_z w128 r ≡ pos r = omega (arith, ints) in
+  ap Some (whole ∙ ap pos (made ∙ ap (λ y. raised_high (unsigned_abs y)) shifted)) ∙ sym (ten_high-within z low high)
