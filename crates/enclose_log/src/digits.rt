@@ -1,12 +1,12 @@
 //! The binary digits of a logarithm, one a turn.
 
-ghost use Rattle.std.specs.Prelude.{◌≡◌, ◌<◌, ◌≤◌, ◌*◌, ◌^◌};
-ghost use Rattle.fix_interval.specs.Lg.{LgTurn, turn_low, turn_high, one_mantissa, digits_low, digits_high};
+ghost use Rattle.std.specs.Prelude.{◌≡◌, ◌<◌, ◌≤◌, ◌+◌, ◌*◌, ◌^◌, if◌then◌else◌};
+ghost use Rattle.fix_interval.specs.Lg.{LgTurn, turn_low, turn_high, one_mantissa, digits_low, digits_high, rounded_up};
 
 use std::marker::Model;
 
 /// The number 1 as a mantissa counts it.
-pub(crate) const ONE: u64 = 1 << 58;
+const ONE: u64 = 1 << 58;
 
 /// The least 64 bits of a number.
 const WORD: u128 = u64::MAX as u128;
@@ -14,9 +14,9 @@ const WORD: u128 = u64::MAX as u128;
 /// Where the digits stand between two turns: the mantissa, from 1 to 10 in units of 2^-58, whose logarithm
 /// is still to be found, and the digits so far.
 #[derive(Clone, Copy, Drop)]
-pub(crate) struct Turn {
-    pub(crate) mantissa: u64,
-    pub(crate) digits: u64,
+struct Turn {
+    mantissa: u64,
+    digits: u64,
 }
 
 impl Model for Turn {
@@ -43,10 +43,7 @@ impl Turn {
         let tenth = half / 5;
         let whole = ((square >> 58) & WORD) as u64;
         let one = half >= 5 * ONE;
-        Turn {
-            mantissa: if one { tenth } else { whole },
-            digits: 2 * self.digits + u64::from(one),
-        }
+        self.followed_by(one, if one { tenth } else { whole })
     }
 
     /// The next digit, rounded up.
@@ -61,19 +58,42 @@ impl Turn {
         let tenth = (half + 4) / 5;
         let whole = (((square + ((1 << 58) - 1)) >> 58) & WORD) as u64;
         let one = half > 5 * ONE;
+        self.followed_by(one, if one { tenth } else { whole })
+    }
+
+    /// After one more digit, with the mantissa that it leaves.
+    #[inline(always)]
+    fn followed_by(self, one: bool, mantissa: u64) -> Turn
+        requires { self.digits < 2 ^ 32 }
+        ensures { result
+            ≡ record { mantissa = mantissa; digits = 2 * self.digits + (if one then 1 else 0) } }
+    {
         Turn {
-            mantissa: if one { tenth } else { whole },
+            mantissa,
             digits: 2 * self.digits + u64::from(one),
         }
     }
+
+    /// The digits, rounded up: one more where something is left.
+    fn rounded_up(self) -> u64
+        requires { self.digits < 2 ^ 32 }
+        ensures { result ≡ rounded_up self }
+    {
+        self.digits + u64::from(self.mantissa != ONE)
+    }
 }
 
-/// All 32 digits of two mantissas, of the first rounded down and of the second rounded up, side by side.
-pub(crate) fn digits(low: u64, high: u64) -> (Turn, Turn)
-    requires low { low < 10 * one_mantissa }
-    requires high { high ≤ 10 * one_mantissa }
-    ensures low { result.0 ≡ digits_low low }
-    ensures high { result.1 ≡ digits_high high }
+/// All 32 digits of two mantissas, side by side: of the first with quotients rounded down, and of the second
+/// with quotients rounded up, one more where something is left.
+pub(crate) fn digits(low: u64, high: u64) -> (u64, u64)
+    requires low_least { one_mantissa ≤ low }
+    requires low_below { low < 10 * one_mantissa }
+    requires high_least { one_mantissa ≤ high }
+    requires high_most { high ≤ 10 * one_mantissa }
+    ensures low { result.0 ≡ (digits_low low).digits }
+    ensures low_bound { result.0 < 2 ^ 32 }
+    ensures high { result.1 ≡ rounded_up (digits_high high) }
+    ensures high_bound { result.1 ≤ 2 ^ 32 }
 {
     let mut down = Turn {
         mantissa: low,
@@ -87,5 +107,5 @@ pub(crate) fn digits(low: u64, high: u64) -> (Turn, Turn)
         down = down.next_low();
         up = up.next_high();
     }
-    (down, up)
+    (down.digits, up.rounded_up())
 }

@@ -7,7 +7,7 @@
 
 mod digits;
 pub mod laws;
-mod lg;
+mod logarithm;
 mod start;
 
-pub use lg::lg;
+pub use logarithm::lg;

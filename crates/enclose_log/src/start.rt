@@ -2,7 +2,8 @@
 
 ghost use Rattle.std.specs.Prelude.{◌≡◌, ◌<◌, ◌≤◌, ◌+◌, ◌*◌, ◌/◌, ◌^◌};
 ghost use Rattle.std.specs.Int.{div_ceil};
-ghost use Rattle.fix_interval.specs.Lg.{one_mantissa, decade, mantissa_low, mantissa_high};
+ghost use Rattle.enclose_log.specs.Decade.{IsDecade};
+ghost use Rattle.fix_interval.specs.Lg.{one_mantissa, decade_of, mantissa_low, mantissa_high};
 
 /// The powers of ten up to that of the last decade.
 const POWERS: [u128; 29] = [
@@ -53,12 +54,14 @@ impl Start {
     pub(crate) fn of(end: u128) -> Start
         requires positive { 0 < end }
         requires below { end < 2 ^ 126 }
-        ensures decade { result.decade ≡ decade end }
+        ensures decade { result.decade ≡ decade_of end }
         ensures decade_bound { result.decade < 39 }
         ensures low { result.low ≡ mantissa_low end }
-        ensures low_bound { result.low < 10 * one_mantissa }
+        ensures low_least { one_mantissa ≤ result.low }
+        ensures low_below { result.low < 10 * one_mantissa }
         ensures high { result.high ≡ mantissa_high end }
-        ensures high_bound { result.high ≤ 10 * one_mantissa }
+        ensures high_least { one_mantissa ≤ result.high }
+        ensures high_most { result.high ≤ 10 * one_mantissa }
     {
         let decade = decade(end);
         let (low, high) = mantissas(end, decade);
@@ -70,31 +73,41 @@ impl Start {
 fn decade(end: u128) -> u32
     requires positive { 0 < end }
     requires below { end < 2 ^ 126 }
-    ensures { result ≡ decade end }
+    ensures { IsDecade end result }
 {
     if end >> 32 == 0 {
-        ((end * POWERS[10]) >> 32).ilog10()
+        ((end * power_of_ten(10)) >> 32).ilog10()
     } else {
         10 + (end >> 32).ilog10()
     }
 }
 
-/// The mantissa of an end of this decade, rounded down and rounded up. An end below 1 has a whole one.
+/// The mantissa of an end of this decade, rounded down and rounded up. That of an end below 1 is whole.
 fn mantissas(end: u128, decade: u32) -> (u64, u64)
     requires positive { 0 < end }
     requires below { end < 2 ^ 126 }
-    requires decade { decade ≡ Lg.decade end }
-    ensures low { result.0 ≡ mantissa_low end }
-    ensures high { result.1 ≡ mantissa_high end }
+    requires decade { IsDecade end decade }
+    ensures low { result.0 ≡ 10 ^ 10 * end * 2 ^ 26 / 10 ^ decade }
+    ensures high { result.1 ≡ div_ceil (10 ^ 10 * end * 2 ^ 26) (10 ^ decade) }
 {
     if decade < 10 {
-        let whole = (end * POWERS[(10 - decade) as usize] * (1 << 26)) as u64;
-        (whole, whole)
-    } else if end >> 64 == 0 {
-        narrow_quotient(end as u64, POWERS[(decade - 10) as usize] as u64)
-    } else {
-        wide_quotient(end, POWERS[(decade - 10) as usize])
+        let whole = (end * power_of_ten(10 - decade) * (1 << 26)) as u64;
+        return (whole, whole);
     }
+    let power = power_of_ten(decade - 10);
+    if end >> 64 == 0 {
+        narrow_quotient(end as u64, power as u64)
+    } else {
+        wide_quotient(end, power)
+    }
+}
+
+/// A power of ten, up to that of the last decade.
+fn power_of_ten(exponent: u32) -> u128
+    requires { exponent < 29 }
+    ensures { result ≡ 10 ^ exponent }
+{
+    POWERS[exponent as usize]
 }
 
 /// `end * 2^26 / power`, rounded down and rounded up, in 64 bits.

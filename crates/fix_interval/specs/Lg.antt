@@ -14,8 +14,8 @@ greatest passes (suc limit) = if passes (suc limit) then suc limit else greatest
 
 -- The decade of the end n: the greatest k with 10^k ≤ n / 2^32. The least end, 1, has the decade -10, and
 -- ends below 2^126 reach 28. So that it is never negative it counts from -10 here.
-unfoldable pub decade : ℕ → ℕ
-decade n = greatest (λ k. nat_le (10 ^ k * unit) (10 ^ 10 * n)) 38
+unfoldable pub decade_of : ℕ → ℕ
+decade_of n = greatest (λ k. nat_le (10 ^ k * unit) (10 ^ 10 * n)) 38
 
 -- Between two digits: the mantissa, from 1 to 10 in units of 2^-58, whose logarithm is still to be found,
 -- and the digits so far as one binary number
@@ -30,18 +30,18 @@ one_mantissa = 2 ^ 58
 -- one digit, with quotients rounded down
 abbrev pub turn_low : LgTurn → LgTurn
 turn_low turn =
-  let square = turn.mantissa * turn.mantissa / one_mantissa in
-  if nat_le (10 * one_mantissa) square
-  then record { mantissa = square / 10; digits = 2 * turn.digits + 1 }
-  else record { mantissa = square; digits = 2 * turn.digits }
+    let square = turn.mantissa * turn.mantissa / one_mantissa in
+    if nat_le (10 * one_mantissa) square
+    then record { mantissa = square / 10; digits = 2 * turn.digits + 1 }
+    else record { mantissa = square; digits = 2 * turn.digits }
 
 -- one digit, with quotients rounded up
 abbrev pub turn_high : LgTurn → LgTurn
 turn_high turn =
-  let square = div_ceil (turn.mantissa * turn.mantissa) one_mantissa in
-  if nat_lt (10 * one_mantissa) square
-  then record { mantissa = div_ceil square 10; digits = 2 * turn.digits + 1 }
-  else record { mantissa = square; digits = 2 * turn.digits }
+    let square = div_ceil (turn.mantissa * turn.mantissa) one_mantissa in
+    if nat_lt (10 * one_mantissa) square
+    then record { mantissa = div_ceil square 10; digits = 2 * turn.digits + 1 }
+    else record { mantissa = square; digits = 2 * turn.digits }
 
 -- a number of turns, one after the other
 unfoldable pub turns : (LgTurn → LgTurn) → ℕ → LgTurn → LgTurn
@@ -50,10 +50,10 @@ turns turn (suc count) start = turn (turns turn count start)
 
 -- the mantissa before the first digit, n / 2^32 over its power of ten, rounded down and rounded up
 abbrev pub mantissa_low : ℕ → ℕ
-mantissa_low n = 10 ^ 10 * n * 2 ^ 26 / 10 ^ decade n
+mantissa_low n = 10 ^ 10 * n * 2 ^ 26 / 10 ^ decade_of n
 
 abbrev pub mantissa_high : ℕ → ℕ
-mantissa_high n = div_ceil (10 ^ 10 * n * 2 ^ 26) (10 ^ decade n)
+mantissa_high n = div_ceil (10 ^ 10 * n * 2 ^ 26) (10 ^ decade_of n)
 
 -- all 32 digits from a mantissa
 unfoldable pub digits_low : ℕ → LgTurn
@@ -72,11 +72,11 @@ decade_and_digits k f = pos (k * unit + f) -ℤ pos (10 * unit)
 
 -- the logarithm of the end n, rounded down
 unfoldable pub lg_low : ℕ → ℤ
-lg_low n = decade_and_digits (decade n) (digits_low (mantissa_low n)).digits
+lg_low n = decade_and_digits (decade_of n) (digits_low (mantissa_low n)).digits
 
 -- the logarithm of the end n, rounded up
 unfoldable pub lg_high : ℕ → ℤ
-lg_high n = decade_and_digits (decade n) (rounded_up (digits_high (mantissa_high n)))
+lg_high n = decade_and_digits (decade_of n) (rounded_up (digits_high (mantissa_high n)))
 
 -- the end is bounded and not below z
 abbrev pub is_at_least : ℤ → Option ℤ → Bool
@@ -86,11 +86,12 @@ is_at_least z (Some end) = int_le z end
 -- the logarithm of an interval, end by end; of one that does not stand above 0 nothing is known
 unfoldable pub lg_of : Interval → Interval
 lg_of i =
-  if is_at_least (pos 1) i.lo
-  then record {
-    lo = option_map (λ z. lg_low (unsigned_abs z)) i.lo;
-    hi = option_map (λ z. lg_high (unsigned_abs z)) i.hi }
-  else All
+    if is_at_least (pos 1) i.lo
+    then record {
+      lo = option_map (λ z. lg_low (unsigned_abs z)) i.lo;
+      hi = option_map (λ z. lg_high (unsigned_abs z)) i.hi;
+    }
+    else All
 
 -- a is at most the logarithm of n: 10^(a / 2^32) ≤ n / 2^32, raised to the power 2^32. A negative power of
 -- ten stands on the other side

@@ -3,6 +3,7 @@ pub mod ExpNeg
 pub mod Interval
 pub mod Lg
 pub mod Powers
+pub mod Roots
 pub mod Round
 pub mod Rules
 pub mod Ten

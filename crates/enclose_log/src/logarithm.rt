@@ -1,18 +1,26 @@
 //! The logarithm of an interval.
 
-ghost use Rattle.std.specs.Prelude.{◌≡◌, ◌<◌, ◌^◌, IsTrue, pos, Some};
-ghost use Rattle.fix_interval.specs.Lg.{lg_of, is_at_least, decade_and_digits};
+ghost use Rattle.std.specs.Prelude.{◌≡◌, ◌<◌, ◌≤◌, ◌*◌, ◌^◌, ◌≤ℤ◌, IsSomeAnd, IfSome, pos, neg_ℤ, Some};
+ghost use Rattle.fix_interval.specs.Lg.{lg_of, decade_and_digits};
 
-use crate::digits::{ONE, digits};
+use crate::digits::digits;
 use crate::start::Start;
 use fix_interval::Iv;
 
 /// The common logarithm of an interval that lies above 0, end by end: the low end rounded down and the
-/// high end rounded up to 2^-32. An unbounded high end stays so. The ten logarithms of ISO 9613-2, as in
-/// equations (5), (7) and (14), are made of it.
+/// high end rounded up to 2^-32. An unbounded high end stays so. The levels of ISO 9613-2, as in equations
+/// (5), (7) and (14), are ten times it.
+///
+/// Bounded ends are from -10 to 29, and from 1 on no logarithm is negative.
 pub fn lg(a: Iv) -> Iv
-    requires { IsTrue (is_at_least (pos 1) a.lo) }
-    ensures { result ≡ lg_of a }
+    requires { IsSomeAnd a.lo (λ x. pos 1 ≤ℤ x) }
+    ensures value { result ≡ lg_of a }
+    ensures low { IsSomeAnd result.lo
+        (λ z. (neg_ℤ (pos (10 * 2 ^ 32)) ≤ℤ z) × (z ≤ℤ pos (29 * 2 ^ 32))) }
+    ensures high { IfSome result.hi
+        (λ z. (neg_ℤ (pos (10 * 2 ^ 32)) ≤ℤ z) × (z ≤ℤ pos (29 * 2 ^ 32))) }
+    ensures from_one { IsSomeAnd a.lo (λ x. pos (2 ^ 32) ≤ℤ x)
+        → IsSomeAnd result.lo (λ z. pos 0 ≤ℤ z) }
 {
     let Some(low) = a.low() else {
         return Iv::ALL;
@@ -22,12 +30,11 @@ pub fn lg(a: Iv) -> Iv
         Some(high) => {
             let to = Start::of(high as u128);
             let (down, up) = digits(from.low, to.high);
-            let rounded = up.digits + u64::from(up.mantissa != ONE);
-            Iv::of_ends(end(from.decade, down.digits), end(to.decade, rounded))
+            Iv::of_ends(end(from.decade, down), end(to.decade, up))
         }
         None => {
             let (down, _) = digits(from.low, from.high);
-            Iv::of_ends(end(from.decade, down.digits), None)
+            Iv::of_ends(end(from.decade, down), None)
         }
     }
 }
@@ -35,7 +42,7 @@ pub fn lg(a: Iv) -> Iv
 /// The end with this decade, counted from -10, and these digits.
 fn end(decade: u32, digits: u64) -> Option<i128>
     requires decade { decade < 39 }
-    requires digits { digits < 2 ^ 33 }
+    requires digits { digits ≤ 2 ^ 32 }
     ensures { result ≡ Some (decade_and_digits decade digits) }
 {
     Some((i128::from(decade) - 10) * (1 << 32) + i128::from(digits))
@@ -63,10 +70,26 @@ mod tests {
         (18446744073709551615, 41373247567, 41373247568),
         (18446744073709551616, 41373247567, 41373247568),
         (429496729600000000000000000001, 85899345920, 85899345921),
-        (42949672959999999999999999999999999999, 120259084287, 120259084288),
-        (42949672960000000000000000000000000000, 120259084288, 120259084288),
-        (42949672960000000000000000000000000001, 120259084288, 120259084289),
-        (85070591730234615865843651857942052863, 121533914730, 121533914731),
+        (
+            42949672959999999999999999999999999999,
+            120259084287,
+            120259084288,
+        ),
+        (
+            42949672960000000000000000000000000000,
+            120259084288,
+            120259084288,
+        ),
+        (
+            42949672960000000000000000000000000001,
+            120259084288,
+            120259084289,
+        ),
+        (
+            85070591730234615865843651857942052863,
+            121533914730,
+            121533914731,
+        ),
     ];
 
     #[test]

@@ -1,0 +1,118 @@
+-- The tables hold the values of their definitions, and the products of their factors fit 64 bits.
+use Rattle.std.proofs.Common.{◌≡◌, ℕ, zero, suc, ◌+◌, ◌-◌, ◌*◌, ◌/◌, ◌%◌, ◌^◌, ◌<◌, ◌≤◌, ◌⊎◌, ◌==◌, Bool, true, false, nat_le, refl, sym, ap, ◌∙◌, arith, rules, tests, List, [], ◌∷◌, length, get_or, lit<, zero-add}
+use Rattle.std.specs.Prelude.{◌&&◌}
+use Rattle.std.specs.Int.{div_ceil}
+use Rattle.std.proofs.lemmas.Bool.{cases_lt, false≢true, eqb-true, leb-true}
+use Rattle.std.proofs.Math.Nat.{le-div_iff_mul-le, div-le_of_le-mul, mul-le-mul_left, mul-le-mul_right, div-mul-le_self, lt_of_mul-lt-mul_right}
+use Rattle.std.proofs.lemmas.Grind.{div_ceil_times}
+use Rattle.fix_interval.specs.Roots.{one_factor, times_low, times_high, root_low, root_high, product}
+use Rattle.fix_interval.specs.Ten.{ten_factor_low, ten_factor_high, fraction_low, fraction_high}
+use Rattle.fix_interval.specs.ExpNeg.{inverse_e_low, inverse_e_high, whole_decay_low, whole_decay_high, decay_factor_low, decay_factor_high}
+use Rattle.fix_interval.specs.Powers.{factorial_20, exponential_sum}
+use Rattle.enclose_exp.specs.declared.tables.TheConstants.{TEN_LOW, TEN_HIGH, DECAY_LOW, DECAY_HIGH, WHOLE_LOW, WHOLE_HIGH, POWERS_OF_TEN}
+use Rattle.enclose_exp.specs.Fits.{ProductsFit}
+use Rattle.enclose_exp.proofs.Products.{Grows, product_of_all, product-same, fits-growing, fits-shrinking}
+use Rattle.enclose_exp.proofs.Roots.{are_roots_low, are_roots_high, roots_low-at, roots_high-at}
+
+-- ---- the two roundings of a product
+
+pub quotient_up-le : (a b d : ℕ) → 0 < d → a ≤ b * d → div_ceil a d ≤ b
+quotient_up-le a b d positive h =
+  let bounds = div_ceil_times a d positive in
+  let less : div_ceil a d < b + 1 = lt_of_mul-lt-mul_right d (omega (arith, bounds.1, h)) in
+  omega (arith, less)
+
+grows-low : Grows times_low one_factor
+grows-low = record {
+  monotone = λ p q x le. (le-div_iff_mul-le {k = one_factor} (omega arith)).1 (omega (arith, div-mul-le_self (p * x) one_factor, mul-le-mul_right x le));
+  grows = λ p x large. (le-div_iff_mul-le {k = one_factor} (omega arith)).1 (mul-le-mul_left p large) }
+
+grows-high : Grows times_high one_factor
+grows-high = record {
+  monotone = λ p q x le. quotient_up-le (p * x) (times_high q x) one_factor (omega arith)
+    (omega (arith, (div_ceil_times (q * x) one_factor (omega arith)).0, mul-le-mul_right x le));
+  grows = λ p x large. (let reach = (div_ceil_times (p * x) one_factor (omega arith)).0 in
+    let more = mul-le-mul_left p large in
+    let most : p < times_high p x + 1 = lt_of_mul-lt-mul_right one_factor (omega (arith, reach, more)) in
+    omega (arith, most)) }
+
+shrinks-low : (p x : ℕ) → x ≤ one_factor → times_low p x ≤ p
+shrinks-low p x small = div-le_of_le-mul one_factor (omega (arith, mul-le-mul_left p small))
+
+shrinks-high : (p x : ℕ) → x ≤ one_factor → times_high p x ≤ p
+shrinks-high p x small = quotient_up-le (p * x) p one_factor (omega arith) (mul-le-mul_left p small)
+
+-- ---- tests over a table
+
+both-true : (a b : Bool) → (a && b) ≡ true → (a ≡ true) × (b ≡ true)
+both-true true b h = (refl, h)
+both-true false b h = absurd (false≢true h)
+
+-- each entry is at least, or at most, this
+abbrev all_from : ℕ → List ℕ → Bool
+all_from least [] = true
+all_from least (x ∷ xs) = nat_le least x && all_from least xs
+
+abbrev all_to : ℕ → List ℕ → Bool
+all_to most [] = true
+all_to most (x ∷ xs) = nat_le x most && all_to most xs
+
+all_from-at : (least : ℕ) (xs : List ℕ) (i : ℕ) → all_from least xs ≡ true → i < length xs → least ≤ get_or xs i 0
+all_from-at least [] i all within = absurd (omega arith)
+all_from-at least (x ∷ xs) zero all within = leb-true least x (both-true (nat_le least x) (all_from least xs) all).0
+all_from-at least (x ∷ xs) (suc i) all within = all_from-at least xs i (both-true (nat_le least x) (all_from least xs) all).1 (omega arith)
+
+all_to-at : (most : ℕ) (xs : List ℕ) (i : ℕ) → all_to most xs ≡ true → i < length xs → get_or xs i 0 ≤ most
+all_to-at most [] i all within = absurd (omega arith)
+all_to-at most (x ∷ xs) zero all within = leb-true x most (both-true (nat_le x most) (all_to most xs) all).0
+all_to-at most (x ∷ xs) (suc i) all within = all_to-at most xs i (both-true (nat_le x most) (all_to most xs) all).1 (omega arith)
+
+-- ---- the tables
+
+ten_low-at : (i : ℕ) → i < 32 → get_or TEN_LOW i 0 ≡ ten_factor_low i
+unfolding root_low ten_factor_low
+ten_low-at i within = roots_low-at (10 * one_factor) 0 TEN_LOW i refl within ∙ ap (λ k. root_low (10 * one_factor) (suc k)) (zero-add i)
+
+ten_high-at : (i : ℕ) → i < 32 → get_or TEN_HIGH i 0 ≡ ten_factor_high i
+unfolding root_high ten_factor_high
+ten_high-at i within = roots_high-at (10 * one_factor) 0 TEN_HIGH i refl within ∙ ap (λ k. root_high (10 * one_factor) (suc k)) (zero-add i)
+
+decay_low-at : (i : ℕ) → i < 32 → get_or DECAY_LOW i 0 ≡ decay_factor_low i
+unfolding root_low decay_factor_low inverse_e_low factorial_20 exponential_sum
+decay_low-at i within = roots_low-at inverse_e_low 0 DECAY_LOW i refl within ∙ ap (λ k. root_low inverse_e_low (suc k)) (zero-add i)
+
+decay_high-at : (i : ℕ) → i < 32 → get_or DECAY_HIGH i 0 ≡ decay_factor_high i
+unfolding root_high decay_factor_high inverse_e_high factorial_20 exponential_sum
+decay_high-at i within = roots_high-at inverse_e_high 0 DECAY_HIGH i refl within ∙ ap (λ k. root_high inverse_e_high (suc k)) (zero-add i)
+
+-- ---- what the functions over the tables need and give
+
+pub ten_low-fits : (fraction : ℕ) → ProductsFit times_low (λ i. get_or TEN_LOW i 0) one_factor fraction
+ten_low-fits fraction =
+  fits-growing times_low one_factor grows-low TEN_LOW one_factor fraction refl (λ i h. all_from-at one_factor TEN_LOW i refl h) (lit< tt)
+
+pub ten_high-fits : (fraction : ℕ) → ProductsFit times_high (λ i. get_or TEN_HIGH i 0) one_factor fraction
+ten_high-fits fraction =
+  fits-growing times_high one_factor grows-high TEN_HIGH one_factor fraction refl (λ i h. all_from-at one_factor TEN_HIGH i refl h) (lit< tt)
+
+pub decay_low-fits : (start fraction : ℕ) → start < 2 ^ 64 → ProductsFit times_low (λ i. get_or DECAY_LOW i 0) start fraction
+decay_low-fits start fraction small =
+  fits-shrinking times_low (λ i. get_or DECAY_LOW i 0) start fraction small (λ p i h. shrinks-low p (get_or DECAY_LOW i 0) (all_to-at one_factor DECAY_LOW i refl h))
+
+pub decay_high-fits : (start fraction : ℕ) → start < 2 ^ 64 → ProductsFit times_high (λ i. get_or DECAY_HIGH i 0) start fraction
+decay_high-fits start fraction small =
+  fits-shrinking times_high (λ i. get_or DECAY_HIGH i 0) start fraction small (λ p i h. shrinks-high p (get_or DECAY_HIGH i 0) (all_to-at one_factor DECAY_HIGH i refl h))
+
+pub ten_low-is : (fraction : ℕ) → product times_low (λ i. get_or TEN_LOW i 0) one_factor fraction 32 ≡ fraction_low fraction
+unfolding fraction_low
+ten_low-is fraction = product-same times_low (λ i. get_or TEN_LOW i 0) ten_factor_low one_factor fraction 32 ten_low-at
+
+pub ten_high-is : (fraction : ℕ) → product times_high (λ i. get_or TEN_HIGH i 0) one_factor fraction 32 ≡ fraction_high fraction
+unfolding fraction_high
+ten_high-is fraction = product-same times_high (λ i. get_or TEN_HIGH i 0) ten_factor_high one_factor fraction 32 ten_high-at
+
+pub decay_low-is : (start fraction : ℕ) → product times_low (λ i. get_or DECAY_LOW i 0) start fraction 32 ≡ product times_low decay_factor_low start fraction 32
+decay_low-is start fraction = product-same times_low (λ i. get_or DECAY_LOW i 0) decay_factor_low start fraction 32 decay_low-at
+
+pub decay_high-is : (start fraction : ℕ) → product times_high (λ i. get_or DECAY_HIGH i 0) start fraction 32 ≡ product times_high decay_factor_high start fraction 32
+decay_high-is start fraction = product-same times_high (λ i. get_or DECAY_HIGH i 0) decay_factor_high start fraction 32 decay_high-at

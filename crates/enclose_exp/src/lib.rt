@@ -1,0 +1,15 @@
+//! Ten to the power of an interval, and e to the power of the negative of one, as intervals that enclose
+//! them.
+//!
+//! ISO 9613-2 adds levels as powers of ten. A power is a product of square roots of square roots, one for
+//! each binary digit of its exponent; the roots stand in tables that are proved to be what they should be,
+//! so a digit costs one 64-bit product and a shift. `laws` says that the values enclose the powers.
+#![tactic(auto)]
+
+mod decay;
+mod power;
+mod product;
+mod tables;
+
+pub use decay::exp_neg;
+pub use power::ten;

@@ -1,0 +1,41 @@
+-- Quotients rounded down and rounded up.
+use Rattle.std.proofs.Common.{◌≡◌, ℕ, ◌+◌, ◌*◌, ◌/◌, ◌%◌, ◌<◌, ◌≤◌, min, sym, ap, ◌∙◌, arith}
+use Rattle.std.proofs.Math.Nat.{mul-add-div_right, mul-le-mul_left, mul-lt-mul_of_pos_left, lt_of_mul-lt-mul_right}
+use Rattle.std.proofs.lemmas.Nat.{div-add-mod', mul-mod_first}
+use Rattle.std.proofs.lemmas.Grind.{div_ceil_times}
+use Rattle.std.specs.Int.{div_ceil}
+
+-- a product's quotient from the quotient and the remainder of its first factor
+pub quotient-parts : (n t c : ℕ) → 0 < t → n / t * c + n % t * c / t ≡ n * c / t
+quotient-parts n t c positive =
+    let split : n / t * c * t + n % t * c ≡ n * c =
+    (let whole = ap (λ x. x * c) (div-add-mod' n t) in omega (arith, whole)) in
+    sym (ap (λ x. x / t) (sym split) ∙ mul-add-div_right positive (n / t * c) (n % t * c))
+
+-- the same rounded up: one more where something is left
+pub quotient_up-parts : (n t c b : ℕ) → 0 < t → b ≡ min 1 (n % t * c % t) → n / t * c + n % t * c / t + b ≡ div_ceil (n * c) t
+quotient_up-parts n t c b positive left =
+    let same = quotient-parts n t c positive in
+    let rest = mul-mod_first n c t in
+    let less : min 1 (n % t * c % t) ≡ min 1 (n * c % t) = ap (λ x. min 1 x) rest in
+    omega (arith, same, less, left)
+
+-- the quotient rounded up is the only number in its place
+pub div_ceil-is : (a b r : ℕ) → 0 < b → a ≤ r * b → r * b < a + b → div_ceil a b ≡ r
+div_ceil-is a b r positive above below =
+    let d = div_ceil_times a b positive in
+    let first : div_ceil a b < r + 1 = lt_of_mul-lt-mul_right b (omega (arith, d.0, d.1)) in
+    let second : r < div_ceil a b + 1 = lt_of_mul-lt-mul_right b (omega (arith, d.0, d.1)) in
+    omega (arith, first, second)
+
+-- a common factor changes neither quotient
+pub div_ceil-scaled : (c m n : ℕ) → 0 < c → 0 < n → div_ceil (c * m) (c * n) ≡ div_ceil m n
+div_ceil-scaled c m n positive above =
+    let d = div_ceil_times m n above in
+    div_ceil-is (c * m) (c * n) (div_ceil m n) (omega (arith, mul-lt-mul_of_pos_left {k = c} above positive))
+    (omega (arith, mul-le-mul_left c d.0))
+    (omega (arith, mul-lt-mul_of_pos_left {k = c} d.1 positive))
+
+-- a quotient without remainder
+pub div_ceil-whole : (r b : ℕ) → 0 < b → div_ceil (b * r) b ≡ r
+div_ceil-whole r b positive = div_ceil-is (b * r) b r positive (omega arith) (omega arith)
