@@ -6,3 +6,4 @@ pub mod Order
 pub mod Ratios
 pub mod Rooting
 pub mod Rounding
+pub mod Widening
