@@ -4,4 +4,6 @@ pub mod Intervals
 pub mod Multiplying
 pub mod Order
 pub mod Ratios
+pub mod Rooting
 pub mod Rounding
+pub mod Widening

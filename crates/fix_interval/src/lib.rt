@@ -2,6 +2,7 @@
 #![tactic(auto)]
 
 mod iv;
+mod laws;
 mod products;
 mod quotients;
 mod roots;
@@ -9,6 +10,7 @@ mod span;
 mod truth;
 mod values;
 
+pub use laws::{holding_encloses};
 pub use iv::{Iv, OPEN_HI, OPEN_LO};
 pub use products::mul;
 pub use quotients::{div, exact, ratio};
