@@ -2,6 +2,7 @@
 #![tactic(auto)]
 
 mod command;
+mod level;
 mod parts;
 mod rows;
 mod run;
