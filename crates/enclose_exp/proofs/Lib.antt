@@ -1,4 +1,5 @@
 pub mod Products
+pub mod DecayLaw
 pub mod Exponents
 pub mod Law
 pub mod Powers
