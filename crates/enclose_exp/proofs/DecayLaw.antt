@@ -94,3 +94,131 @@ unfolding decay_factor_high inverse_e_high
 roots_high j =
   root_high-law factorial_20 exponential_sum inverse_e_high (suc j)
     (omega (arith, (div_ceil_times (one_factor * factorial_20) exponential_sum sum-positive).0))
+
+-- a factor of 2^-60 and a number of 2^-32
+one_factor-split : (u : ℕ) → u ≡ 2 ^ 32 → one_factor ≡ 2 ^ 28 * u
+one_factor-split u e = rw e refl
+
+-- the last rounding, with everything raised to u
+rounded-low : (u c g h n p x : ℕ) → x * c ≤ p → 0 < c → one_factor ≡ c * u → p ^ u * h ^ n ≤ g ^ n * one_factor ^ u →
+  x ^ u * h ^ n ≤ u ^ u * g ^ n
+rounded-low u c g h n p x scaled positive split before =
+  let powers : (x * c) ^ u ≤ p ^ u = pow-le-pow_left scaled u in
+  let left = mul-pow x c u in
+  let factor : one_factor ^ u ≡ c ^ u * u ^ u = ap (λ y. y ^ u) split ∙ mul-pow c u u in
+  let after = mul-le-mul_right (h ^ n) powers in
+  le_of_mul-le-mul_right {k = c ^ u} (omega (arith, after, before, ap (λ y. y * h ^ n) left, ap (λ y. g ^ n * y) factor)) (one-le-pow u c positive)
+
+rounded-high : (u c g h n p x : ℕ) → p ≤ x * c → 0 < c → one_factor ≡ c * u → g ^ n * one_factor ^ u ≤ p ^ u * h ^ n →
+  u ^ u * g ^ n ≤ x ^ u * h ^ n
+rounded-high u c g h n p x scaled positive split before =
+  let powers : p ^ u ≤ (x * c) ^ u = pow-le-pow_left scaled u in
+  let left = mul-pow x c u in
+  let factor : one_factor ^ u ≡ c ^ u * u ^ u = ap (λ y. y ^ u) split ∙ mul-pow c u u in
+  let after = mul-le-mul_right (h ^ n) powers in
+  le_of_mul-le-mul_right {k = c ^ u} (omega (arith, after, before, ap (λ y. y * h ^ n) left, ap (λ y. g ^ n * y) factor)) (one-le-pow u c positive)
+
+parts : (n : ℕ) → n / unit * unit + n % unit ≡ n
+parts n = div-add-mod' n unit
+
+fraction-small : (n : ℕ) → n % unit < 2 ^ 32
+fraction-small n = rw unit-is (mod_below n (2 ^ 32) (omega arith))
+
+-- both ends of the decay of a number within the range
+pub low-law : (n : ℕ) → (decay_low n / 2 ^ 28) ^ unit * suc exponential_sum ^ n ≤ unit ^ unit * factorial_20 ^ n
+unfolding decay_low
+low-law n =
+  let k = n / unit in
+  let f = n % unit in
+  let law = all_low-law factorial_20 (suc exponential_sum) decay_factor_low k (whole_decay_low k) f 32 unit refl unit-is (fraction-small n) roots_low (whole_low-law k) in
+  let p = product times_low decay_factor_low (whole_decay_low k) f 32 in
+  let P : ℕ → Type 0 = λ e. p ^ unit * suc exponential_sum ^ e ≤ factorial_20 ^ e * one_factor ^ unit in
+  rounded-low unit (2 ^ 28) factorial_20 (suc exponential_sum) n p (p / 2 ^ 28) (div-mul-le_self p (2 ^ 28)) (omega arith) (one_factor-split unit unit-is) (subst P (parts n) law)
+
+pub high-law : (n : ℕ) → unit ^ unit * factorial_20 ^ n ≤ div_ceil (decay_high n) (2 ^ 28) ^ unit * exponential_sum ^ n
+unfolding decay_high
+high-law n =
+  let k = n / unit in
+  let f = n % unit in
+  let law = all_high-law factorial_20 exponential_sum decay_factor_high k (whole_decay_high k) f 32 unit refl unit-is (fraction-small n) roots_high (whole_high-law k) in
+  let p = product times_high decay_factor_high (whole_decay_high k) f 32 in
+  let P : ℕ → Type 0 = λ e. factorial_20 ^ e * one_factor ^ unit ≤ p ^ unit * exponential_sum ^ e in
+  rounded-high unit (2 ^ 28) factorial_20 exponential_sum n p (div_ceil p (2 ^ 28)) (div_ceil_times p (2 ^ 28) (omega arith)).0 (omega arith) (one_factor-split unit unit-is) (subst P (parts n) law)
+
+-- from 23 on the decay is less than the least end above 0
+sum-le : factorial_20 ≤ exponential_sum
+unfolding factorial_20 exponential_sum
+sum-le = lit≤ tt
+
+cut-power : 2 ^ 32 * factorial_20 ^ 23 ≤ exponential_sum ^ 23
+unfolding factorial_20 exponential_sum
+cut-power = lit≤ tt
+
+past-law : (u g h n : ℕ) → u * g ^ 23 ≤ h ^ 23 → g ≤ h → 23 * u ≤ n → u ^ u * g ^ n ≤ 1 ^ u * h ^ n
+past-law u g h n cut le large =
+  let powers : (u * g ^ 23) ^ u ≤ (h ^ 23) ^ u = pow-le-pow_left cut u in
+  let left : (u * g ^ 23) ^ u ≡ u ^ u * g ^ (23 * u) = mul-pow u (g ^ 23) u ∙ ap (λ y. u ^ u * y) (sym (pow-mul g 23 u)) in
+  let right : (h ^ 23) ^ u ≡ h ^ (23 * u) = sym (pow-mul h 23 u) in
+  let known : u ^ u * g ^ (23 * u) ≤ h ^ (23 * u) = rw (← left, ← right) powers in
+  let rest : g ^ (n - 23 * u) ≤ h ^ (n - 23 * u) = pow-le-pow_left le (n - 23 * u) in
+  let whole : n ≡ 23 * u + (n - 23 * u) = omega arith in
+  let split_g : g ^ n ≡ g ^ (23 * u) * g ^ (n - 23 * u) = ap (λ i. g ^ i) whole ∙ pow-add g (23 * u) (n - 23 * u) in
+  let split_h : h ^ n ≡ h ^ (23 * u) * h ^ (n - 23 * u) = ap (λ i. h ^ i) whole ∙ pow-add h (23 * u) (n - 23 * u) in
+  let both = mul-le (u ^ u * g ^ (23 * u)) (g ^ (n - 23 * u)) (h ^ (23 * u)) (h ^ (n - 23 * u)) known rest in
+  rw (one-pow u, split_g, split_h) (omega (arith, both))
+
+pub high_end-law : (n : ℕ) → unit ^ unit * factorial_20 ^ n ≤ exp_neg_high n ^ unit * exponential_sum ^ n
+high_end-law n =
+  elim (cases_lt n (23 * 2 ^ 32)) [
+    inl small ↦ rw (exp_neg_high-within n small) (high-law n)
+  | inr large ↦ rw (exp_neg_high-past n large)
+      (past-law unit factorial_20 exponential_sum n (let P : ℕ → Type 0 = λ y. y * factorial_20 ^ 23 ≤ exponential_sum ^ 23 in subst P (sym unit-is) cut-power) sum-le (rw unit-is large)) ]
+
+pub low_end-law : (n : ℕ) → (exp_neg_low n ≡ 0) ⊎ (exp_neg_low n ^ unit * suc exponential_sum ^ n ≤ unit ^ unit * factorial_20 ^ n)
+low_end-law n =
+  elim (cases_lt n (23 * 2 ^ 32)) [
+    inl small ↦ inr (rw (exp_neg_low-within n small) (low-law n))
+  | inr large ↦ inl (exp_neg_low-past n large) ]
+
+-- a power that isn't greater has a base that isn't greater
+bases : (a b u : ℕ) → 0 < u → a ^ u ≤ b ^ u → a ≤ b
+bases a b u positive h =
+  elim (cases_lt b a) [
+    inl less ↦ absurd (omega (arith, h, pow-lt-pow_left {a = b} {b = a} {n = u} less (λ e. omega (arith, positive, e))))
+  | inr more ↦ more ]
+
+unit-positive : 0 < unit
+unit-positive = rw unit-is (omega arith)
+
+-- the greater exponent has the smaller decay
+ordered-bases : (u g h m n x y : ℕ) → 0 < u → 0 < h → g ≤ suc h → m ≤ n → x ^ u * suc h ^ n ≤ u ^ u * g ^ n → u ^ u * g ^ m ≤ y ^ u * h ^ m → x ≤ y
+ordered-bases u g h m n x y positive some le order low high =
+  let t = n - m in
+  let whole : n ≡ m + t = omega arith in
+  let split_g : g ^ n ≡ g ^ m * g ^ t = ap (λ i. g ^ i) whole ∙ pow-add g m t in
+  let split_h : suc h ^ n ≡ suc h ^ m * suc h ^ t = ap (λ i. suc h ^ i) whole ∙ pow-add (suc h) m t in
+  let lower : h ^ m ≤ suc h ^ m = pow-le-pow_left (omega arith) m in
+  let rest : g ^ t ≤ suc h ^ t = pow-le-pow_left le t in
+  let both = mul-le (h ^ m) (g ^ t) (suc h ^ m) (suc h ^ t) lower rest in
+  let one = mul-le-mul_right (g ^ t) high in
+  let two = mul-le-mul_left (y ^ u) both in
+  let above : 0 < suc h ^ m * suc h ^ t = mul-le 1 1 (suc h ^ m) (suc h ^ t) (one-le-pow m (suc h) (omega arith)) (one-le-pow t (suc h) (omega arith)) in
+  let first : x ^ u * (suc h ^ m * suc h ^ t) ≤ u ^ u * (g ^ m * g ^ t) = rw (← split_h, ← split_g) low in
+  bases x y u positive (le_of_mul-le-mul_right {k = suc h ^ m * suc h ^ t} (omega (arith, first, one, two)) above)
+
+pub ends-ordered : (m n : ℕ) → m ≤ n → exp_neg_low n ≤ exp_neg_high m
+ends-ordered m n le =
+  elim (low_end-law n) [
+    inl none ↦ rw none (omega arith)
+  | inr low ↦ ordered-bases unit factorial_20 exponential_sum m n (exp_neg_low n) (exp_neg_high m) unit-positive sum-positive (omega (arith, sum-le)) le low (high_end-law m) ]
+
+-- no decay is above 1
+bound : (n : ℕ) → decay_high n ≤ one_factor
+unfolding decay_high
+bound n = decay_high-le (n / unit) (n % unit)
+
+pub exp_neg_high-le : (n : ℕ) → exp_neg_high n ≤ 2 ^ 32
+exp_neg_high-le n =
+  elim (cases_lt n (23 * 2 ^ 32)) [
+    inl small ↦ rw (exp_neg_high-within n small) (quotient_up-le (decay_high n) (2 ^ 32) (2 ^ 28) (omega arith) (omega (arith, bound n)))
+  | inr large ↦ rw (exp_neg_high-past n large) (omega arith) ]

@@ -1,4 +1,5 @@
 pub mod Products
+pub mod DecayInterval
 pub mod DecayLaw
 pub mod Exponents
 pub mod Law
