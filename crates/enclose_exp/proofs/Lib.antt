@@ -1,4 +1,6 @@
 pub mod Products
+pub mod DecayInterval
+pub mod DecayLaw
 pub mod Exponents
 pub mod Law
 pub mod Powers
