@@ -6,4 +6,5 @@ pub mod Order
 pub mod Ratios
 pub mod Rooting
 pub mod Rounding
+pub mod Steps
 pub mod Widening
