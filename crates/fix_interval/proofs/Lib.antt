@@ -1,5 +1,6 @@
 pub mod Dividing
 pub mod Ends
+pub mod Induction
 pub mod Intervals
 pub mod Multiplying
 pub mod Order

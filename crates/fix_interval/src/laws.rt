@@ -4,7 +4,11 @@ ghost use Rattle.std.specs.Prelude.{ℕ, ℤ, ◌<◌};
 ghost use Rattle.fix_interval.specs.Interval.{Interval, IsInterval};
 ghost use Rattle.fix_interval.specs.Values.{ratio_of, add_of, neg_of, mul_of, div_of, max_of, min_of, root_of, hull_of, less_of, pick_of};
 ghost use Rattle.fix_interval.specs.Rules.{Holds};
-ghost use Rattle.fix_interval.specs.Tree.{Tree, Known, Const, Add, Neg, Mul, Div, Max, Min, Root, Pick};
+ghost use Rattle.fix_interval.specs.Tree.{Tree, Known, Const, Add, Neg, Mul, Div, Max, Min, Root, Lg, Ten, ExpNeg, Pick, IsSound, enc};
+ghost use Rattle.fix_interval.specs.Lg.{lg_of};
+ghost use Rattle.fix_interval.specs.Ten.{ten_of};
+ghost use Rattle.fix_interval.specs.ExpNeg.{exp_neg_of};
+ghost use Rattle.fix_interval.specs.Lawful.{IsLawful};
 ghost use Rattle.fix_interval.specs.Encloses.{Encloses};
 ghost use Rattle.fix_interval.specs.declared.truth.Truth.{Truth};
 
@@ -51,5 +55,17 @@ pub fn table_gives_intervals()
     ensures square_root { (i : Interval) → IsInterval i → IsInterval (root_of i) }
     ensures hull { (i j : Interval) → IsInterval i → IsInterval j → IsInterval (hull_of i j) }
     ensures choice { (t : Truth) (i j : Interval) → IsInterval i → IsInterval j → IsInterval (pick_of t i j) }
+{
+}
+
+/// Where the values of the logarithm and of the two powers are lawful, the interval of every sound formula
+/// is one, and encloses the formula.
+pub fn formulas_are_enclosed()
+    ensures intervals {
+        IsLawful Lg lg_of → IsLawful Ten ten_of → IsLawful ExpNeg exp_neg_of → (t : Tree) → IsSound t → IsInterval (enc t)
+    }
+    ensures enclosed {
+        IsLawful Lg lg_of → IsLawful Ten ten_of → IsLawful ExpNeg exp_neg_of → (t : Tree) → IsSound t → Encloses t (enc t)
+    }
 {
 }
