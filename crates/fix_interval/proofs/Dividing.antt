@@ -10,6 +10,7 @@ use Rattle.fix_interval.specs.Round.{floor_of, ceil_of, floor_quotient, ceil_quo
 use Rattle.fix_interval.specs.Values.{quotient_of_ends, least_of, greatest_of, ratio_of, holds_zero}
 use Rattle.fix_interval.proofs.Order.{unsigned_abs-neg_ℤ, int_min-keeps, int_max-keeps}
 use Rattle.fix_interval.proofs.Rounding.{floor_of-mono, ceil_of-mono, floor_of-anti, floor_of-anti_negative, neg_ℤ-*ℤ, unsigned_abs-floor_of, unsigned_abs-ceil_of, floor_of-le-ceil_of}
+use Rattle.fix_interval.proofs.Intervals.{IsInterval-All}
 use Rattle.fix_interval.proofs.Ratios.{nat_lt-yes, nat_lt-no, ratio_of-small, units-small}
 
 -- ---- tests
@@ -184,3 +185,15 @@ IsInterval-quotient_by_positive al ah bl bh p o h low high =
       ordered = least-le-greatest (floor_quotient l bl) (floor_quotient l bh) (ceil_quotient g bl) (ceil_quotient g bh)
         (≤ℤ_trans (floor_quotient l bl) (ceil_quotient l bl) (ceil_quotient g bl) (floor_quotient-le-ceil_quotient l bl p) (ceil_quotient-mono l g bl p u));
     })
+
+pub IsInterval-quotient : (al ah bl bh : ℤ) → al ≤ℤ ah → bl ≤ℤ bh → unsigned_abs al < 2 ^ 94 → unsigned_abs ah < 2 ^ 94 → IsInterval (quotient_of_ends al ah bl bh)
+IsInterval-quotient al ah bl bh a b low high = quotient_by (int_le bl (pos 0)) (int_le (pos 0) bh) refl refl where
+  quotient_by : (x y : Bool) → int_le bl (pos 0) ≡ x → int_le (pos 0) bh ≡ y → IsInterval (quotient_of_ends al ah bl bh)
+  quotient_by false y e f = IsInterval-quotient_by_positive al ah bl bh (grind (arith, ints)) b a low high
+  quotient_by true true e f = rw (quotient_of_ends-zero al ah bl bh (grind (arith, ints)) (grind (arith, ints))) IsInterval-All
+  quotient_by true false e f =
+      let n : bh <ℤ pos 0 = grind (arith, ints) in
+      let low' : unsigned_abs (neg_ℤ al) < 2 ^ 94 = rw (unsigned_abs-neg_ℤ al) low in
+      let high' : unsigned_abs (neg_ℤ ah) < 2 ^ 94 = rw (unsigned_abs-neg_ℤ ah) high in
+      rw (quotient_of_ends-negative al ah bl bh n b low high)
+      (IsInterval-quotient_by_positive (neg_ℤ ah) (neg_ℤ al) (neg_ℤ bh) (neg_ℤ bl) (omega (arith, ints)) (omega (arith, ints)) (omega (arith, ints)) high' low')

@@ -7,6 +7,10 @@ use Rattle.fix_interval.specs.Interval.{Interval, All, IsInterval, IsEnd, IsOrde
 use Rattle.fix_interval.specs.Units.{unit, unit-is}
 use Rattle.fix_interval.specs.Round.{floor_of, ceil_of}
 use Rattle.fix_interval.specs.Values.{ratio_of}
+use Rattle.std.proofs.Common.{inl, inr}
+use Rattle.std.specs.Prelude.{◌⊎◌}
+use Rattle.std.proofs.lemmas.Bool.{cases_lt}
+use Rattle.fix_interval.proofs.Intervals.{IsInterval-All}
 use Rattle.fix_interval.proofs.Rounding.{floor_of-one, ceil_of-one, floor_of-le-ceil_of, unsigned_abs-floor_of, unsigned_abs-ceil_of}
 
 pub nat_lt-yes : (a b : ℕ) → a < b → nat_lt a b ≡ true
@@ -52,3 +56,9 @@ fraction_is p q n l h small positive e low high =
 
 pub IsInterval-ratio_of : (p : ℤ) (q : ℕ) → unsigned_abs p < 2 ^ 94 → 0 < q → IsInterval (ratio_of p q)
 IsInterval-ratio_of p q small h = rw (ratio_of-small p q small) (IsInterval-fraction p q small h)
+
+pub IsInterval-Const : (p : ℤ) (q : ℕ) → 0 < q → IsInterval (ratio_of p q)
+IsInterval-Const p q h = const_by (cases_lt (unsigned_abs p) (2 ^ 94)) where
+  const_by : (unsigned_abs p < 2 ^ 94) ⊎ (2 ^ 94 ≤ unsigned_abs p) → IsInterval (ratio_of p q)
+  const_by (inl k) = IsInterval-ratio_of p q k h
+  const_by (inr k) = rw (ratio_of-large p q k) IsInterval-All

@@ -103,11 +103,11 @@ AtLeastDecay-greater (pos l) (negsuc m) n h p = absurd (omega (arith, ints))
 
 -- ---- quotients and squares
 
-AtMostQuotient-lower : (n y l m : ℤ) → m ≤ℤ l → IsAtMostQuotient l n y → IsAtMostQuotient m n y
+pub AtMostQuotient-lower : (n y l m : ℤ) → m ≤ℤ l → IsAtMostQuotient l n y → IsAtMostQuotient m n y
 AtMostQuotient-lower n (pos d) l m h p = ≤ℤ_trans (m *ℤ pos d) (l *ℤ pos d) n (times-mono m l (pos d) (omega (arith, ints)) h) p
 AtMostQuotient-lower n (negsuc d) l m h p = ≤ℤ_trans n (l *ℤ negsuc d) (m *ℤ negsuc d) p (times-anti m l (negsuc d) (omega (arith, ints)) h)
 
-AtLeastQuotient-higher : (n y l m : ℤ) → l ≤ℤ m → IsAtLeastQuotient l n y → IsAtLeastQuotient m n y
+pub AtLeastQuotient-higher : (n y l m : ℤ) → l ≤ℤ m → IsAtLeastQuotient l n y → IsAtLeastQuotient m n y
 AtLeastQuotient-higher n (pos d) l m h p = ≤ℤ_trans n (l *ℤ pos d) (m *ℤ pos d) p (times-mono l m (pos d) (omega (arith, ints)) h)
 AtLeastQuotient-higher n (negsuc d) l m h p = ≤ℤ_trans (m *ℤ negsuc d) (l *ℤ negsuc d) n (times-anti l m (negsuc d) (omega (arith, ints)) h) p
 

@@ -10,7 +10,7 @@ mod span;
 mod truth;
 mod values;
 
-pub use laws::{holding_encloses};
+pub use laws::{formulas_are_enclosed, holding_encloses, table_encloses, table_gives_intervals};
 pub use iv::{Iv, OPEN_HI, OPEN_LO};
 pub use products::mul;
 pub use quotients::{div, exact, ratio};
