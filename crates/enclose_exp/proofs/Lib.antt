@@ -1,6 +1,12 @@
 pub mod Products
+pub mod DecayInterval
+pub mod DecayLaw
 pub mod Exponents
+pub mod Law
 pub mod Powers
 pub mod Roots
 pub mod Scaling
+pub mod Shifted
 pub mod TableLemmas
+pub mod TenInterval
+pub mod TenLaw

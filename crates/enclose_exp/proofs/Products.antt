@@ -125,3 +125,11 @@ turn-is times factor start fraction place p r before made =
   made ∙ ap (λ d. cond (d == 1) (times p (factor place)) p) bit
   ∙ ap (λ x. cond (digit_at fraction place == 1) (times x (factor place)) x) before
   ∙ sym (product-suc times factor start fraction place) ∙ ap (λ i. product times factor start fraction i) (sym next)
+
+-- no product passes the one of all factors
+pub product-le_all : (times : ℕ → ℕ → ℕ) (least : ℕ) → Grows times least → (xs : List ℕ) (start fraction count : ℕ) → ((i : ℕ) → i < length xs → least ≤ get_or xs i 0) → count ≤ length xs →
+  product times (λ i. get_or xs i 0) start fraction count ≤ product_of_all times xs start
+product-le_all times least g xs start fraction count large within =
+  let kept = kept-all times least g xs start fraction count large within in
+  let rest = grows-drop times least g xs count (product times (λ i. get_or xs i 0) start fraction count) large in
+  omega (arith, kept, rest)

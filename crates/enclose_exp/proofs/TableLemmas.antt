@@ -1,5 +1,5 @@
 -- The tables hold the values of their definitions, and the products of their factors fit 64 bits.
-use Rattle.std.proofs.Common.{◌≡◌, ℕ, zero, suc, ◌+◌, ◌-◌, ◌*◌, ◌/◌, ◌%◌, ◌^◌, ◌<◌, ◌≤◌, ◌⊎◌, ◌==◌, Bool, true, false, nat_le, refl, sym, ap, ◌∙◌, arith, rules, tests, List, [], ◌∷◌, length, get_or, lit<, zero-add}
+use Rattle.std.proofs.Common.{◌≡◌, ℕ, zero, suc, ◌+◌, ◌-◌, ◌*◌, ◌/◌, ◌%◌, ◌^◌, ◌<◌, ◌≤◌, ◌⊎◌, ◌==◌, Bool, true, false, nat_le, refl, sym, ap, ◌∙◌, arith, rules, tests, List, [], ◌∷◌, length, get_or, drop, lit<, lit≤, zero-add}
 use Rattle.std.specs.Prelude.{◌&&◌}
 use Rattle.std.specs.Int.{div_ceil}
 use Rattle.std.proofs.lemmas.Bool.{cases_lt, false≢true, eqb-true, leb-true}
@@ -11,7 +11,7 @@ use Rattle.fix_interval.specs.ExpNeg.{inverse_e_low, inverse_e_high, whole_decay
 use Rattle.fix_interval.specs.Powers.{factorial_20, exponential_sum}
 use Rattle.enclose_exp.specs.declared.tables.TheConstants.{TEN_LOW, TEN_HIGH, DECAY_LOW, DECAY_HIGH, WHOLE_LOW, WHOLE_HIGH, POWERS_OF_TEN}
 use Rattle.enclose_exp.specs.Fits.{ProductsFit}
-use Rattle.enclose_exp.proofs.Products.{Grows, product_of_all, product-same, fits-growing, fits-shrinking}
+use Rattle.enclose_exp.proofs.Products.{Grows, product_of_all, product-same, product-le_start, product-le_all, fits-growing, fits-shrinking}
 use Rattle.enclose_exp.proofs.Roots.{are_roots_low, are_roots_high, roots_low-at, roots_high-at}
 
 -- ---- the two roundings of a product
@@ -116,3 +116,67 @@ decay_low-is start fraction = product-same times_low (λ i. get_or DECAY_LOW i 0
 
 pub decay_high-is : (start fraction : ℕ) → product times_high (λ i. get_or DECAY_HIGH i 0) start fraction 32 ≡ product times_high decay_factor_high start fraction 32
 decay_high-is start fraction = product-same times_high (λ i. get_or DECAY_HIGH i 0) decay_factor_high start fraction 32 decay_high-at
+
+-- fractions of a power fit 64 bits
+pub fraction_low-small : (fraction : ℕ) → fraction_low fraction < 2 ^ 64
+fraction_low-small fraction =
+  let most : product_of_all times_low TEN_LOW one_factor < 2 ^ 64 = lit< tt in
+  rw (← ten_low-is fraction) (omega (arith, most, product-le_all times_low one_factor grows-low TEN_LOW one_factor fraction 32 (λ i h. all_from-at one_factor TEN_LOW i refl h) (omega arith)))
+
+pub fraction_high-small : (fraction : ℕ) → fraction_high fraction < 2 ^ 64
+fraction_high-small fraction =
+  let most : product_of_all times_high TEN_HIGH one_factor < 2 ^ 64 = lit< tt in
+  rw (← ten_high-is fraction) (omega (arith, most, product-le_all times_high one_factor grows-high TEN_HIGH one_factor fraction 32 (λ i h. all_from-at one_factor TEN_HIGH i refl h) (omega arith)))
+
+-- ---- whole powers of 1/e
+
+-- each entry is the one before, the first of them `before`, times the factor
+abbrev are_multiples : (ℕ → ℕ → ℕ) → ℕ → ℕ → List ℕ → Bool
+are_multiples times factor before [] = true
+are_multiples times factor before (x ∷ xs) = (x == times before factor) && are_multiples times factor x xs
+
+multiples-at : (times : ℕ → ℕ → ℕ) (factor : ℕ) (value : ℕ → ℕ) → ((k : ℕ) → value (suc k) ≡ times (value k) factor) → (j : ℕ) (xs : List ℕ) (i : ℕ) →
+  are_multiples times factor (value j) xs ≡ true → i < length xs → get_or xs i 0 ≡ value (suc (j + i))
+multiples-at times factor value step j [] i all within = absurd (omega arith)
+multiples-at times factor value step j (x ∷ xs) zero all within =
+  eqb-true x (times (value j) factor) (both-true (x == times (value j) factor) (are_multiples times factor x xs) all).0
+  ∙ sym (step j) ∙ ap (λ k. value (suc k)) (omega arith)
+multiples-at times factor value step j (x ∷ xs) (suc i) all within =
+  let parts = both-true (x == times (value j) factor) (are_multiples times factor x xs) all in
+  let first : x ≡ value (suc j) = eqb-true x (times (value j) factor) parts.0 ∙ sym (step j) in
+  multiples-at times factor value step (suc j) xs i (ap (λ y. are_multiples times factor y xs) (sym first) ∙ parts.1) (omega arith)
+  ∙ ap (λ k. value (suc k)) (omega arith)
+
+pub whole_low-at : (i : ℕ) → i < 23 → get_or WHOLE_LOW i 0 ≡ whole_decay_low i
+unfolding whole_decay_low inverse_e_low factorial_20 exponential_sum
+whole_low-at zero within = refl
+whole_low-at (suc i) within =
+  multiples-at times_low inverse_e_low whole_decay_low (λ k. refl) 0 (drop 1 WHOLE_LOW) i refl (omega arith) ∙ ap (λ k. whole_decay_low (suc k)) (zero-add i)
+
+pub whole_high-at : (i : ℕ) → i < 23 → get_or WHOLE_HIGH i 0 ≡ whole_decay_high i
+unfolding whole_decay_high inverse_e_high factorial_20 exponential_sum
+whole_high-at zero within = refl
+whole_high-at (suc i) within =
+  multiples-at times_high inverse_e_high whole_decay_high (λ k. refl) 0 (drop 1 WHOLE_HIGH) i refl (omega arith) ∙ ap (λ k. whole_decay_high (suc k)) (zero-add i)
+
+-- a decay is at most 1
+inverse_e_high-le : inverse_e_high ≤ one_factor
+unfolding inverse_e_high factorial_20 exponential_sum
+inverse_e_high-le = lit≤ tt
+
+whole_high-le : (k : ℕ) → whole_decay_high k ≤ one_factor
+unfolding whole_decay_high
+whole_high-le zero = omega arith
+whole_high-le (suc k) = omega (arith, whole_high-le k, shrinks-high (whole_decay_high k) inverse_e_high inverse_e_high-le)
+
+pub decay_high-le : (k fraction : ℕ) → product times_high decay_factor_high (whole_decay_high k) fraction 32 ≤ one_factor
+decay_high-le k fraction =
+  let start = whole_decay_high k in
+  let most = product-le_start times_high (λ i. get_or DECAY_HIGH i 0) start fraction 32 (λ p i h. shrinks-high p (get_or DECAY_HIGH i 0) (all_to-at one_factor DECAY_HIGH i refl h)) in
+  omega (arith, decay_high-is start fraction, most, whole_high-le k)
+
+pub whole_low-small : (i : ℕ) → i < 23 → get_or WHOLE_LOW i 0 < 2 ^ 64
+whole_low-small i within = omega (arith, all_to-at one_factor WHOLE_LOW i refl within)
+
+pub whole_high-small : (i : ℕ) → i < 23 → get_or WHOLE_HIGH i 0 < 2 ^ 64
+whole_high-small i within = omega (arith, all_to-at one_factor WHOLE_HIGH i refl within)
