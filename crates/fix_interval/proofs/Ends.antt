@@ -1,9 +1,8 @@
 -- Lemmas on an operation of four bounded ends, and that products and quotients are intervals.
-use Rattle.std.proofs.Common.{◌≡◌, ℤ, refl, inl, inr, ◌<◌, ◌≤◌, ◌^◌, ◌*ℤ◌, pos, ◌≤ℤ◌, ◌<ℤ◌, neg_ℤ, arith}
-use Rattle.std.proofs.lemmas.Int.{ints}
+use Rattle.std.proofs.Common.{◌≡◌, ℤ, refl, inl, inr, ◌<◌, ◌≤◌, ◌^◌, ◌*ℤ◌, ◌≤ℤ◌}
 use Rattle.std.proofs.lemmas.Bool.{cases_lt}
 use Rattle.std.specs.Prelude.{Option, Some, None, ◌⊎◌, unsigned_abs}
-use Rattle.fix_interval.specs.Interval.{Interval, All, IsInterval, IsEnd, IsOrdered}
+use Rattle.fix_interval.specs.Interval.{Interval, All, IsInterval, IsOrdered}
 use Rattle.fix_interval.proofs.Intervals.{IsInterval-All}
 use Rattle.fix_interval.proofs.Multiplying.{end_of-small, end_of-large, IsInterval-outward, least_of-le-greatest_of}
 use Rattle.fix_interval.proofs.Dividing.{quotient_of_ends-large, IsInterval-quotient}
@@ -36,8 +35,10 @@ IsInterval-product_of_ends : (al ah bl bh : ℤ) → IsInterval (product_of_ends
 IsInterval-product_of_ends al ah bl bh = product_by (cases_lt (unsigned_abs least) (2 ^ 126)) (cases_lt (unsigned_abs greatest) (2 ^ 126)) where
   least : ℤ
   least = least_product al ah bl bh
+
   greatest : ℤ
   greatest = greatest_product al ah bl bh
+
   product_by : (unsigned_abs least < 2 ^ 126) ⊎ (2 ^ 126 ≤ unsigned_abs least) → (unsigned_abs greatest < 2 ^ 126) ⊎ (2 ^ 126 ≤ unsigned_abs greatest) → IsInterval (rounded_outward (end_of least) (end_of greatest))
   product_by (inr h) k = rw (end_of-large least h) IsInterval-All
   product_by (inl h) (inr k) = rw (end_of-large greatest k, rounded_outward-None (end_of least)) IsInterval-All

@@ -1,7 +1,6 @@
 -- The induction over whole formulas: where the values of Lg, Ten and ExpNeg enclose too, the interval of a
 -- formula encloses it. A crate that has these three values cites this with the laws of each.
-use Rattle.std.proofs.Common.{◌≡◌}
-use Rattle.fix_interval.specs.Interval.{Interval, IsInterval}
+use Rattle.fix_interval.specs.Interval.{IsInterval}
 use Rattle.fix_interval.specs.Lg.{lg_of}
 use Rattle.fix_interval.specs.Ten.{ten_of}
 use Rattle.fix_interval.specs.ExpNeg.{exp_neg_of}

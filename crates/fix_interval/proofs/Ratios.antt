@@ -1,9 +1,9 @@
 -- Lemmas on the interval of a fraction.
-use Rattle.std.proofs.Common.{◌≡◌, ℕ, ◌<◌, ◌≤◌, ◌^◌, ℤ, pos, ◌*ℤ◌, arith, refl, ap, sym, ◌*◌, true, false, to_z, of_z}
+use Rattle.std.proofs.Common.{◌≡◌, ℕ, ◌<◌, ◌≤◌, ◌^◌, ℤ, pos, ◌*ℤ◌, arith, sym, ◌*◌, true, false, to_z, of_z}
 use Rattle.std.specs.Prelude.{unsigned_abs, Some, nat_lt}
-use Rattle.std.proofs.lemmas.Int.{ints, unsigned_abs-mul, to_z-of_z, fits_signed_from_abs}
+use Rattle.std.proofs.lemmas.Int.{unsigned_abs-mul, to_z-of_z, fits_signed_from_abs}
 use Rattle.std.specs.Int.{w128}
-use Rattle.fix_interval.specs.Interval.{Interval, All, IsInterval, IsEnd, IsOrdered}
+use Rattle.fix_interval.specs.Interval.{All, IsInterval}
 use Rattle.fix_interval.specs.Units.{unit, unit-is}
 use Rattle.fix_interval.specs.Round.{floor_of, ceil_of}
 use Rattle.fix_interval.specs.Values.{ratio_of}

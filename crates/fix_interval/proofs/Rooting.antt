@@ -1,6 +1,6 @@
 -- Lemmas on square roots rounded down and up.
-use Rattle.std.proofs.Common.{◌≡◌, ℕ, zero, suc, ◌+◌, ◌-◌, ◌*◌, ◌<◌, ◌≤◌, ◌^◌, ℤ, pos, negsuc, ◌≤ℤ◌, ◌<ℤ◌, arith, refl, sym, ap, ◌∙◌, true, false, to_z, of_z, min}
-use Rattle.std.specs.Prelude.{unsigned_abs, nat_lt, nat_le, Some, None, Option, Bool, if◌then◌else◌, ◌==◌, ◌⊎◌}
+use Rattle.std.proofs.Common.{◌≡◌, ℕ, zero, suc, ◌+◌, ◌-◌, ◌*◌, ◌<◌, ◌≤◌, ◌^◌, ℤ, pos, negsuc, ◌≤ℤ◌, arith, refl, ap, ◌∙◌, true, false, to_z, of_z}
+use Rattle.std.specs.Prelude.{unsigned_abs, nat_le, Some, None, Option, Bool, if◌then◌else◌, ◌⊎◌}
 use Rattle.std.proofs.Common.{inl, inr}
 use Rattle.std.proofs.lemmas.Bool.{cases_lt}
 use Rattle.std.proofs.Math.Nat.{mul-le-mul, mul-le-mul_right, le_trans}
@@ -125,7 +125,7 @@ IsOrdered-roots low (Some (pos n)) h = ordered_by (cases_lt n (2 ^ 95)) where
   ordered_by (inl k) =
       let le : low_radicand low * unit ≤ n * unit = mul-le-mul_right unit (low_radicand-le low n h) in
       let roots : floor_root (low_radicand low * unit) ≤ ceil_root (n * unit) =
-        le_trans (floor_root-mono (low_radicand low * unit) (n * unit) le) (floor_root-le-ceil_root (n * unit)) in
+      le_trans (floor_root-mono (low_radicand low * unit) (n * unit) le) (floor_root-le-ceil_root (n * unit)) in
       rw (high_root_is n k) (omega (arith, ints))
 
 pub root_of-below_zero : (a : Interval) → is_below_zero a.hi ≡ true → root_of a ≡ All

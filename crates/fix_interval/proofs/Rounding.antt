@@ -1,11 +1,11 @@
 -- Lemmas on quotients rounded down and up.
-use Rattle.std.proofs.Common.{◌≡◌, ℕ, zero, suc, ◌+◌, ◌-◌, ◌*◌, ◌/◌, ◌%◌, ◌<◌, ◌≤◌, ℤ, pos, negsuc, ◌*ℤ◌, neg_ℤ, ◌≤ℤ◌, ◌<ℤ◌, arith, refl, sym, ap, ◌∙◌, subst}
-use Rattle.std.proofs.Math.Nat.{div-mul-le_self, lt-div-mul-add, div-le_of_le-mul, div-one, div-le_self, mul-le-mul_left, mul-le-mul_right, zero-div, le_trans, mul-div_cancel, mul-div-mul_right, lt-mul-div-succ, div-eq_of_lt-le, pos_of_div-pos, div-add-mod', mod-lt, zero-mod}
+use Rattle.std.proofs.Common.{◌≡◌, ℕ, zero, suc, ◌+◌, ◌*◌, ◌/◌, ◌%◌, ◌<◌, ◌≤◌, ℤ, pos, negsuc, ◌*ℤ◌, neg_ℤ, ◌≤ℤ◌, ◌<ℤ◌, arith, refl, sym, ap, ◌∙◌}
+use Rattle.std.proofs.Math.Nat.{div-mul-le_self, lt-div-mul-add, div-le_of_le-mul, div-one, div-le_self, mul-le-mul_left, zero-div, le_trans, div-eq_of_lt-le, div-add-mod', mod-lt, zero-mod}
 use Rattle.std.proofs.lemmas.Nat.{le-div}
 use Rattle.std.specs.Prelude.{unsigned_abs}
 use Rattle.std.specs.Int.{div_ceil}
 use Rattle.std.proofs.lemmas.Int.{ints}
-use Rattle.fix_interval.specs.Round.{floor_of, ceil_of, numerator_of, floor_quotient, ceil_quotient}
+use Rattle.fix_interval.specs.Round.{floor_of, ceil_of}
 
 -- ---- quotients of naturals
 

@@ -1,22 +1,21 @@
 -- The values of the table enclose what they are taken of, node by node.
-use Rattle.std.proofs.Common.{◌≡◌, ℕ, zero, suc, ◌+◌, ◌*◌, ◌<◌, ◌≤◌, ◌^◌, ℤ, pos, negsuc, ◌+ℤ◌, ◌*ℤ◌, neg_ℤ, ◌≤ℤ◌, ◌<ℤ◌, arith, refl, sym, ap, ◌∙◌, inl, inr, subst, true, false}
-use Rattle.std.specs.Prelude.{unsigned_abs, Option, Some, None, IfSome, IsSome, IsSomeAnd, ◌⊎◌, unwrap_or, Bool, int_lt, int_le, nat_lt, if◌then◌else◌, ◌&&◌, ◌||◌, not}
+use Rattle.std.proofs.Common.{◌≡◌, ℕ, zero, suc, ◌*◌, ◌<◌, ◌≤◌, ◌^◌, ℤ, pos, negsuc, ◌+ℤ◌, ◌*ℤ◌, neg_ℤ, ◌≤ℤ◌, ◌<ℤ◌, arith, refl, inl, inr, true, false}
+use Rattle.std.specs.Prelude.{unsigned_abs, Option, Some, None, IfSome, ◌⊎◌, unwrap_or, Bool, int_lt, int_le, nat_lt, if◌then◌else◌, ◌&&◌, ◌||◌, not}
 use Rattle.std.specs.Option.{option_map}
 use Rattle.std.specs.Int.{int_max, int_min}
 use Rattle.std.specs.Int.Signed.{≤ℤ_refl}
-use Rattle.std.proofs.Math.Nat.{mul-le-mul_right, le_trans}
 use Rattle.std.proofs.lemmas.Int.{ints, clamps}
 use Rattle.std.proofs.lemmas.Bool.{cases_lt}
 use Rattle.fix_interval.specs.declared.truth.Truth.{Truth}
 use Rattle.fix_interval.specs.declared.truth.Truth.TheVariants.{Sure, Never, Unsure}
 use Rattle.fix_interval.specs.Interval.{Interval, All, IsInterval, IsOrdered}
 use Rattle.fix_interval.specs.Units.{unit}
-use Rattle.fix_interval.specs.Round.{floor_of, ceil_of, floor_quotient, ceil_quotient, floor_root, ceil_root}
+use Rattle.fix_interval.specs.Round.{floor_of, ceil_of, floor_quotient, ceil_quotient, floor_root}
 use Rattle.fix_interval.specs.Values.{end_of, ratio_of, sum_of_ends, add_of, neg_of, greater_low, lesser_low, greater_high, lesser_high, max_of, min_of, hull_of, on_ends, least_of, greatest_of, least_product, greatest_product, product_of_ends, rounded_outward, mul_of, holds_zero, quotient_of_ends, div_of, low_radicand, root_of_high, is_below_zero, root_of, less_of, pick_of}
-use Rattle.fix_interval.specs.Rules.{EndMeets, NotAbove, NotBelow, IsBounded, IsAtMostQuotient, IsAtLeastQuotient, exact_sum, HasEnd, Holds, HoldsRatio, HoldsSum, HoldsNegation, HoldsGreater, HoldsLesser, HoldsProduct, HoldsQuotient, HoldsRoot}
+use Rattle.fix_interval.specs.Rules.{EndMeets, NotAbove, NotBelow, IsBounded, IsAtMostQuotient, IsAtLeastQuotient, exact_sum, HasEnd, Holds, HoldsSum, HoldsNegation, HoldsGreater, HoldsLesser, HoldsProduct, HoldsQuotient}
 use Rattle.fix_interval.specs.Tree.{Tree, Known, Const, Add, Neg, Mul, Div, Max, Min, Root, Pick}
 use Rattle.fix_interval.specs.Encloses.{Encloses, everything, known, constant, sum, negation, product, quotient, greater, lesser, square_root, pick_first, pick_second, pick_both}
-use Rattle.fix_interval.proofs.Rounding.{floor_of-times, ceil_of-times, neg_ℤ-*ℤ}
+use Rattle.fix_interval.proofs.Rounding.{floor_of-times, ceil_of-times}
 use Rattle.fix_interval.proofs.Ratios.{ratio_of-small, ratio_of-large}
 use Rattle.fix_interval.proofs.Dividing.{≤ℤ_trans, unit-pos}
 use Rattle.fix_interval.proofs.Multiplying.{end_of-small, end_of-large, times-mono}
@@ -195,15 +194,15 @@ HoldsProduct-least al ah bl bh =
       first_bounded = span-bounded al ah;
       second_bounded = span-bounded bl bh;
       low = corners (λ x y. (floor_of least unit *ℤ pos unit) ≤ℤ (x *ℤ y)) al ah bl bh
-        (≤ℤ_trans (floor_of least unit *ℤ pos unit) least (al *ℤ bl) down lows.0)
-        (≤ℤ_trans (floor_of least unit *ℤ pos unit) least (al *ℤ bh) down lows.1)
-        (≤ℤ_trans (floor_of least unit *ℤ pos unit) least (ah *ℤ bl) down lows.2)
-        (≤ℤ_trans (floor_of least unit *ℤ pos unit) least (ah *ℤ bh) down lows.3);
+          (≤ℤ_trans (floor_of least unit *ℤ pos unit) least (al *ℤ bl) down lows.0)
+          (≤ℤ_trans (floor_of least unit *ℤ pos unit) least (al *ℤ bh) down lows.1)
+          (≤ℤ_trans (floor_of least unit *ℤ pos unit) least (ah *ℤ bl) down lows.2)
+          (≤ℤ_trans (floor_of least unit *ℤ pos unit) least (ah *ℤ bh) down lows.3);
       high = corners (λ x y. (x *ℤ y) ≤ℤ (ceil_of greatest unit *ℤ pos unit)) al ah bl bh
-        (≤ℤ_trans (al *ℤ bl) greatest (ceil_of greatest unit *ℤ pos unit) highs.0 up)
-        (≤ℤ_trans (al *ℤ bh) greatest (ceil_of greatest unit *ℤ pos unit) highs.1 up)
-        (≤ℤ_trans (ah *ℤ bl) greatest (ceil_of greatest unit *ℤ pos unit) highs.2 up)
-        (≤ℤ_trans (ah *ℤ bh) greatest (ceil_of greatest unit *ℤ pos unit) highs.3 up);
+          (≤ℤ_trans (al *ℤ bl) greatest (ceil_of greatest unit *ℤ pos unit) highs.0 up)
+          (≤ℤ_trans (al *ℤ bh) greatest (ceil_of greatest unit *ℤ pos unit) highs.1 up)
+          (≤ℤ_trans (ah *ℤ bl) greatest (ceil_of greatest unit *ℤ pos unit) highs.2 up)
+          (≤ℤ_trans (ah *ℤ bh) greatest (ceil_of greatest unit *ℤ pos unit) highs.3 up);
     }
 
 rounded_outward-open : (x : Option ℤ) → rounded_outward x None ≡ All
@@ -276,15 +275,15 @@ HoldsQuotient-least al ah bl bh apart p q =
       divisor_bounded = span-bounded bl bh;
       apart_from_zero = apart;
       low = corners (λ x y. IsAtMostQuotient least (x *ℤ pos unit) y) al ah bl bh
-        (AtMostQuotient-lower l bl (floor_quotient l bl) least lows.0 (floor_quotient-below l bl p))
-        (AtMostQuotient-lower l bh (floor_quotient l bh) least lows.1 (floor_quotient-below l bh q))
-        (AtMostQuotient-lower g bl (floor_quotient g bl) least lows.2 (floor_quotient-below g bl p))
-        (AtMostQuotient-lower g bh (floor_quotient g bh) least lows.3 (floor_quotient-below g bh q));
+          (AtMostQuotient-lower l bl (floor_quotient l bl) least lows.0 (floor_quotient-below l bl p))
+          (AtMostQuotient-lower l bh (floor_quotient l bh) least lows.1 (floor_quotient-below l bh q))
+          (AtMostQuotient-lower g bl (floor_quotient g bl) least lows.2 (floor_quotient-below g bl p))
+          (AtMostQuotient-lower g bh (floor_quotient g bh) least lows.3 (floor_quotient-below g bh q));
       high = corners (λ x y. IsAtLeastQuotient greatest (x *ℤ pos unit) y) al ah bl bh
-        (AtLeastQuotient-higher l bl (ceil_quotient l bl) greatest highs.0 (ceil_quotient-above l bl p))
-        (AtLeastQuotient-higher l bh (ceil_quotient l bh) greatest highs.1 (ceil_quotient-above l bh q))
-        (AtLeastQuotient-higher g bl (ceil_quotient g bl) greatest highs.2 (ceil_quotient-above g bl p))
-        (AtLeastQuotient-higher g bh (ceil_quotient g bh) greatest highs.3 (ceil_quotient-above g bh q));
+          (AtLeastQuotient-higher l bl (ceil_quotient l bl) greatest highs.0 (ceil_quotient-above l bl p))
+          (AtLeastQuotient-higher l bh (ceil_quotient l bh) greatest highs.1 (ceil_quotient-above l bh q))
+          (AtLeastQuotient-higher g bl (ceil_quotient g bl) greatest highs.2 (ceil_quotient-above g bl p))
+          (AtLeastQuotient-higher g bh (ceil_quotient g bh) greatest highs.3 (ceil_quotient-above g bh q));
     }
 
 -- a choice of nothing known or an enclosure encloses
@@ -306,9 +305,9 @@ unfolding least_quotient_of greatest_quotient_of Apart
 quotient_step a b al ah bl bh o x y =
     chosen (Div a b) (holds_zero bl bh) (nat_lt (unsigned_abs al) (2 ^ 94)) (nat_lt (unsigned_abs ah) (2 ^ 94)) (span (least_quotient_of al ah bl bh) (greatest_quotient_of al ah bl bh))
     (λ h. quotient x y (quotient_by (apart_from_zero bl bh h))) where
-  quotient_by : (pos 0 <ℤ bl) ⊎ (bh <ℤ pos 0) → HoldsQuotient (span al ah) (span bl bh) (span (least_quotient_of al ah bl bh) (greatest_quotient_of al ah bl bh))
-  quotient_by (inl p) = HoldsQuotient-least al ah bl bh (inl p) (inl p) (inl (omega (arith, ints)))
-  quotient_by (inr n) = HoldsQuotient-least al ah bl bh (inr n) (inr (omega (arith, ints))) (inr n)
+      quotient_by : (pos 0 <ℤ bl) ⊎ (bh <ℤ pos 0) → HoldsQuotient (span al ah) (span bl bh) (span (least_quotient_of al ah bl bh) (greatest_quotient_of al ah bl bh))
+      quotient_by (inl p) = HoldsQuotient-least al ah bl bh (inl p) (inl p) (inl (omega (arith, ints)))
+      quotient_by (inr n) = HoldsQuotient-least al ah bl bh (inr n) (inr (omega (arith, ints))) (inr n)
 
 div_step : (a b : Tree) (al ah bl bh : Option ℤ) → IsOrdered bl bh → Encloses a (record { lo = al; hi = ah }) → Encloses b (record { lo = bl; hi = bh }) → Encloses (Div a b) (on_ends quotient_of_ends al ah bl bh)
 div_step a b None ah bl bh o x y = everything

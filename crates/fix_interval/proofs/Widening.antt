@@ -1,16 +1,15 @@
 -- What encloses a formula at an interval encloses it at every interval that holds that one.
-use Rattle.std.proofs.Common.{◌≡◌, ℕ, zero, suc, ◌+◌, ◌*◌, ◌<◌, ◌≤◌, ◌^◌, ℤ, pos, negsuc, ◌+ℤ◌, ◌*ℤ◌, neg_ℤ, ◌≤ℤ◌, ◌<ℤ◌, arith, refl, sym, ap, ◌∙◌, inl, inr, subst}
+use Rattle.std.proofs.Common.{◌≡◌, ℕ, suc, ◌*◌, ◌≤◌, ◌^◌, ℤ, pos, negsuc, ◌*ℤ◌, neg_ℤ, ◌≤ℤ◌, arith, refl, inl, inr}
 use Rattle.std.specs.Prelude.{unsigned_abs, Option, Some, None, IfSome, IsSomeAnd, ◌⊎◌, unwrap_or}
 use Rattle.std.specs.Option.{option_map}
 use Rattle.std.specs.Int.{int_max}
-use Rattle.std.proofs.Math.Nat.{mul-le-mul, mul-le-mul_left, mul-le-mul_right, le_trans, pow-le-pow_left, pow-le-pow_right, one-le-pow, le_refl}
+use Rattle.std.proofs.Math.Nat.{mul-le-mul, mul-le-mul_left, mul-le-mul_right, le_trans, pow-le-pow_left, pow-le-pow_right, one-le-pow}
 use Rattle.std.proofs.lemmas.Int.{ints}
-use Rattle.std.proofs.lemmas.Bool.{cases_lt}
 use Rattle.fix_interval.specs.Interval.{Interval, All}
 use Rattle.fix_interval.specs.Units.{unit}
 use Rattle.fix_interval.specs.Lg.{IsAtMostLg, IsAtLeastLg}
-use Rattle.fix_interval.specs.Powers.{IsAtMostDecay, IsAtLeastDecay, factorial_20, exponential_sum}
-use Rattle.fix_interval.specs.Rules.{EndMeets, NotAbove, NotBelow, IsAtMostQuotient, IsAtLeastQuotient, exact_sum, HasEnd, Holds, HoldsRatio, HoldsSum, HoldsNegation, HoldsGreater, HoldsLesser, HoldsProduct, HoldsQuotient, HoldsRoot, HoldsLogarithm, HoldsTenPower, HoldsDecay}
+use Rattle.fix_interval.specs.Powers.{IsAtMostDecay, IsAtLeastDecay, exponential_sum}
+use Rattle.fix_interval.specs.Rules.{EndMeets, NotAbove, NotBelow, IsAtMostQuotient, IsAtLeastQuotient, exact_sum, Holds, HoldsRatio, HoldsSum, HoldsNegation, HoldsGreater, HoldsLesser, HoldsProduct, HoldsQuotient, HoldsRoot, HoldsLogarithm, HoldsTenPower, HoldsDecay}
 use Rattle.fix_interval.specs.Tree.{Tree}
 use Rattle.fix_interval.specs.Encloses.{Encloses, everything, known, constant, sum, negation, product, quotient, greater, lesser, square_root, logarithm, ten_power, decay, pick_first, pick_second, pick_both}
 use Rattle.fix_interval.proofs.Dividing.{≤ℤ_trans}
@@ -214,9 +213,9 @@ some_power (Some n) l m z o p = AtLeastLg-lesser n (unsigned_abs l) (unsigned_ab
 HoldsTenPower-wider : (i k w : Interval) → Holds k w → HoldsTenPower i k → HoldsTenPower i w
 HoldsTenPower-wider i k w h r = record {
   low = some_lower (λ l. (l ≤ℤ pos 0) ⊎ IsSomeAnd i.lo (λ n. IsAtLeastLg n (unsigned_abs l))) k.lo w.lo
-    (or_lower (λ l. IsSomeAnd i.lo (λ n. IsAtLeastLg n (unsigned_abs l))) (some_power i.lo)) h.low r.low;
+      (or_lower (λ l. IsSomeAnd i.lo (λ n. IsAtLeastLg n (unsigned_abs l))) (some_power i.lo)) h.low r.low;
   high = meets_higher (λ l n. (pos 0 ≤ℤ l) × IsAtMostLg n (unsigned_abs l)) k.hi w.hi i.hi
-    (λ l m n o p. (≤ℤ_trans (pos 0) l m p.0 o, AtMostLg-greater n (unsigned_abs l) (unsigned_abs m) (unsigned_abs-mono l m p.0 o) p.1)) h.high r.high;
+      (λ l m n o p. (≤ℤ_trans (pos 0) l m p.0 o, AtMostLg-greater n (unsigned_abs l) (unsigned_abs m) (unsigned_abs-mono l m p.0 o) p.1)) h.high r.high;
 }
 
 some_decay : (x : Option ℤ) (l m : ℤ) → pos 0 ≤ℤ m → m ≤ℤ l → IsSomeAnd x (λ n. IsAtMostDecay l n) → IsSomeAnd x (λ n. IsAtMostDecay m n)
@@ -227,7 +226,7 @@ HoldsDecay-wider : (i k w : Interval) → Holds k w → HoldsDecay i k → Holds
 HoldsDecay-wider i k w h r = record {
   not_negative = r.not_negative;
   low = some_lower (λ l. (l ≤ℤ pos 0) ⊎ IsSomeAnd i.hi (λ n. IsAtMostDecay l n)) k.lo w.lo
-    (or_lower (λ l. IsSomeAnd i.hi (λ n. IsAtMostDecay l n)) (some_decay i.hi)) h.low r.low;
+      (or_lower (λ l. IsSomeAnd i.hi (λ n. IsAtMostDecay l n)) (some_decay i.hi)) h.low r.low;
   high = meets_higher IsAtLeastDecay k.hi w.hi i.lo AtLeastDecay-greater h.high r.high;
 }
 

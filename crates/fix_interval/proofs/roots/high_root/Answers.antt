@@ -1,5 +1,5 @@
-use Rattle.std.proofs.Common.{◌≡◌, ◌∙◌, sym, ap, arith, rules, pos, ◌≤ℤ◌, ◌<◌, ◌^◌, ℕ, ℤ, to_z, of_z, ◌*◌}
-use Rattle.std.specs.Prelude.{unsigned_abs, FitsSigned, Some}
+use Rattle.std.proofs.Common.{◌≡◌, ◌∙◌, sym, ap, arith, rules, pos, ◌≤ℤ◌, ◌<◌, ◌^◌, ℤ, to_z, of_z, ◌*◌}
+use Rattle.std.specs.Prelude.{unsigned_abs, FitsSigned}
 use Rattle.std.specs.Int.{w128}
 use Rattle.std.proofs.lemmas.Int.{ints, to_z-of_z}
 use Rattle.fix_interval.specs.Round.{ceil_root}
@@ -14,6 +14,6 @@ returns-in-Some c =
     let positive : pos 0 ≤ℤ c.in-Some.end = omega (arith, ints) in
     let small : unsigned_abs c.in-Some.end < 2 ^ 95 = omega (arith, ints) in
     let root : c.rounded_up.result ≡ ceil_root (unsigned_abs c.in-Some.end * 2 ^ 32) =
-      c.rounded_up.ensures.value ∙ ap (λ (z : ℤ). ceil_root (unsigned_abs z * 2 ^ 32)) same in
+    c.rounded_up.ensures.value ∙ ap (λ (z : ℤ). ceil_root (unsigned_abs z * 2 ^ 32)) same in
     high_root_found c.in-Some.end c.rounded_up.result positive small root c.rounded_up.ensures.limited
     ∙ ap root_of_high (sym c.in-Some.is)

@@ -1,6 +1,5 @@
-use Rattle.std.proofs.Common.{◌≡◌, ◌∙◌, sym, false, true, ap}
-use Rattle.fix_interval.specs.Interval.{Interval, IsInterval}
-use Rattle.fix_interval.specs.Values.{is_below_zero, root_of_high}
+use Rattle.std.proofs.Common.{◌≡◌, sym, false}
+use Rattle.fix_interval.specs.Values.{is_below_zero}
 use Rattle.fix_interval.proofs.Rooting.{root_of-below_zero, root_of-roots, IsInterval-roots, low_root_passed}
 use Rattle.fix_interval.proofs.roots.root.Goals as goal
 

@@ -1,4 +1,4 @@
-use Rattle.std.proofs.Common.{◌≡◌, sym, arith, ◌<◌, ◌*◌}
+use Rattle.std.proofs.Common.{sym, arith}
 use Rattle.fix_interval.proofs.Rooting.{floor_root-unique, ceil_root-exact, ceil_root-inexact}
 use Rattle.fix_interval.proofs.roots.rounded_up.Goals as goal
 
