@@ -1,1 +1,1 @@
-pub mod LowEnds
+pub mod Ends

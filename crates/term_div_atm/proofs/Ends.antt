@@ -1,0 +1,276 @@
+-- The ends of the attenuations are bounded.
+use Rattle.std.proofs.Common.{◌≡◌, ℕ, ◌+◌, ◌*◌, ◌<◌, ◌≤◌, ◌^◌, ℤ, pos, negsuc, ◌+ℤ◌, ◌*ℤ◌, ◌≤ℤ◌, ◌<ℤ◌, unsigned_abs, Option, refl, sym, ap, ◌∙◌, subst, arith, lit<}
+use Rattle.std.specs.Prelude.{Some, None, IsSomeAnd, IfSome}
+use Rattle.std.specs.Int.{int_max, int_min}
+use Rattle.std.proofs.lemmas.Int.{ints, clamps}
+use Rattle.std.proofs.Math.IntN.{*ℤ-zero}
+use Rattle.fix_interval.specs.Units.{unit, unit-is}
+use Rattle.fix_interval.specs.Interval.{Interval, IsInterval, IsOrdered, All}
+use Rattle.fix_interval.specs.Round.{floor_of, ceil_of, floor_quotient, ceil_quotient}
+use Rattle.fix_interval.specs.Values.{ratio_of, add_of, sum_of_ends, end_of, mul_of, div_of, max_of, greater_low, greater_high, on_ends, product_of_ends, least_of, greatest_of, least_product, greatest_product, rounded_outward, quotient_of_ends}
+use Rattle.fix_interval.specs.Lg.{lg_of, lg_low, lg_high}
+use Rattle.fix_interval.proofs.Ratios.{ratio_of-one, nat_lt-yes}
+use Rattle.fix_interval.proofs.Ends.{on_ends-bounded}
+use Rattle.fix_interval.proofs.Rounding.{floor_of-mono, ceil_of-mono, floor_of-le-ceil_of}
+use Rattle.fix_interval.proofs.Multiplying.{times-mono, times-mono_right, end_of-small, least_of-le-greatest_of}
+use Rattle.fix_interval.proofs.Order.{int_min-keeps, int_max-keeps}
+use Rattle.fix_interval.proofs.Dividing.{quotient_of_ends-positive, ≤ℤ_trans, units-mono, units-not_negative}
+use Rattle.enclose_log.proofs.LgInterval.{made-bounded, lg_of-interval}
+use Rattle.term_div_atm.specs.Bounds.{IsBetween, AreBetween}
+
+-- ---- one metre at least
+
+abbrev one_unit : ℤ
+one_unit = pos 1 *ℤ pos unit
+
+one_unit-is : one_unit ≡ pos (2 ^ 32)
+unfolding unit
+one_unit-is = refl
+
+one_metre : ratio_of (pos 1) 1 ≡ record { lo = Some one_unit; hi = Some one_unit }
+one_metre = ratio_of-one (pos 1) (lit< tt)
+
+greater_low-one : (end : Option ℤ) (one : ℤ) → pos (2 ^ 32) ≤ℤ one → IsSomeAnd (greater_low (Some one) end) (λ z. pos (2 ^ 32) ≤ℤ z)
+greater_low-one None one h = h
+greater_low-one (Some z) one h = omega (arith, ints, clamps)
+
+pub at_least_one-low : (d : Interval) → IsSomeAnd (max_of (ratio_of (pos 1) 1) d).lo (λ z. pos (2 ^ 32) ≤ℤ z)
+unfolding max_of
+at_least_one-low d = rw one_metre (greater_low-one d.lo one_unit (rw one_unit-is (omega (arith, ints))))
+
+-- where the distance is bounded, so is the greater of it and one metre
+greater_high-one : (end : Option ℤ) (one limit : ℤ) → IsSomeAnd end (λ z. z ≤ℤ limit) → one ≤ℤ limit → (h : ℤ) × (greater_high (Some one) end ≡ Some h) × (h ≤ℤ limit)
+greater_high-one None one limit h k = absurd h
+greater_high-one (Some z) one limit h k = (int_max one z, refl, omega (arith, ints, clamps))
+
+pub at_least_one-high : (d : Interval) (limit : ℤ) → IsSomeAnd d.hi (λ z. z ≤ℤ limit) → pos (2 ^ 32) ≤ℤ limit → (h : ℤ) × ((max_of (ratio_of (pos 1) 1) d).hi ≡ Some h) × (h ≤ℤ limit)
+unfolding max_of
+at_least_one-high d limit h k = rw one_metre (greater_high-one d.hi one_unit limit h (rw one_unit-is k))
+
+-- ---- products that aren't negative
+
+abbrev Within : ℤ → ℤ → Type 0
+Within limit z = (pos 0 ≤ℤ z) × (z ≤ℤ limit)
+
+small_within : (limit z : ℤ) → limit <ℤ pos (2 ^ 126) → Within limit z → unsigned_abs z < 2 ^ 126
+small_within limit (pos n) h w = omega (arith, ints, h, w.0, w.1)
+small_within limit (negsuc n) h w = absurd (omega (arith, ints, w.0))
+
+pub record Span (limit : ℤ) (i : Interval) : Type 0 where
+  pub lo : ℤ
+  pub hi : ℤ
+  pub lo_is : i.lo ≡ Some lo
+  pub hi_is : i.hi ≡ Some hi
+  pub not_negative : pos 0 ≤ℤ lo
+  pub ordered : lo ≤ℤ hi
+  pub below : hi ≤ℤ limit
+
+unit-pos : 0 < unit
+unit-pos = rw unit-is (omega arith)
+
+floor-zero : floor_of (pos 0) unit ≡ pos 0
+unfolding unit
+floor-zero = refl
+
+floor-not_negative : (z : ℤ) → pos 0 ≤ℤ z → pos 0 ≤ℤ floor_of z unit
+floor-not_negative z h = let m = floor_of-mono (pos 0) z unit unit-pos h in rw floor-zero at m
+
+span-outward : (limit least greatest : ℤ) → limit <ℤ pos (2 ^ 126) → Within limit least → Within limit greatest → least ≤ℤ greatest → Span (ceil_of limit unit) (rounded_outward (end_of least) (end_of greatest))
+span-outward limit least greatest small low high ordered =
+    rw (end_of-small least (small_within limit least small low), end_of-small greatest (small_within limit greatest small high))
+    (record {
+      lo = floor_of least unit;
+      hi = ceil_of greatest unit;
+      lo_is = refl;
+      hi_is = refl;
+      not_negative = floor-not_negative least low.0;
+      ordered = ≤ℤ_trans (floor_of least unit) (ceil_of least unit) (ceil_of greatest unit) (floor_of-le-ceil_of least unit unit-pos) (ceil_of-mono least greatest unit unit-pos ordered);
+      below = ceil_of-mono greatest limit unit unit-pos high.1;
+    })
+
+within-product : (x y a b : ℤ) → Within a x → Within b y → Within (a *ℤ b) (x *ℤ y)
+within-product x y a b hx hy =
+    (let m = times-mono_right x (pos 0) y hx.0 hy.0 in rw *ℤ-zero at m,
+     ≤ℤ_trans (x *ℤ y) (x *ℤ b) (a *ℤ b) (times-mono_right x y b hx.0 hy.1) (times-mono x a b (≤ℤ_trans (pos 0) y b hy.0 hy.1) hx.1))
+
+least-within : (limit p q r s : ℤ) → Within limit p → Within limit q → Within limit r → Within limit s → Within limit (least_of p q r s)
+least-within limit p q r s hp hq hr hs = int_min-keeps (Within limit) _ _ (int_min-keeps (Within limit) p q hp hq) (int_min-keeps (Within limit) r s hr hs)
+
+greatest-within : (limit p q r s : ℤ) → Within limit p → Within limit q → Within limit r → Within limit s → Within limit (greatest_of p q r s)
+greatest-within limit p q r s hp hq hr hs = int_max-keeps (Within limit) _ _ (int_max-keeps (Within limit) p q hp hq) (int_max-keeps (Within limit) r s hr hs)
+
+-- the product of two spans that aren't negative
+span-mul : (x y : Interval) (a b : ℤ) → Span a x → Span b y → (a *ℤ b) <ℤ pos (2 ^ 126) → Span (ceil_of (a *ℤ b) unit) (mul_of x y)
+unfolding mul_of
+span-mul x y a b hx hy small =
+    let xl : Within a hx.lo = (hx.not_negative, ≤ℤ_trans hx.lo hx.hi a hx.ordered hx.below) in
+    let xh : Within a hx.hi = (≤ℤ_trans (pos 0) hx.lo hx.hi hx.not_negative hx.ordered, hx.below) in
+    let yl : Within b hy.lo = (hy.not_negative, ≤ℤ_trans hy.lo hy.hi b hy.ordered hy.below) in
+    let yh : Within b hy.hi = (≤ℤ_trans (pos 0) hy.lo hy.hi hy.not_negative hy.ordered, hy.below) in
+    let p = within-product hx.lo hy.lo a b xl yl in
+    let q = within-product hx.lo hy.hi a b xl yh in
+    let r = within-product hx.hi hy.lo a b xh yl in
+    let s = within-product hx.hi hy.hi a b xh yh in
+    subst (Span (ceil_of (a *ℤ b) unit)) (sym (on_ends-bounded product_of_ends x y hx.lo hx.hi hy.lo hy.hi (hx.lo_is, hx.hi_is) (hy.lo_is, hy.hi_is)))
+        (span-outward (a *ℤ b) _ _ small (least-within (a *ℤ b) _ _ _ _ p q r s) (greatest-within (a *ℤ b) _ _ _ _ p q r s)
+            (least_of-le-greatest_of (hx.lo *ℤ hy.lo) (hx.lo *ℤ hy.hi) (hx.hi *ℤ hy.lo) (hx.hi *ℤ hy.hi)))
+
+-- a whole number alone
+units-is : (n : ℕ) → (pos n *ℤ pos unit) ≡ pos (n * 2 ^ 32)
+units-is n = ap (λ u. pos (n * u)) unit-is
+
+span-exact : (n : ℕ) (limit : ℤ) → n < 2 ^ 60 → pos (n * 2 ^ 32) ≤ℤ limit → Span limit (ratio_of (pos n) 1)
+span-exact n limit small h = record {
+  lo = pos n *ℤ pos unit;
+  hi = pos n *ℤ pos unit;
+  lo_is = ap (λ (i : Interval). i.lo) (ratio_of-one (pos n) (omega arith));
+  hi_is = ap (λ (i : Interval). i.hi) (ratio_of-one (pos n) (omega arith));
+  not_negative = rw (units-is n) (omega (arith, ints));
+  ordered = omega (arith, ints);
+  below = rw (units-is n) h;
+}
+
+-- ---- divergence
+
+span-of : (limit : ℤ) (i : Interval) (lo hi : Option ℤ) → lo ≡ i.lo → hi ≡ i.hi → IsOrdered lo hi → IsSomeAnd lo (λ z. pos 0 ≤ℤ z) → IsSomeAnd hi (λ z. z ≤ℤ limit) → Span limit i
+span-of limit i None hi lo_is hi_is ordered low high = absurd low
+span-of limit i (Some l) None lo_is hi_is ordered low high = absurd high
+span-of limit i (Some l) (Some h) lo_is hi_is ordered low high = record { lo = l; hi = h; lo_is = sym lo_is; hi_is = sym hi_is; not_negative = low; ordered = ordered; below = high }
+
+lg_limit : ceil_of (pos (20 * 2 ^ 32) *ℤ pos (29 * 2 ^ 32)) unit ≡ pos (580 * 2 ^ 32)
+unfolding unit
+lg_limit = refl
+
+-- eleven more
+eleven-more : (x : ℤ) → Within (pos (580 * 2 ^ 32)) x → IsBetween (pos (11 * 2 ^ 32)) (pos (600 * 2 ^ 32)) (end_of (x +ℤ pos (11 * 2 ^ 32)))
+eleven-more x w =
+    let sum = x +ℤ pos (11 * 2 ^ 32) in
+    let within : Within (pos (600 * 2 ^ 32)) sum = (omega (arith, ints, w.0), omega (arith, ints, w.1)) in
+    rw (end_of-small sum (small_within (pos (600 * 2 ^ 32)) sum (omega (arith, ints)) within)) (omega (arith, ints, w.0), omega (arith, ints, w.1))
+
+add-within : (m : Interval) → Span (pos (580 * 2 ^ 32)) m → AreBetween (pos (11 * 2 ^ 32)) (pos (600 * 2 ^ 32)) (add_of m (ratio_of (pos 11) 1))
+unfolding add_of
+add-within m span = record {
+  lo = rw (span.lo_is, ratio_of-one (pos 11) (lit< tt), units-is 11) (eleven-more span.lo (span.not_negative, ≤ℤ_trans span.lo span.hi (pos (580 * 2 ^ 32)) span.ordered span.below));
+  hi = rw (span.hi_is, ratio_of-one (pos 11) (lit< tt), units-is 11) (eleven-more span.hi (≤ℤ_trans (pos 0) span.lo span.hi span.not_negative span.ordered, span.below));
+}
+
+pub divergence-within : (logarithm : Interval) → IsInterval logarithm → IsSomeAnd logarithm.lo (λ z. pos 0 ≤ℤ z) → IsSomeAnd logarithm.hi (λ z. z ≤ℤ pos (29 * 2 ^ 32)) → AreBetween (pos (11 * 2 ^ 32)) (pos (600 * 2 ^ 32)) (add_of (mul_of (ratio_of (pos 20) 1) logarithm) (ratio_of (pos 11) 1))
+divergence-within logarithm whole low high =
+    let span = span-of (pos (29 * 2 ^ 32)) logarithm logarithm.lo logarithm.hi refl refl whole.ordered low high in
+    let product = span-mul (ratio_of (pos 20) 1) logarithm (pos (20 * 2 ^ 32)) (pos (29 * 2 ^ 32)) (span-exact 20 (pos (20 * 2 ^ 32)) (lit< tt) (omega (arith, ints))) span (omega (arith, ints)) in
+    add-within _ (subst (λ (z : ℤ). Span z (mul_of (ratio_of (pos 20) 1) logarithm)) lg_limit product)
+
+-- the logarithm of a bounded end is bounded
+pub lg-high : (i : Interval) (limit : ℤ) (h : ℤ) → IsSomeAnd i.lo (λ x. pos 1 ≤ℤ x) → i.hi ≡ Some h → IfSome (lg_of i).hi (λ z. z ≤ℤ limit) → IsSomeAnd (lg_of i).hi (λ z. z ≤ℤ limit)
+lg-high i limit h positive bounded below =
+    some_low i.lo refl positive
+  where
+    some_low : (lo : Option ℤ) → lo ≡ i.lo → IsSomeAnd lo (λ x. pos 1 ≤ℤ x) → IsSomeAnd (lg_of i).hi (λ z. z ≤ℤ limit)
+    some_low None e k = absurd k
+    some_low (Some l) e k =
+        let made = made-bounded i l h _ _ e (sym bounded) positive refl refl in
+        let is : (lg_of i).hi ≡ Some (lg_high (unsigned_abs h)) = ap (λ (j : Interval). j.hi) (sym made) in
+        rw is (rw is at below)
+
+-- ---- absorption
+
+absorption_limit : ceil_of (pos (2 ^ 60) *ℤ pos (4096 * 2 ^ 32)) unit ≡ pos (2 ^ 72)
+unfolding unit
+absorption_limit = refl
+
+quotient-zero : floor_of (pos 0) (10000 * 2 ^ 32) ≡ pos 0
+quotient-zero = refl
+
+quotient-limit : floor_of (pos (2 ^ 72) *ℤ pos unit) (10000 * 2 ^ 32) ≤ℤ pos (2 ^ 60)
+unfolding unit
+quotient-limit = omega (arith, ints)
+
+quotient-low : (x : ℤ) → Within (pos (2 ^ 72)) x → Within (pos (2 ^ 60)) (floor_of (x *ℤ pos unit) (10000 * 2 ^ 32))
+quotient-low x w =
+    (let m = floor_of-mono (pos 0) (x *ℤ pos unit) (10000 * 2 ^ 32) (lit< tt) (units-not_negative x w.0) in rw quotient-zero at m,
+     ≤ℤ_trans (floor_of (x *ℤ pos unit) (10000 * 2 ^ 32)) (floor_of (pos (2 ^ 72) *ℤ pos unit) (10000 * 2 ^ 32)) (pos (2 ^ 60))
+         (floor_of-mono (x *ℤ pos unit) (pos (2 ^ 72) *ℤ pos unit) (10000 * 2 ^ 32) (lit< tt) (units-mono x (pos (2 ^ 72)) w.1)) quotient-limit)
+
+ceiling-zero : ceil_of (pos 0) (10000 * 2 ^ 32) ≡ pos 0
+ceiling-zero = refl
+
+ceiling-limit : ceil_of (pos (2 ^ 72) *ℤ pos unit) (10000 * 2 ^ 32) ≤ℤ pos (2 ^ 60)
+unfolding unit
+ceiling-limit = omega (arith, ints)
+
+quotient-high : (x : ℤ) → Within (pos (2 ^ 72)) x → Within (pos (2 ^ 60)) (ceil_of (x *ℤ pos unit) (10000 * 2 ^ 32))
+quotient-high x w =
+    (let m = ceil_of-mono (pos 0) (x *ℤ pos unit) (10000 * 2 ^ 32) (lit< tt) (units-not_negative x w.0) in rw ceiling-zero at m,
+     ≤ℤ_trans (ceil_of (x *ℤ pos unit) (10000 * 2 ^ 32)) (ceil_of (pos (2 ^ 72) *ℤ pos unit) (10000 * 2 ^ 32)) (pos (2 ^ 60))
+         (ceil_of-mono (x *ℤ pos unit) (pos (2 ^ 72) *ℤ pos unit) (10000 * 2 ^ 32) (lit< tt) (units-mono x (pos (2 ^ 72)) w.1)) ceiling-limit)
+
+below_94 : (x : ℤ) → Within (pos (2 ^ 72)) x → unsigned_abs x < 2 ^ 94
+below_94 (pos n) w = omega (arith, ints, w.1)
+below_94 (negsuc n) w = absurd (omega (arith, ints, w.0))
+
+abbrev ten_thousand : ℤ
+ten_thousand = pos (10000 * 2 ^ 32)
+
+quotient-ends : (p : Interval) → (span : Span (pos (2 ^ 72)) p) → div_of p (ratio_of (pos 10000) 1) ≡ record {
+  lo = Some (int_min (floor_quotient (span.lo *ℤ pos unit) ten_thousand) (floor_quotient (span.lo *ℤ pos unit) ten_thousand));
+  hi = Some (int_max (ceil_quotient (span.hi *ℤ pos unit) ten_thousand) (ceil_quotient (span.hi *ℤ pos unit) ten_thousand)) }
+unfolding div_of
+quotient-ends p span =
+    let low : Within (pos (2 ^ 72)) span.lo = (span.not_negative, ≤ℤ_trans span.lo span.hi (pos (2 ^ 72)) span.ordered span.below) in
+    let high : Within (pos (2 ^ 72)) span.hi = (≤ℤ_trans (pos 0) span.lo span.hi span.not_negative span.ordered, span.below) in
+    let by : (ratio_of (pos 10000) 1) ≡ record { lo = Some ten_thousand; hi = Some ten_thousand } = ratio_of-one (pos 10000) (lit< tt) ∙ ap (λ (z : ℤ). record { lo = Some z; hi = Some z }) (units-is 10000) in
+    on_ends-bounded quotient_of_ends p (ratio_of (pos 10000) 1) span.lo span.hi ten_thousand ten_thousand (span.lo_is, span.hi_is) (ap (λ (i : Interval). i.lo) by, ap (λ (i : Interval). i.hi) by)
+        ∙ quotient_of_ends-positive span.lo span.hi ten_thousand ten_thousand (omega (arith, ints)) (omega (arith, ints)) span.ordered (below_94 span.lo low) (below_94 span.hi high)
+
+div-within : (p : Interval) → Span (pos (2 ^ 72)) p → AreBetween (pos 0) (pos (2 ^ 60)) (div_of p (ratio_of (pos 10000) 1))
+div-within p span =
+    let low = quotient-low span.lo (span.not_negative, ≤ℤ_trans span.lo span.hi (pos (2 ^ 72)) span.ordered span.below) in
+    let high = quotient-high span.hi (≤ℤ_trans (pos 0) span.lo span.hi span.not_negative span.ordered, span.below) in
+    subst (AreBetween (pos 0) (pos (2 ^ 60))) (sym (quotient-ends p span)) (record {
+      lo = int_min-keeps (Within (pos (2 ^ 60))) (floor_quotient (span.lo *ℤ pos unit) ten_thousand) (floor_quotient (span.lo *ℤ pos unit) ten_thousand) low low;
+      hi = int_max-keeps (Within (pos (2 ^ 60))) (ceil_quotient (span.hi *ℤ pos unit) ten_thousand) (ceil_quotient (span.hi *ℤ pos unit) ten_thousand) high high;
+    })
+
+pub absorption-within : (d : Interval) (alpha10 : ℕ) → IsInterval d → IsSomeAnd d.lo (λ z. pos (2 ^ 32) ≤ℤ z) → IsSomeAnd d.hi (λ z. z ≤ℤ pos (2 ^ 60)) → alpha10 < 4096 → AreBetween (pos 0) (pos (2 ^ 60)) (div_of (mul_of d (ratio_of (pos alpha10) 1)) (ratio_of (pos 10000) 1))
+absorption-within d alpha10 whole low high few =
+    let span = span-of (pos (2 ^ 60)) d d.lo d.hi refl refl whole.ordered (from_zero d.lo low) high in
+    let product = span-mul d (ratio_of (pos alpha10) 1) (pos (2 ^ 60)) (pos (4096 * 2 ^ 32)) span (span-exact alpha10 (pos (4096 * 2 ^ 32)) (omega arith) (omega (arith, ints))) (omega (arith, ints)) in
+    div-within _ (subst (λ (z : ℤ). Span z (mul_of d (ratio_of (pos alpha10) 1))) absorption_limit product)
+  where
+    from_zero : (end : Option ℤ) → IsSomeAnd end (λ z. pos (2 ^ 32) ≤ℤ z) → IsSomeAnd end (λ z. pos 0 ≤ℤ z)
+    from_zero None h = h
+    from_zero (Some z) h = omega (arith, ints, h)
+
+-- ---- what the calls have made
+
+pub bounded-high : (d m : Interval) (limit : ℤ) → m ≡ max_of (ratio_of (pos 1) 1) d → IsSomeAnd d.hi (λ z. z ≤ℤ limit) → pos (2 ^ 32) ≤ℤ limit → IsSomeAnd m.hi (λ z. z ≤ℤ limit)
+bounded-high d m limit is high from =
+    let h = at_least_one-high d limit high from in
+    let e : m.hi ≡ Some h.0 = ap (λ (i : Interval). i.hi) is ∙ h.1 in
+    rw e h.2
+
+some-bounded : (end : Option ℤ) → IsSomeAnd end (λ _. Unit {0}) → (z : ℤ) × (end ≡ Some z)
+some-bounded None h = absurd h
+some-bounded (Some z) h = (z, refl)
+
+bounded-by : (end : Option ℤ) (z limit : ℤ) → end ≡ Some z → z ≤ℤ limit → IsSomeAnd end (λ y. y ≤ℤ limit)
+bounded-by end z limit is below = rw is below
+
+pub divergence-made : (d m logarithm : Interval) → m ≡ max_of (ratio_of (pos 1) 1) d → IsInterval m → IsSomeAnd m.lo (λ z. pos (2 ^ 32) ≤ℤ z) → logarithm ≡ lg_of m → IsSomeAnd logarithm.lo (λ z. pos 0 ≤ℤ z) → IfSome logarithm.hi (λ z. z ≤ℤ pos (29 * 2 ^ 32)) → IsSomeAnd d.hi (λ _. Unit {0}) → AreBetween (pos (11 * 2 ^ 32)) (pos (600 * 2 ^ 32)) (add_of (mul_of (ratio_of (pos 20) 1) logarithm) (ratio_of (pos 11) 1))
+divergence-made d m logarithm is whole low taken not_negative below bounded =
+    let b = some-bounded d.hi bounded in
+    let h = at_least_one-high d (int_max b.0 (pos (2 ^ 32))) (bounded-by d.hi b.0 (int_max b.0 (pos (2 ^ 32))) b.1 (omega (arith, ints, clamps))) (omega (arith, ints, clamps)) in
+    let m_high : m.hi ≡ Some h.0 = ap (λ (i : Interval). i.hi) is ∙ h.1 in
+    let positive = one_positive m.lo low in
+    let interval : IsInterval logarithm = subst IsInterval (sym taken) (lg_of-interval m whole positive) in
+    let high : IsSomeAnd (lg_of m).hi (λ z. z ≤ℤ pos (29 * 2 ^ 32)) = lg-high m (pos (29 * 2 ^ 32)) h.0 positive m_high (subst (λ (i : Interval). IfSome i.hi (λ z. z ≤ℤ pos (29 * 2 ^ 32))) taken below) in
+    divergence-within logarithm interval not_negative (subst (λ (i : Interval). IsSomeAnd i.hi (λ z. z ≤ℤ pos (29 * 2 ^ 32))) (sym taken) high)
+  where
+    one_positive : (end : Option ℤ) → IsSomeAnd end (λ z. pos (2 ^ 32) ≤ℤ z) → IsSomeAnd end (λ x. pos 1 ≤ℤ x)
+    one_positive None h = h
+    one_positive (Some z) h = omega (arith, ints, h)
+
+pub high-weaker : (end : Option ℤ) (low limit : ℤ) → IfSome end (λ z. (low ≤ℤ z) × (z ≤ℤ limit)) → IfSome end (λ z. z ≤ℤ limit)
+high-weaker None low limit h = h
+high-weaker (Some z) low limit h = h.1
