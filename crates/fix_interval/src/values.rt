@@ -149,7 +149,7 @@ pub(crate) fn greater_of_highs(x: Option<i128>, y: Option<i128>) -> Option<i128>
 {
     match (x, y) {
         (Some(x), Some(y)) => Some(x.max(y)),
-        _ => None,
+        (None, _) | (_, None) => None,
     }
 }
 
