@@ -9,3 +9,4 @@ pub mod Rooting
 pub mod Rounding
 pub mod Steps
 pub mod Widening
+pub mod Spans

@@ -11,3 +11,4 @@ pub mod Ten
 pub mod Tree
 pub mod Units
 pub mod Values
+pub mod Bounds

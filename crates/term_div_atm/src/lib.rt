@@ -5,7 +5,7 @@ ghost use Rattle.std.specs.Prelude.{◌≡◌, ◌*◌, ◌<◌, ◌^◌, pos, �
 ghost use Rattle.fix_interval.specs.Interval.{IsInterval};
 ghost use Rattle.fix_interval.specs.Tree.{Known, Const, enc};
 ghost use Rattle.term_div_atm.specs.Terms.{at_least_one, divergence, absorption};
-ghost use Rattle.term_div_atm.specs.Bounds.{AreBetween};
+ghost use Rattle.fix_interval.specs.Bounds.{AreBetween};
 
 use enclose_log::lg;
 use fix_interval::{Iv, add, div, exact, max, mul};

@@ -1,5 +1,5 @@
 use Rattle.std.proofs.Common.{◌∙◌}
-use Rattle.term_div_atm.proofs.Ends.{at_least_one-low}
+use Rattle.fix_interval.proofs.Spans.{at_least_one-low}
 use Rattle.term_div_atm.proofs.one_metre_at_least.Goals as goal
 
 pub returns-clause-low : goal.returns-clause-low
