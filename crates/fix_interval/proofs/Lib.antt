@@ -1,2 +1,11 @@
+pub mod Dividing
+pub mod Ends
+pub mod Induction
 pub mod Intervals
+pub mod Multiplying
 pub mod Order
+pub mod Ratios
+pub mod Rooting
+pub mod Rounding
+pub mod Steps
+pub mod Widening

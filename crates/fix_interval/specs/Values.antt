@@ -10,9 +10,13 @@ use Rattle.fix_interval.specs.Round.{floor_of, ceil_of, floor_quotient, ceil_quo
 use Rattle.fix_interval.specs.declared.truth.Truth.{Truth}
 use Rattle.fix_interval.specs.declared.truth.Truth.TheVariants.{Sure, Never, Unsure}
 
+-- an absolute value below 2^126
+abbrev pub is_small : ℤ → Bool
+is_small z = nat_lt (unsigned_abs z) (2 ^ 126)
+
 -- z units as an end: unbounded where its absolute value reaches 2^126
 abbrev pub end_of : ℤ → Option ℤ
-end_of z = if nat_lt (unsigned_abs z) (2 ^ 126) then Some z else None
+end_of z = if is_small z then Some z else None
 
 -- ---- constants
 
@@ -83,11 +87,6 @@ least_of p q r s = int_min (int_min p q) (int_min r s)
 abbrev pub greatest_of : ℤ → ℤ → ℤ → ℤ → ℤ
 greatest_of p q r s = int_max (int_max p q) (int_max r s)
 
--- each of four numbers is below a limit in absolute value
-abbrev pub all_below : ℕ → ℤ → ℤ → ℤ → ℤ → Bool
-all_below limit p q r s =
-    nat_lt (unsigned_abs p) limit && nat_lt (unsigned_abs q) limit && nat_lt (unsigned_abs r) limit && nat_lt (unsigned_abs s) limit
-
 -- what f gives for the four ends of two intervals; nothing is known where one of them is unbounded
 abbrev pub on_ends : (ℤ → ℤ → ℤ → ℤ → Interval) → Option ℤ → Option ℤ → Option ℤ → Option ℤ → Interval
 on_ends f (Some al) (Some ah) (Some bl) (Some bh) = f al ah bl bh
@@ -96,15 +95,24 @@ on_ends f (Some al) (Some ah) None bh = All
 on_ends f (Some al) None bl bh = All
 on_ends f None ah bl bh = All
 
--- from the least to the greatest of four products of ends, each in units of 2^-64
-abbrev pub span_of_products : ℤ → ℤ → ℤ → ℤ → Interval
-span_of_products p q r s =
-    if all_below (2 ^ 126) p q r s
-    then (record { lo = Some (floor_of (least_of p q r s) unit); hi = Some (ceil_of (greatest_of p q r s) unit) })
-    else All
+-- two ends in units of 2^-64, rounded outward to units of 2^-32; nothing is known where one is unbounded
+abbrev pub rounded_outward : Option ℤ → Option ℤ → Interval
+rounded_outward (Some least) (Some greatest) =
+    record { lo = Some (floor_of least unit); hi = Some (ceil_of greatest unit) }
+rounded_outward (Some least) None = All
+rounded_outward None greatest = All
 
+-- the least and the greatest of the four products of ends
+abbrev pub least_product : ℤ → ℤ → ℤ → ℤ → ℤ
+least_product al ah bl bh = least_of (al *ℤ bl) (al *ℤ bh) (ah *ℤ bl) (ah *ℤ bh)
+
+abbrev pub greatest_product : ℤ → ℤ → ℤ → ℤ → ℤ
+greatest_product al ah bl bh = greatest_of (al *ℤ bl) (al *ℤ bh) (ah *ℤ bl) (ah *ℤ bh)
+
+-- one of the four products reaches 2^126 exactly where the least or the greatest does
 abbrev pub product_of_ends : ℤ → ℤ → ℤ → ℤ → Interval
-product_of_ends al ah bl bh = span_of_products (al *ℤ bl) (al *ℤ bh) (ah *ℤ bl) (ah *ℤ bh)
+product_of_ends al ah bl bh =
+    rounded_outward (end_of (least_product al ah bl bh)) (end_of (greatest_product al ah bl bh))
 
 unfoldable pub mul_of : Interval → Interval → Interval
 mul_of a b = on_ends product_of_ends a.lo a.hi b.lo b.hi

@@ -89,7 +89,7 @@ pub fn pick(t: Truth, yes: Iv, no: Iv) -> Iv
 }
 
 /// This number of units as an end: unbounded where its absolute value reaches 2^126.
-fn end(units: i128) -> Option<i128>
+pub(crate) fn end(units: i128) -> Option<i128>
     ensures { result ≡ end_of units }
 {
     if units.unsigned_abs() < END_LIMIT {
@@ -134,7 +134,7 @@ fn greater_of_lows(x: Option<i128>, y: Option<i128>) -> Option<i128>
 }
 
 /// The lesser of two low ends; unbounded is minus infinity.
-fn lesser_of_lows(x: Option<i128>, y: Option<i128>) -> Option<i128>
+pub(crate) fn lesser_of_lows(x: Option<i128>, y: Option<i128>) -> Option<i128>
     ensures { result ≡ lesser_low x y }
 {
     match (x, y) {
@@ -144,12 +144,12 @@ fn lesser_of_lows(x: Option<i128>, y: Option<i128>) -> Option<i128>
 }
 
 /// The greater of two high ends; unbounded is plus infinity.
-fn greater_of_highs(x: Option<i128>, y: Option<i128>) -> Option<i128>
+pub(crate) fn greater_of_highs(x: Option<i128>, y: Option<i128>) -> Option<i128>
     ensures { result ≡ greater_high x y }
 {
     match (x, y) {
         (Some(x), Some(y)) => Some(x.max(y)),
-        _ => None,
+        (None, _) | (_, None) => None,
     }
 }
 
