@@ -7,7 +7,8 @@ pub use sum::Sum;
 
 ghost use Rattle.std.specs.Prelude.{◌≡◌, ◌*◌, ◌^◌, pos, neg_ℤ, ◌≤ℤ◌, IsSomeAnd};
 ghost use Rattle.fix_interval.specs.Bounds.{IsBetween, AreBetween};
-ghost use Rattle.fix_interval.specs.Tree.{Known, enc};
+ghost use Rattle.fix_interval.specs.Interval.{IsInterval};
+ghost use Rattle.fix_interval.specs.Tree.{Known, Const, Max, enc};
 ghost use Rattle.energy_sum.specs.Energies.{energy_form, level_form};
 
 use enclose_exp::ten;
@@ -21,6 +22,8 @@ pub fn energy(level: Iv) -> Iv
     ensures low { IsSomeAnd result.lo (λ z. pos 0 ≤ℤ z) }
     ensures high { AreBetween (neg_ℤ (pos (2 ^ 61))) (pos (199 * 2 ^ 32)) level → IsBetween (pos 0) (pos (7 * 10 ^ 29)) result.hi }
 {
+    // The bound rests on it that the level is an interval, which its ends say.
+    let _ = level.low();
     ten(div(level, exact(10)))
 }
 
@@ -30,5 +33,18 @@ pub fn level(sum: &Sum) -> Iv
     ensures value { result ≡ enc (level_form (Known sum.now)) }
     ensures bounds { AreBetween (pos 0) (pos (290 * 2 ^ 32)) result }
 {
-    mul(exact(10), lg(max(exact(1), sum.interval())))
+    mul(exact(10), lg(one_at_least(sum)))
+}
+
+/// A sum of energies, which counts as 1 at least.
+fn one_at_least(sum: &Sum) -> Iv
+    ensures value { result ≡ enc (Max (Const (pos 1) 1) (Known sum.now)) }
+    ensures interval { IsInterval result }
+    ensures low { IsSomeAnd result.lo (λ z. pos (2 ^ 32) ≤ℤ z) }
+    ensures bounded { IsSomeAnd sum.now.hi (λ _. Unit {0}) }
+{
+    let energy = max(exact(1), sum.interval());
+    // Its low end says that it is an interval, which the bounds of the level rest on.
+    let _ = energy.low();
+    energy
 }

@@ -1,5 +1,4 @@
 ghost use Rattle.std.specs.Prelude.{◌≡◌, ◌+◌, ◌<◌, ◌≤◌, ◌^◌, pos, ◌≤ℤ◌, IsSomeAnd};
-ghost use Rattle.fix_interval.specs.Interval.{IsInterval};
 ghost use Rattle.fix_interval.specs.Tree.{Known, Const, Add, enc};
 ghost use Rattle.energy_sum.specs.Sums.{units_of};
 
@@ -42,20 +41,15 @@ impl Sum {
         requires below { units_of self.old.hi + units_of e.hi < 2 ^ 126 }
         ensures { self.new ≡ enc (Add (Known self.old) (Known e)) }
     {
-        let (Some(low), Some(high)) = (e.low(), e.high()) else {
-            unreachable!()
-        };
-        self.lo += low as u128;
-        self.hi += high as u128;
+        self.lo += e.low().unwrap() as u128;
+        self.hi += e.high().unwrap() as u128;
     }
 
     /// The sum as an interval.
     pub fn interval(&self) -> Iv
         ensures value { result ≡ self.now }
-        ensures interval { IsInterval result }
+        ensures bounded { IsSomeAnd self.now.hi (λ _. Unit {0}) }
     {
-        let sum = Iv::of_ends(Some(self.lo as i128), Some(self.hi as i128));
-        let _ = sum.low();
-        sum
+        Iv::of_ends(Some(self.lo as i128), Some(self.hi as i128))
     }
 }

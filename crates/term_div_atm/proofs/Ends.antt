@@ -15,7 +15,6 @@ use Rattle.fix_interval.proofs.Rounding.{floor_of-mono, ceil_of-mono, floor_of-l
 use Rattle.fix_interval.proofs.Multiplying.{times-mono, times-mono_right, end_of-small, least_of-le-greatest_of}
 use Rattle.fix_interval.proofs.Order.{int_min-keeps, int_max-keeps}
 use Rattle.fix_interval.proofs.Dividing.{quotient_of_ends-positive, ≤ℤ_trans, units-mono, units-not_negative}
-use Rattle.enclose_log.proofs.LgInterval.{made-bounded, lg_of-interval}
 use Rattle.fix_interval.specs.Bounds.{IsBetween, AreBetween}
 use Rattle.fix_interval.proofs.Spans.{one_unit-is, at_least_one-low, at_least_one-high, Within, small_within, Span, span-mul, units-is, span-exact, span-of}
 
@@ -39,23 +38,10 @@ add-within m span = record {
   hi = rw (span.hi_is, ratio_of-one (pos 11) (lit< tt), units-is 11) (eleven-more span.hi (≤ℤ_trans (pos 0) span.lo span.hi span.not_negative span.ordered, span.below));
 }
 
-pub divergence-within : (logarithm : Interval) → IsInterval logarithm → IsSomeAnd logarithm.lo (λ z. pos 0 ≤ℤ z) → IsSomeAnd logarithm.hi (λ z. z ≤ℤ pos (29 * 2 ^ 32)) → AreBetween (pos (11 * 2 ^ 32)) (pos (600 * 2 ^ 32)) (add_of (mul_of (ratio_of (pos 20) 1) logarithm) (ratio_of (pos 11) 1))
-divergence-within logarithm whole low high =
-    let span = span-of (pos (29 * 2 ^ 32)) logarithm logarithm.lo logarithm.hi refl refl whole.ordered low high in
+pub divergence-within : (logarithm : Interval) → Span (pos (29 * 2 ^ 32)) logarithm → AreBetween (pos (11 * 2 ^ 32)) (pos (600 * 2 ^ 32)) (add_of (mul_of (ratio_of (pos 20) 1) logarithm) (ratio_of (pos 11) 1))
+divergence-within logarithm span =
     let product = span-mul (ratio_of (pos 20) 1) logarithm (pos (20 * 2 ^ 32)) (pos (29 * 2 ^ 32)) (span-exact 20 (pos (20 * 2 ^ 32)) (lit< tt) (omega (arith, ints))) span (omega (arith, ints)) in
     add-within _ (subst (λ (z : ℤ). Span z (mul_of (ratio_of (pos 20) 1) logarithm)) lg_limit product)
-
--- the logarithm of a bounded end is bounded
-pub lg-high : (i : Interval) (limit : ℤ) (h : ℤ) → IsSomeAnd i.lo (λ x. pos 1 ≤ℤ x) → i.hi ≡ Some h → IfSome (lg_of i).hi (λ z. z ≤ℤ limit) → IsSomeAnd (lg_of i).hi (λ z. z ≤ℤ limit)
-lg-high i limit h positive bounded below =
-    some_low i.lo refl positive
-  where
-    some_low : (lo : Option ℤ) → lo ≡ i.lo → IsSomeAnd lo (λ x. pos 1 ≤ℤ x) → IsSomeAnd (lg_of i).hi (λ z. z ≤ℤ limit)
-    some_low None e k = absurd k
-    some_low (Some l) e k =
-        let made = made-bounded i l h _ _ e (sym bounded) positive refl refl in
-        let is : (lg_of i).hi ≡ Some (lg_high (unsigned_abs h)) = ap (λ (j : Interval). j.hi) (sym made) in
-        rw is (rw is at below)
 
 -- ---- absorption
 
@@ -134,27 +120,3 @@ bounded-high d m limit is high from =
     let e : m.hi ≡ Some h.0 = ap (λ (i : Interval). i.hi) is ∙ h.1 in
     rw e h.2
 
-some-bounded : (end : Option ℤ) → IsSomeAnd end (λ _. Unit {0}) → (z : ℤ) × (end ≡ Some z)
-some-bounded None h = absurd h
-some-bounded (Some z) h = (z, refl)
-
-bounded-by : (end : Option ℤ) (z limit : ℤ) → end ≡ Some z → z ≤ℤ limit → IsSomeAnd end (λ y. y ≤ℤ limit)
-bounded-by end z limit is below = rw is below
-
-pub divergence-made : (d m logarithm : Interval) → m ≡ max_of (ratio_of (pos 1) 1) d → IsInterval m → IsSomeAnd m.lo (λ z. pos (2 ^ 32) ≤ℤ z) → logarithm ≡ lg_of m → IsSomeAnd logarithm.lo (λ z. pos 0 ≤ℤ z) → IfSome logarithm.hi (λ z. z ≤ℤ pos (29 * 2 ^ 32)) → IsSomeAnd d.hi (λ _. Unit {0}) → AreBetween (pos (11 * 2 ^ 32)) (pos (600 * 2 ^ 32)) (add_of (mul_of (ratio_of (pos 20) 1) logarithm) (ratio_of (pos 11) 1))
-divergence-made d m logarithm is whole low taken not_negative below bounded =
-    let b = some-bounded d.hi bounded in
-    let h = at_least_one-high d (int_max b.0 (pos (2 ^ 32))) (bounded-by d.hi b.0 (int_max b.0 (pos (2 ^ 32))) b.1 (omega (arith, ints, clamps))) (omega (arith, ints, clamps)) in
-    let m_high : m.hi ≡ Some h.0 = ap (λ (i : Interval). i.hi) is ∙ h.1 in
-    let positive = one_positive m.lo low in
-    let interval : IsInterval logarithm = subst IsInterval (sym taken) (lg_of-interval m whole positive) in
-    let high : IsSomeAnd (lg_of m).hi (λ z. z ≤ℤ pos (29 * 2 ^ 32)) = lg-high m (pos (29 * 2 ^ 32)) h.0 positive m_high (subst (λ (i : Interval). IfSome i.hi (λ z. z ≤ℤ pos (29 * 2 ^ 32))) taken below) in
-    divergence-within logarithm interval not_negative (subst (λ (i : Interval). IsSomeAnd i.hi (λ z. z ≤ℤ pos (29 * 2 ^ 32))) (sym taken) high)
-  where
-    one_positive : (end : Option ℤ) → IsSomeAnd end (λ z. pos (2 ^ 32) ≤ℤ z) → IsSomeAnd end (λ x. pos 1 ≤ℤ x)
-    one_positive None h = h
-    one_positive (Some z) h = omega (arith, ints, h)
-
-pub high-weaker : (end : Option ℤ) (low limit : ℤ) → IfSome end (λ z. (low ≤ℤ z) × (z ≤ℤ limit)) → IfSome end (λ z. z ≤ℤ limit)
-high-weaker None low limit h = h
-high-weaker (Some z) low limit h = h.1
