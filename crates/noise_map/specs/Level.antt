@@ -3,13 +3,14 @@ use Rattle.std.specs.Prelude.{◌≡◌, ℕ, Bool, ◌+◌, ◌*◌, ◌/◌, �
 use Rattle.std.specs.Int.{div_ceil}
 use Rattle.fix_interval.specs.Units.{unit}
 use Rattle.fix_interval.specs.Interval.{Interval}
-use Rattle.fix_interval.specs.Tree.{Tree, Known, Const, Add, Sub, Mul, Max, Root, Lg, enc}
+use Rattle.fix_interval.specs.Tree.{Tree, Const, Add, Sub, Max, Root, enc}
+use Rattle.term_div_atm.specs.Terms.{divergence}
 use Rattle.noise_map.specs.declared.parts.Receiver.{Receiver}
 use Rattle.noise_map.specs.Parts.{Source}
 use Rattle.noise_map.specs.Sheet.{Sheet}
 
 -- a distance squared, in square millimetres
-abbrev pub squared : ℤ → ℕ
+unfoldable pub squared : ℤ → ℕ
 squared z = unsigned_abs z * unsigned_abs z
 
 -- between a source and a receiver, in plan and in space
@@ -22,10 +23,6 @@ space_squared s r = plan_squared s r + squared (pos s.height -ℤ pos r.height)
 -- the distance d in metres
 abbrev pub distance : Source → Receiver → Tree
 distance s r = Root (Const (pos (space_squared s r)) 1000000)
-
--- geometrical divergence (7.1, equation 7): 20 lg (d / 1 m) + 11 dB, d being at least 1 m
-abbrev pub divergence : Tree → Tree
-divergence d = Add (Mul (Const (pos 20) 1) (Lg (Max (Const (pos 1) 1) d))) (Const (pos 11) 1)
 
 -- the level (equations 3 and 4) that power and directivity, in 0.01 dB, give behind the attenuation; not below 0 dB
 abbrev pub level : ℤ → ℤ → Tree → Tree

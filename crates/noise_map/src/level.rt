@@ -1,16 +1,17 @@
 //! The level that a receiver has from the sources of a scene.
 ghost use Rattle.std.specs.Prelude.{◌≡◌, ◌≤◌, ◌<◌, ◌*◌, ◌^◌, pos, neg_ℤ, ◌-ℤ◌, ◌≤ℤ◌, Some, IfSome, unsigned_abs};
 ghost use Rattle.fix_interval.specs.Tree.{Known, enc};
-ghost use Rattle.noise_map.specs.Level.{squared, plan_squared, space_squared, distance, divergence, level, is_within, at_1000, level_at, level_from, level_of, IsLevel};
+ghost use Rattle.noise_map.specs.Level.{squared, plan_squared, space_squared, distance, level, is_within, at_1000, level_at, level_from, level_of, IsLevel};
 
 use crate::parts::{PointSource, Receiver};
 use crate::scene::Scene;
-use enclose_log::lg;
-use fix_interval::{Iv, add, exact, max, mul, ratio, root, sub};
+use fix_interval::{Iv, add, exact, max, ratio, root, sub};
+use term_div_atm::a_div;
 
 /// How far a source may be from a receiver in plan, squared, in mm².
 const REACH_SQUARED: u128 = 4_000_000 * 4_000_000;
 
+#[tactic(auto, unfolding(crate::specs::Level::squared))]
 fn square(apart: i64) -> u128
     requires { unsigned_abs apart ≤ 2 ^ 33 }
     ensures value { result ≡ squared apart }
@@ -41,13 +42,6 @@ fn distance_of(source: &PointSource, receiver: &Receiver) -> Iv
     ensures { result ≡ enc (distance source.now receiver.now) }
 {
     root(ratio(space_square(source, receiver) as i128, 1_000_000))
-}
-
-/// Geometrical divergence in dB (ISO 9613-2, 7.1, equation 7), at a distance in metres that counts as 1 m at least.
-fn divergence_at(d: Iv) -> Iv
-    ensures { result ≡ enc (divergence (Known d)) }
-{
-    add(mul(exact(20), lg(max(exact(1), d))), exact(11))
 }
 
 fn within(source: &PointSource, receiver: &Receiver) -> bool
