@@ -1,11 +1,11 @@
 -- The decay of a whole interval, from those of its ends.
-use Rattle.std.proofs.Common.{◌≡◌, ℕ, zero, suc, ◌+◌, ◌*◌, ◌^◌, ◌<◌, ◌≤◌, ◌⊎◌, inl, inr, true, refl, sym, ap, ◌∙◌, arith, rules, ℤ, pos, negsuc, ◌≤ℤ◌, unsigned_abs, Option, Some, None, IfSome, IsSomeAnd}
+use Rattle.std.proofs.Common.{◌≡◌, ◌^◌, ◌≤◌, ◌⊎◌, inl, inr, true, refl, sym, arith, ℤ, pos, negsuc, ◌≤ℤ◌, unsigned_abs, Option, Some, None, IsSomeAnd}
 use Rattle.std.proofs.lemmas.Int.{ints}
 use Rattle.std.specs.Option.{option_map, option_map_or}
 use Rattle.std.specs.Prelude.{int_le}
 use Rattle.fix_interval.specs.Interval.{Interval, IsInterval}
 use Rattle.fix_interval.specs.Powers.{IsAtMostDecay, IsAtLeastDecay}
-use Rattle.fix_interval.specs.Rules.{HoldsDecay, EndMeets}
+use Rattle.fix_interval.specs.Rules.{HoldsDecay}
 use Rattle.fix_interval.specs.ExpNeg.{exp_neg_low, exp_neg_high, exp_neg_of}
 use Rattle.enclose_exp.proofs.DecayLaw.{low_end-law, high_end-law, ends-ordered, exp_neg_high-le}
 
@@ -16,7 +16,8 @@ IsNotNegative end = IsSomeAnd end (λ x. pos 0 ≤ℤ x)
 abbrev ends : Option ℤ → Option ℤ → Interval
 ends lo hi = record {
   lo = Some (pos (option_map_or (λ z. exp_neg_low (unsigned_abs z)) hi 0));
-  hi = option_map (λ z. pos (exp_neg_high (unsigned_abs z))) lo }
+  hi = option_map (λ z. pos (exp_neg_high (unsigned_abs z))) lo;
+}
 
 exp_neg_of-ends : (lo hi : Option ℤ) → IsNotNegative lo → exp_neg_of (record { lo = lo; hi = hi }) ≡ ends lo hi
 unfolding exp_neg_of
@@ -32,12 +33,12 @@ ordered-abs (negsuc m) y h le = absurd (omega (arith, ints, h, le))
 ends-interval : (lo hi : Option ℤ) → IsInterval (record { lo = lo; hi = hi }) → IsNotNegative lo → IsInterval (ends lo hi)
 ends-interval None hi i start = absurd start
 ends-interval (Some l) None i start =
-  let high = exp_neg_high-le (unsigned_abs l) in
-  record { low_end = omega arith; high_end = omega (arith, high); ordered = omega (arith, ints) }
+    let high = exp_neg_high-le (unsigned_abs l) in
+    record { low_end = omega arith; high_end = omega (arith, high); ordered = omega (arith, ints) }
 ends-interval (Some l) (Some h) i start =
-  let high = exp_neg_high-le (unsigned_abs l) in
-  let order = ends-ordered (unsigned_abs l) (unsigned_abs h) (ordered-abs l h start i.ordered) in
-  record { low_end = omega (arith, high, order); high_end = omega (arith, high); ordered = omega (arith, ints, order) }
+    let high = exp_neg_high-le (unsigned_abs l) in
+    let order = ends-ordered (unsigned_abs l) (unsigned_abs h) (ordered-abs l h start i.ordered) in
+    record { low_end = omega (arith, high, order); high_end = omega (arith, high); ordered = omega (arith, ints, order) }
 
 -- the ends against the powers of the two fractions next to e
 at_most : (z : ℤ) → pos 0 ≤ℤ z → (pos (exp_neg_low (unsigned_abs z)) ≤ℤ pos 0) ⊎ IsAtMostDecay (pos (exp_neg_low (unsigned_abs z))) z
@@ -52,8 +53,8 @@ ends-hold : (lo hi : Option ℤ) → IsInterval (record { lo = lo; hi = hi }) �
 ends-hold None hi i start = absurd start
 ends-hold (Some l) None i start = record { not_negative = start; low = inl (omega (arith, ints)); high = at_least l start }
 ends-hold (Some l) (Some h) i start =
-  let later : pos 0 ≤ℤ h = (let order = i.ordered in omega (arith, ints)) in
-  record { not_negative = start; low = at_most h later; high = at_least l start }
+    let later : pos 0 ≤ℤ h = (let order = i.ordered in omega (arith, ints)) in
+    record { not_negative = start; low = at_most h later; high = at_least l start }
 
 pub exp_neg_of-interval : (i : Interval) → IsInterval i → IsNotNegative i.lo → IsInterval (exp_neg_of i)
 exp_neg_of-interval i whole start = rw (exp_neg_of-ends i.lo i.hi start) (ends-interval i.lo i.hi whole start)
@@ -73,5 +74,5 @@ exp_neg_of-low i start = rw (exp_neg_of-ends i.lo i.hi start) (omega (arith, int
 
 -- what the code makes
 pub made-is : (i : Interval) (low high : Option ℤ) → IsNotNegative i.lo → low ≡ Some (pos (option_map_or (λ z. exp_neg_low (unsigned_abs z)) i.hi 0)) →
-  high ≡ option_map (λ z. pos (exp_neg_high (unsigned_abs z))) i.lo → record { lo = low; hi = high } ≡ exp_neg_of i
+    high ≡ option_map (λ z. pos (exp_neg_high (unsigned_abs z))) i.lo → record { lo = low; hi = high } ≡ exp_neg_of i
 made-is i low high start below above = rw (below, above) (sym (exp_neg_of-ends i.lo i.hi start))

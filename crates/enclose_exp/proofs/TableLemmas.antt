@@ -1,40 +1,42 @@
 -- The tables hold the values of their definitions, and the products of their factors fit 64 bits.
-use Rattle.std.proofs.Common.{◌≡◌, ℕ, zero, suc, ◌+◌, ◌-◌, ◌*◌, ◌/◌, ◌%◌, ◌^◌, ◌<◌, ◌≤◌, ◌⊎◌, ◌==◌, Bool, true, false, nat_le, refl, sym, ap, ◌∙◌, arith, rules, tests, List, [], ◌∷◌, length, get_or, drop, lit<, lit≤, zero-add}
+use Rattle.std.proofs.Common.{◌≡◌, ℕ, zero, suc, ◌+◌, ◌*◌, ◌^◌, ◌<◌, ◌≤◌, ◌==◌, Bool, true, false, nat_le, refl, sym, ap, ◌∙◌, arith, List, [], ◌∷◌, length, get_or, drop, lit<, lit≤, zero-add}
 use Rattle.std.specs.Prelude.{◌&&◌}
 use Rattle.std.specs.Int.{div_ceil}
-use Rattle.std.proofs.lemmas.Bool.{cases_lt, false≢true, eqb-true, leb-true}
+use Rattle.std.proofs.lemmas.Bool.{false≢true, eqb-true, leb-true}
 use Rattle.std.proofs.Math.Nat.{le-div_iff_mul-le, div-le_of_le-mul, mul-le-mul_left, mul-le-mul_right, div-mul-le_self, lt_of_mul-lt-mul_right}
 use Rattle.std.proofs.lemmas.Grind.{div_ceil_times}
 use Rattle.fix_interval.specs.Roots.{one_factor, times_low, times_high, root_low, root_high, product}
 use Rattle.fix_interval.specs.Ten.{ten_factor_low, ten_factor_high, fraction_low, fraction_high}
 use Rattle.fix_interval.specs.ExpNeg.{inverse_e_low, inverse_e_high, whole_decay_low, whole_decay_high, decay_factor_low, decay_factor_high}
 use Rattle.fix_interval.specs.Powers.{factorial_20, exponential_sum}
-use Rattle.enclose_exp.specs.declared.tables.TheConstants.{TEN_LOW, TEN_HIGH, DECAY_LOW, DECAY_HIGH, WHOLE_LOW, WHOLE_HIGH, POWERS_OF_TEN}
+use Rattle.enclose_exp.specs.declared.tables.TheConstants.{TEN_LOW, TEN_HIGH, DECAY_LOW, DECAY_HIGH, WHOLE_LOW, WHOLE_HIGH}
 use Rattle.enclose_exp.specs.Fits.{ProductsFit}
 use Rattle.enclose_exp.proofs.Products.{Grows, product_of_all, product-same, product-le_start, product-le_all, fits-growing, fits-shrinking}
-use Rattle.enclose_exp.proofs.Roots.{are_roots_low, are_roots_high, roots_low-at, roots_high-at}
+use Rattle.enclose_exp.proofs.Roots.{roots_low-at, roots_high-at}
 
 -- ---- the two roundings of a product
 
 pub quotient_up-le : (a b d : ℕ) → 0 < d → a ≤ b * d → div_ceil a d ≤ b
 quotient_up-le a b d positive h =
-  let bounds = div_ceil_times a d positive in
-  let less : div_ceil a d < b + 1 = lt_of_mul-lt-mul_right d (omega (arith, bounds.1, h)) in
-  omega (arith, less)
+    let bounds = div_ceil_times a d positive in
+    let less : div_ceil a d < b + 1 = lt_of_mul-lt-mul_right d (omega (arith, bounds.1, h)) in
+    omega (arith, less)
 
 grows-low : Grows times_low one_factor
 grows-low = record {
   monotone = λ p q x le. (le-div_iff_mul-le {k = one_factor} (omega arith)).1 (omega (arith, div-mul-le_self (p * x) one_factor, mul-le-mul_right x le));
-  grows = λ p x large. (le-div_iff_mul-le {k = one_factor} (omega arith)).1 (mul-le-mul_left p large) }
+  grows = λ p x large. (le-div_iff_mul-le {k = one_factor} (omega arith)).1 (mul-le-mul_left p large);
+}
 
 grows-high : Grows times_high one_factor
 grows-high = record {
   monotone = λ p q x le. quotient_up-le (p * x) (times_high q x) one_factor (omega arith)
-    (omega (arith, (div_ceil_times (q * x) one_factor (omega arith)).0, mul-le-mul_right x le));
+      (omega (arith, (div_ceil_times (q * x) one_factor (omega arith)).0, mul-le-mul_right x le));
   grows = λ p x large. (let reach = (div_ceil_times (p * x) one_factor (omega arith)).0 in
-    let more = mul-le-mul_left p large in
-    let most : p < times_high p x + 1 = lt_of_mul-lt-mul_right one_factor (omega (arith, reach, more)) in
-    omega (arith, most)) }
+      let more = mul-le-mul_left p large in
+      let most : p < times_high p x + 1 = lt_of_mul-lt-mul_right one_factor (omega (arith, reach, more)) in
+      omega (arith, most));
+}
 
 shrinks-low : (p x : ℕ) → x ≤ one_factor → times_low p x ≤ p
 shrinks-low p x small = div-le_of_le-mul one_factor (omega (arith, mul-le-mul_left p small))
@@ -89,19 +91,19 @@ decay_high-at i within = roots_high-at inverse_e_high 0 DECAY_HIGH i refl within
 
 pub ten_low-fits : (fraction : ℕ) → ProductsFit times_low (λ i. get_or TEN_LOW i 0) one_factor fraction
 ten_low-fits fraction =
-  fits-growing times_low one_factor grows-low TEN_LOW one_factor fraction refl (λ i h. all_from-at one_factor TEN_LOW i refl h) (lit< tt)
+    fits-growing times_low one_factor grows-low TEN_LOW one_factor fraction refl (λ i h. all_from-at one_factor TEN_LOW i refl h) (lit< tt)
 
 pub ten_high-fits : (fraction : ℕ) → ProductsFit times_high (λ i. get_or TEN_HIGH i 0) one_factor fraction
 ten_high-fits fraction =
-  fits-growing times_high one_factor grows-high TEN_HIGH one_factor fraction refl (λ i h. all_from-at one_factor TEN_HIGH i refl h) (lit< tt)
+    fits-growing times_high one_factor grows-high TEN_HIGH one_factor fraction refl (λ i h. all_from-at one_factor TEN_HIGH i refl h) (lit< tt)
 
 pub decay_low-fits : (start fraction : ℕ) → start < 2 ^ 64 → ProductsFit times_low (λ i. get_or DECAY_LOW i 0) start fraction
 decay_low-fits start fraction small =
-  fits-shrinking times_low (λ i. get_or DECAY_LOW i 0) start fraction small (λ p i h. shrinks-low p (get_or DECAY_LOW i 0) (all_to-at one_factor DECAY_LOW i refl h))
+    fits-shrinking times_low (λ i. get_or DECAY_LOW i 0) start fraction small (λ p i h. shrinks-low p (get_or DECAY_LOW i 0) (all_to-at one_factor DECAY_LOW i refl h))
 
 pub decay_high-fits : (start fraction : ℕ) → start < 2 ^ 64 → ProductsFit times_high (λ i. get_or DECAY_HIGH i 0) start fraction
 decay_high-fits start fraction small =
-  fits-shrinking times_high (λ i. get_or DECAY_HIGH i 0) start fraction small (λ p i h. shrinks-high p (get_or DECAY_HIGH i 0) (all_to-at one_factor DECAY_HIGH i refl h))
+    fits-shrinking times_high (λ i. get_or DECAY_HIGH i 0) start fraction small (λ p i h. shrinks-high p (get_or DECAY_HIGH i 0) (all_to-at one_factor DECAY_HIGH i refl h))
 
 pub ten_low-is : (fraction : ℕ) → product times_low (λ i. get_or TEN_LOW i 0) one_factor fraction 32 ≡ fraction_low fraction
 unfolding fraction_low
@@ -120,13 +122,13 @@ decay_high-is start fraction = product-same times_high (λ i. get_or DECAY_HIGH 
 -- fractions of a power fit 64 bits
 pub fraction_low-small : (fraction : ℕ) → fraction_low fraction < 2 ^ 64
 fraction_low-small fraction =
-  let most : product_of_all times_low TEN_LOW one_factor < 2 ^ 64 = lit< tt in
-  rw (← ten_low-is fraction) (omega (arith, most, product-le_all times_low one_factor grows-low TEN_LOW one_factor fraction 32 (λ i h. all_from-at one_factor TEN_LOW i refl h) (omega arith)))
+    let most : product_of_all times_low TEN_LOW one_factor < 2 ^ 64 = lit< tt in
+    rw (← ten_low-is fraction) (omega (arith, most, product-le_all times_low one_factor grows-low TEN_LOW one_factor fraction 32 (λ i h. all_from-at one_factor TEN_LOW i refl h) (omega arith)))
 
 pub fraction_high-small : (fraction : ℕ) → fraction_high fraction < 2 ^ 64
 fraction_high-small fraction =
-  let most : product_of_all times_high TEN_HIGH one_factor < 2 ^ 64 = lit< tt in
-  rw (← ten_high-is fraction) (omega (arith, most, product-le_all times_high one_factor grows-high TEN_HIGH one_factor fraction 32 (λ i h. all_from-at one_factor TEN_HIGH i refl h) (omega arith)))
+    let most : product_of_all times_high TEN_HIGH one_factor < 2 ^ 64 = lit< tt in
+    rw (← ten_high-is fraction) (omega (arith, most, product-le_all times_high one_factor grows-high TEN_HIGH one_factor fraction 32 (λ i h. all_from-at one_factor TEN_HIGH i refl h) (omega arith)))
 
 -- ---- whole powers of 1/e
 
@@ -136,28 +138,28 @@ are_multiples times factor before [] = true
 are_multiples times factor before (x ∷ xs) = (x == times before factor) && are_multiples times factor x xs
 
 multiples-at : (times : ℕ → ℕ → ℕ) (factor : ℕ) (value : ℕ → ℕ) → ((k : ℕ) → value (suc k) ≡ times (value k) factor) → (j : ℕ) (xs : List ℕ) (i : ℕ) →
-  are_multiples times factor (value j) xs ≡ true → i < length xs → get_or xs i 0 ≡ value (suc (j + i))
+    are_multiples times factor (value j) xs ≡ true → i < length xs → get_or xs i 0 ≡ value (suc (j + i))
 multiples-at times factor value step j [] i all within = absurd (omega arith)
 multiples-at times factor value step j (x ∷ xs) zero all within =
-  eqb-true x (times (value j) factor) (both-true (x == times (value j) factor) (are_multiples times factor x xs) all).0
-  ∙ sym (step j) ∙ ap (λ k. value (suc k)) (omega arith)
+    eqb-true x (times (value j) factor) (both-true (x == times (value j) factor) (are_multiples times factor x xs) all).0
+    ∙ sym (step j) ∙ ap (λ k. value (suc k)) (omega arith)
 multiples-at times factor value step j (x ∷ xs) (suc i) all within =
-  let parts = both-true (x == times (value j) factor) (are_multiples times factor x xs) all in
-  let first : x ≡ value (suc j) = eqb-true x (times (value j) factor) parts.0 ∙ sym (step j) in
-  multiples-at times factor value step (suc j) xs i (ap (λ y. are_multiples times factor y xs) (sym first) ∙ parts.1) (omega arith)
-  ∙ ap (λ k. value (suc k)) (omega arith)
+    let parts = both-true (x == times (value j) factor) (are_multiples times factor x xs) all in
+    let first : x ≡ value (suc j) = eqb-true x (times (value j) factor) parts.0 ∙ sym (step j) in
+    multiples-at times factor value step (suc j) xs i (ap (λ y. are_multiples times factor y xs) (sym first) ∙ parts.1) (omega arith)
+    ∙ ap (λ k. value (suc k)) (omega arith)
 
 pub whole_low-at : (i : ℕ) → i < 23 → get_or WHOLE_LOW i 0 ≡ whole_decay_low i
 unfolding whole_decay_low inverse_e_low factorial_20 exponential_sum
 whole_low-at zero within = refl
 whole_low-at (suc i) within =
-  multiples-at times_low inverse_e_low whole_decay_low (λ k. refl) 0 (drop 1 WHOLE_LOW) i refl (omega arith) ∙ ap (λ k. whole_decay_low (suc k)) (zero-add i)
+    multiples-at times_low inverse_e_low whole_decay_low (λ k. refl) 0 (drop 1 WHOLE_LOW) i refl (omega arith) ∙ ap (λ k. whole_decay_low (suc k)) (zero-add i)
 
 pub whole_high-at : (i : ℕ) → i < 23 → get_or WHOLE_HIGH i 0 ≡ whole_decay_high i
 unfolding whole_decay_high inverse_e_high factorial_20 exponential_sum
 whole_high-at zero within = refl
 whole_high-at (suc i) within =
-  multiples-at times_high inverse_e_high whole_decay_high (λ k. refl) 0 (drop 1 WHOLE_HIGH) i refl (omega arith) ∙ ap (λ k. whole_decay_high (suc k)) (zero-add i)
+    multiples-at times_high inverse_e_high whole_decay_high (λ k. refl) 0 (drop 1 WHOLE_HIGH) i refl (omega arith) ∙ ap (λ k. whole_decay_high (suc k)) (zero-add i)
 
 -- a decay is at most 1
 inverse_e_high-le : inverse_e_high ≤ one_factor
@@ -171,9 +173,9 @@ whole_high-le (suc k) = omega (arith, whole_high-le k, shrinks-high (whole_decay
 
 pub decay_high-le : (k fraction : ℕ) → product times_high decay_factor_high (whole_decay_high k) fraction 32 ≤ one_factor
 decay_high-le k fraction =
-  let start = whole_decay_high k in
-  let most = product-le_start times_high (λ i. get_or DECAY_HIGH i 0) start fraction 32 (λ p i h. shrinks-high p (get_or DECAY_HIGH i 0) (all_to-at one_factor DECAY_HIGH i refl h)) in
-  omega (arith, decay_high-is start fraction, most, whole_high-le k)
+    let start = whole_decay_high k in
+    let most = product-le_start times_high (λ i. get_or DECAY_HIGH i 0) start fraction 32 (λ p i h. shrinks-high p (get_or DECAY_HIGH i 0) (all_to-at one_factor DECAY_HIGH i refl h)) in
+    omega (arith, decay_high-is start fraction, most, whole_high-le k)
 
 pub whole_low-small : (i : ℕ) → i < 23 → get_or WHOLE_LOW i 0 < 2 ^ 64
 whole_low-small i within = omega (arith, all_to-at one_factor WHOLE_LOW i refl within)

@@ -5,4 +5,4 @@ use Rattle.fix_interval.specs.Roots.{product}
 -- no product on the way passes 64 bits, whatever its next digit is
 abbrev pub ProductsFit : (ℕ → ℕ → ℕ) → (ℕ → ℕ) → ℕ → ℕ → Type 0
 ProductsFit times factor start fraction =
-  (place : ℕ) → place < 32 → times (product times factor start fraction place) (factor place) < 2 ^ 64
+    (place : ℕ) → place < 32 → times (product times factor start fraction place) (factor place) < 2 ^ 64

@@ -20,7 +20,9 @@ pub fn exp_neg(a: Iv) -> Iv
     ensures low { IsSomeAnd result.lo (λ z. pos 0 ≤ℤ z) }
     ensures high { IsSomeAnd result.hi (λ z. z ≤ℤ pos (2 ^ 32)) }
 {
-    Iv::of_ends(low_decay(a.high()), high_decay(a.low()))
+    let low = a.low();
+    let high = a.high();
+    Iv::of_ends(low_decay(high), high_decay(low))
 }
 
 /// The low end of the result, from the high end of the argument. Unbounded, that gives 0.

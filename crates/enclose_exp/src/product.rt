@@ -1,8 +1,8 @@
 //! Products of factors, in units of 2^-60.
 
-ghost use Rattle.std.specs.Prelude.{◌≡◌, ◌<◌, ◌*◌, ◌^◌, Bool, if◌then◌else◌, slice_index};
+ghost use Rattle.std.specs.Prelude.{◌≡◌, ◌<◌, ◌*◌, ◌^◌, ◌==◌, Bool, if◌then◌else◌, slice_index};
 ghost use Rattle.std.specs.Int.{div_ceil};
-ghost use Rattle.fix_interval.specs.Roots.{times_low, times_high, product};
+ghost use Rattle.fix_interval.specs.Roots.{times_low, times_high, digit_at, product};
 ghost use Rattle.enclose_exp.specs.Fits.{ProductsFit};
 
 /// The number 1 as factors count it.
@@ -16,8 +16,7 @@ pub(crate) fn product_low(factors: &[u64; 32], start: u64, fraction: u32) -> u64
 {
     let mut product = start;
     for (place, factor) in factors.iter().enumerate() {
-        let digit = (fraction >> (31 - place)) & 1 == 1;
-        product = next_low(product, *factor, digit);
+        product = next_low(product, *factor, has_digit(fraction, place));
     }
     product
 }
@@ -29,10 +28,18 @@ pub(crate) fn product_high(factors: &[u64; 32], start: u64, fraction: u32) -> u6
 {
     let mut product = start;
     for (place, factor) in factors.iter().enumerate() {
-        let digit = (fraction >> (31 - place)) & 1 == 1;
-        product = next_high(product, *factor, digit);
+        product = next_high(product, *factor, has_digit(fraction, place));
     }
     product
+}
+
+/// Whether the binary digit at a place of a fraction is 1.
+#[inline(always)]
+fn has_digit(fraction: u32, place: usize) -> bool
+    requires { place < 32 }
+    ensures { result ≡ (digit_at fraction place == 1) }
+{
+    (fraction >> (31 - place)) % 2 == 1
 }
 
 /// A factor in units of 2^-32, rounded up.

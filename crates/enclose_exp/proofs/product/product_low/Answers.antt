@@ -11,4 +11,4 @@ loop-place-init c = sym (product-zero times_low _ c.args.start c.args.fraction)
 
 pub loop-place-preserved : goal.loop-place-preserved
 loop-place-preserved c =
-  turn-is times_low _ c.args.start c.args.fraction c.loop-place.place _ _ c.loop-place.invariant c.next_low-product.ensures
+    turn-is times_low _ c.args.start c.args.fraction c.loop-place.place _ _ c.loop-place.invariant (rw c.has_digit.ensures at c.next_low-product.ensures)
