@@ -1,6 +1,6 @@
 -- The level that a receiver has from the sources of a scene.
-use Rattle.std.specs.Prelude.{◌≡◌, ℕ, Bool, ◌+◌, ◌*◌, ◌/◌, ◌<◌, ◌^◌, nat_le, ℤ, pos, ◌-ℤ◌, ◌≤ℤ◌, ◌<ℤ◌, unsigned_abs, List, [], ◌∷◌, Option, Some, None, if◌then◌else◌, slice_index_or}
-use Rattle.std.specs.Int.{div_ceil}
+use Rattle.std.specs.Prelude.{◌≡◌, ℕ, Bool, ◌+◌, ◌*◌, ◌/◌, ◌<◌, ◌^◌, nat_le, ℤ, pos, neg_ℤ, ◌-ℤ◌, ◌≤ℤ◌, ◌<ℤ◌, unsigned_abs, List, [], ◌∷◌, Option, Some, None, if◌then◌else◌, slice_index_or}
+use Rattle.std.specs.Int.{div_ceil, abs_diff}
 use Rattle.fix_interval.specs.Units.{unit}
 use Rattle.fix_interval.specs.Interval.{Interval}
 use Rattle.fix_interval.specs.Tree.{Tree, Const, Add, Sub, Max, Root, enc}
@@ -9,16 +9,16 @@ use Rattle.noise_map.specs.declared.parts.Receiver.{Receiver}
 use Rattle.noise_map.specs.Parts.{Source}
 use Rattle.noise_map.specs.Sheet.{Sheet}
 
--- a distance squared, in square millimetres
-unfoldable pub squared : ℤ → ℕ
-squared z = unsigned_abs z * unsigned_abs z
+-- a distance in mm, squared
+unfoldable pub squared : ℕ → ℕ
+squared mm = mm * mm
 
 -- between a source and a receiver, in plan and in space
 abbrev pub plan_squared : Source → Receiver → ℕ
-plan_squared s r = squared (s.x -ℤ r.x) + squared (s.y -ℤ r.y)
+plan_squared s r = squared (unsigned_abs (s.x -ℤ r.x)) + squared (unsigned_abs (s.y -ℤ r.y))
 
 abbrev pub space_squared : Source → Receiver → ℕ
-space_squared s r = plan_squared s r + squared (pos s.height -ℤ pos r.height)
+space_squared s r = plan_squared s r + squared (abs_diff s.height r.height)
 
 -- the distance d in metres
 abbrev pub distance : Source → Receiver → Tree
@@ -69,3 +69,8 @@ low_hundredths i = 100 * units_of i.lo / unit
 
 abbrev pub high_hundredths : Interval → ℕ
 high_hundredths i = div_ceil (100 * units_of i.hi) unit
+
+-- a sound power level or a directivity correction, in 0.01 dB
+pub record IsSound (z : ℤ) : Type 0 where
+  pub low : neg_ℤ (pos 20000) ≤ℤ z
+  pub high : z ≤ℤ pos 20000

@@ -1,12 +1,18 @@
 //! The rows that go out, as CSV.
-ghost use Rattle.std.specs.Prelude.{◌≡◌, IfOk, map, string_bytes};
+ghost use Rattle.std.specs.Prelude.{◌≡◌, ◌<◌, ◌^◌, IfOk, map, string_bytes};
+ghost use Rattle.noise_map.specs.Level.{IsLevel, IsLevelEnd, units_of, low_hundredths, high_hundredths};
 ghost use Rattle.noise_map.specs.Run.{receiver_row};
 ghost use Rattle.noise_map.specs.Rows.{row, settle_row, current_row, current_row_fields, refused_row, hundredths_text, fault_name};
 
+use crate::level::level_at;
 use crate::parts::Receiver;
 use crate::scene::Scene;
 use csv::WriterBuilder;
+use fix_interval::Iv;
 use std::alloc::{AllocError, Global};
+
+/// How many units make 1 dB.
+const UNIT: u64 = 1 << 32;
 
 /// Why a line is refused.
 #[derive(Clone, Copy, Debug, PartialEq, Eq)]
@@ -141,5 +147,37 @@ pub fn receiver_text(
 ) -> Result<Vec<u8>, AllocError>
     ensures { IfOk result (λ text. text.items ≡ receiver_row scene.now receiver.now) }
 {
-    Err(AllocError)
+    let level = level_at(scene, receiver);
+    current_text(
+        alloc,
+        scene.version(),
+        receiver.name.as_bytes(),
+        low_in_hundredths(level),
+        high_in_hundredths(level),
+    )
+}
+
+/// The units of 2^-32 dB of an end of a level.
+fn units(end: Option<i128>) -> u64
+    requires { IsLevelEnd end }
+    ensures value { result ≡ units_of end }
+    ensures bound { result < 2 ^ 41 }
+{
+    end.unwrap() as u64
+}
+
+/// The low end of a level in 0.01 dB, rounded down.
+fn low_in_hundredths(level: Iv) -> u64
+    requires { IsLevel level }
+    ensures { result ≡ low_hundredths level }
+{
+    100 * units(level.low()) / UNIT
+}
+
+/// The high end of a level in 0.01 dB, rounded up.
+fn high_in_hundredths(level: Iv) -> u64
+    requires { IsLevel level }
+    ensures { result ≡ high_hundredths level }
+{
+    (100 * units(level.high())).div_ceil(UNIT)
 }
