@@ -1,5 +1,5 @@
 -- What the decay's value encloses, end by end.
-use Rattle.std.proofs.Common.{◌≡◌, ℕ, zero, suc, ◌+◌, ◌-◌, ◌*◌, ◌/◌, ◌%◌, ◌^◌, ◌<◌, ◌≤◌, ◌⊎◌, true, false, nat_le, inl, inr, refl, sym, ap, ◌∙◌, subst, arith, rules, tests, get_or, lit<, lit≤}
+use Rattle.std.proofs.Common.{◌≡◌, ℕ, zero, suc, ◌+◌, ◌-◌, ◌*◌, ◌/◌, ◌%◌, ◌^◌, ◌<◌, ◌≤◌, ◌⊎◌, true, false, nat_le, inl, inr, refl, sym, ap, ◌∙◌, subst, arith, rules, tests, get_or, lit<, lit≤, min}
 use Rattle.std.proofs.lemmas.Bool.{cases_lt}
 use Rattle.std.specs.Int.{div_ceil}
 use Rattle.std.proofs.lemmas.Nat.{mul-le, pow-add, mul-pow, div-add-mod', mod_below}
@@ -10,6 +10,7 @@ use Rattle.fix_interval.specs.Powers.{factorial_20, exponential_sum}
 use Rattle.fix_interval.specs.Roots.{one_factor, times_low, times_high, product}
 use Rattle.fix_interval.specs.ExpNeg.{inverse_e_low, inverse_e_high, whole_decay_low, whole_decay_high, decay_factor_low, decay_factor_high, decay_low, decay_high, exp_neg_low, exp_neg_high}
 use Rattle.enclose_exp.specs.declared.tables.TheConstants.{DECAY_LOW, DECAY_HIGH, WHOLE_LOW, WHOLE_HIGH}
+use Rattle.enclose_exp.specs.Digits.{factor_at}
 use Rattle.enclose_exp.proofs.Law.{pow-mul, one-pow, root_low-law, root_high-law, all_low-law, all_high-law}
 use Rattle.enclose_exp.proofs.TableLemmas.{whole_low-at, whole_high-at, decay_low-is, decay_high-is, decay_high-le, quotient_up-le}
 
@@ -37,19 +38,19 @@ pub exp_neg_high-past : (n : ℕ) → 23 * 2 ^ 32 ≤ n → exp_neg_high n ≡ 1
 unfolding exp_neg_high
 exp_neg_high-past n large = rw (past-cut n large) refl
 
-pub low-made : (n start p : ℕ) → n < 23 * 2 ^ 32 → start ≡ get_or WHOLE_LOW (n / 2 ^ 32) 0 →
-    p ≡ product times_low (λ i. get_or DECAY_LOW i 0) start (n % 2 ^ 32) 32 → p ≡ decay_low n
+pub low-made : (n p : ℕ) → n ≤ 23 * 2 ^ 32 →
+  p ≡ product times_low (factor_at DECAY_LOW) (get_or WHOLE_LOW (n / 2 ^ 32) 0) (n % 2 ^ 32) 32 → p ≡ decay_low n
 unfolding decay_low
-low-made n start p small begin made =
-    let whole : n / 2 ^ 32 < 23 = omega (arith, small) in
-    rw (unit-is, made, decay_low-is start (n % 2 ^ 32), begin, whole_low-at (n / 2 ^ 32) whole) refl
+low-made n p small made =
+  let whole : n / 2 ^ 32 < 24 = omega (arith, small) in
+  rw (unit-is, made, decay_low-is (get_or WHOLE_LOW (n / 2 ^ 32) 0) (n % 2 ^ 32), whole_low-at (n / 2 ^ 32) whole) refl
 
-pub high-made : (n start p : ℕ) → n < 23 * 2 ^ 32 → start ≡ get_or WHOLE_HIGH (n / 2 ^ 32) 0 →
-    p ≡ product times_high (λ i. get_or DECAY_HIGH i 0) start (n % 2 ^ 32) 32 → p ≡ decay_high n
+pub high-made : (n p : ℕ) → n ≤ 23 * 2 ^ 32 →
+  p ≡ product times_high (factor_at DECAY_HIGH) (get_or WHOLE_HIGH (n / 2 ^ 32) 0) (n % 2 ^ 32) 32 → p ≡ decay_high n
 unfolding decay_high
-high-made n start p small begin made =
-    let whole : n / 2 ^ 32 < 23 = omega (arith, small) in
-    rw (unit-is, made, decay_high-is start (n % 2 ^ 32), begin, whole_high-at (n / 2 ^ 32) whole) refl
+high-made n p small made =
+  let whole : n / 2 ^ 32 < 24 = omega (arith, small) in
+  rw (unit-is, made, decay_high-is (get_or WHOLE_HIGH (n / 2 ^ 32) 0) (n % 2 ^ 32), whole_high-at (n / 2 ^ 32) whole) refl
 
 -- ---- the law
 
@@ -227,3 +228,16 @@ exp_neg_high-le n =
       | inl small ↦ rw (exp_neg_high-within n small) (quotient_up-le (decay_high n) (2 ^ 32) (2 ^ 28) (omega arith) (omega (arith, bound n)))
       | inr large ↦ rw (exp_neg_high-past n large) (omega arith)
     ]
+
+-- an exponent that is kept within 23 decays the same
+pub exp_neg_low-kept : (n : ℕ) → exp_neg_low (min n (23 * 2 ^ 32)) ≡ exp_neg_low n
+exp_neg_low-kept n =
+  elim (cases_lt n (23 * 2 ^ 32)) [
+    inl small ↦ ap exp_neg_low (omega arith)
+  | inr large ↦ exp_neg_low-past (min n (23 * 2 ^ 32)) (omega arith) ∙ sym (exp_neg_low-past n large) ]
+
+pub exp_neg_high-kept : (n : ℕ) → exp_neg_high (min n (23 * 2 ^ 32)) ≡ exp_neg_high n
+exp_neg_high-kept n =
+  elim (cases_lt n (23 * 2 ^ 32)) [
+    inl small ↦ ap exp_neg_high (omega arith)
+  | inr large ↦ exp_neg_high-past (min n (23 * 2 ^ 32)) (omega arith) ∙ sym (exp_neg_high-past n large) ]

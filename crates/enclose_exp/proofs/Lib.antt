@@ -1,9 +1,10 @@
-pub mod Products
 pub mod DecayInterval
 pub mod DecayLaw
 pub mod Exponents
 pub mod Law
+pub mod PowerNodes
 pub mod Powers
+pub mod Products
 pub mod Roots
 pub mod Scaling
 pub mod Shifted

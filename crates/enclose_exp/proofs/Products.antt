@@ -1,9 +1,13 @@
 -- Products of factors by their digits.
-use Rattle.std.proofs.Common.{◌≡◌, ℕ, zero, suc, ◌+◌, ◌^◌, ◌<◌, ◌≤◌, ◌⊎◌, ◌==◌, Bool, true, false, cond, inl, inr, refl, sym, ap, ◌∙◌, arith, rules, tests, List, [], ◌∷◌, length, get_or, drop}
-use Rattle.std.proofs.lemmas.Bool.{cases_lt}
+use Rattle.std.proofs.Common.{◌≡◌, ℕ, zero, suc, ◌+◌, ◌*◌, ◌^◌, ◌<◌, ◌≤◌, ◌⊎◌, ◌==◌, Bool, true, false, cond, inl, inr, refl, sym, ap, ◌∙◌, arith, rules, tests, List, [], ◌∷◌, length, get_or, drop}
+use Rattle.std.proofs.lemmas.Bool.{cases_lt, false≢true, eqb-true}
+use Rattle.std.specs.Prelude.{◌&&◌}
 use Rattle.std.proofs.Math.Seq.{drop-cons}
-use Rattle.fix_interval.specs.Roots.{digit_at, product}
-use Rattle.enclose_exp.specs.Fits.{ProductsFit}
+use Rattle.std.proofs.Math.Nat.{mul-div_cancel}
+use Rattle.std.specs.Int.{div_ceil}
+use Rattle.enclose_exp.proofs.Scaling.{div_ceil-whole}
+use Rattle.fix_interval.specs.Roots.{one_factor, times_low, times_high, digit_at, product}
+use Rattle.enclose_exp.specs.Digits.{ProductsFit, IsDigitTable, factor_at}
 
 -- one more place
 pub product-suc : (times : ℕ → ℕ → ℕ) (factor : ℕ → ℕ) (start fraction place : ℕ) →
@@ -116,14 +120,36 @@ fits-growing times least g xs start fraction count large small place within =
     let step = grows-drop times least g xs (suc place) (times p (get_or xs place 0)) large in
     omega (arith, before, unfolded, step, small)
 
--- one turn of the code
-pub turn-is : (times : ℕ → ℕ → ℕ) (factor : ℕ → ℕ) (start fraction place p r : ℕ) → p ≡ product times factor start fraction place →
-    r ≡ cond (digit_at fraction place == 1) (times p (factor place)) p → r ≡ product times factor start fraction (place + 1)
-turn-is times factor start fraction place p r before made =
-    let next : place + 1 ≡ suc place = omega arith in
-    made
-    ∙ ap (λ x. cond (digit_at fraction place == 1) (times x (factor place)) x) before
-    ∙ sym (product-suc times factor start fraction place) ∙ ap (λ i. product times factor start fraction i) (sym next)
+-- one turn of the code: `entry` stands in the table at the place of the digit d
+pub turn-fits : (times : ℕ → ℕ → ℕ) (table : List ℕ) (start fraction place p d : ℕ) → ((q : ℕ) → times q one_factor ≡ q) → IsDigitTable table →
+  ProductsFit times (factor_at table) start fraction → place < 32 → p < 2 ^ 64 → p ≡ product times (factor_at table) start fraction place →
+  d ≡ digit_at fraction place → times p (get_or table (2 * place + d) 0) < 2 ^ 64
+turn-fits times table start fraction place p d whole ones fit within small before digit =
+  elim (cases_lt d 1) [
+    inl none ↦ (let zero_digit : 2 * place + d ≡ 2 * place = omega arith in
+      let entry : get_or table (2 * place + d) 0 ≡ one_factor = ap (λ i. get_or table i 0) zero_digit ∙ ones place within in
+      rw (entry, whole p) small)
+  | inr some ↦ (let one_digit : 2 * place + d ≡ 2 * place + 1 = omega (arith, digit) in
+      rw (one_digit, before) (fit place within)) ]
+
+pub turn-is : (times : ℕ → ℕ → ℕ) (table : List ℕ) (start fraction place p d r : ℕ) → ((q : ℕ) → times q one_factor ≡ q) → IsDigitTable table →
+  place < 32 → p ≡ product times (factor_at table) start fraction place →
+  d ≡ digit_at fraction place → r ≡ times p (get_or table (2 * place + d) 0) → r ≡ product times (factor_at table) start fraction (place + 1)
+turn-is times table start fraction place p d r whole ones within before digit made =
+  let next : place + 1 ≡ suc place = omega arith in
+  elim (product-cases times (factor_at table) start fraction place) [
+    inl c ↦ (let one_digit : 2 * place + d ≡ 2 * place + 1 = omega (arith, digit, c.0) in
+      rw (next, c.1) (made ∙ ap (λ i. times p (get_or table i 0)) one_digit ∙ ap (λ q. times q (factor_at table place)) before))
+  | inr c ↦ (let zero_digit : 2 * place + d ≡ 2 * place = omega (arith, digit, c.0) in
+      let entry : get_or table (2 * place + d) 0 ≡ one_factor = ap (λ i. get_or table i 0) zero_digit ∙ ones place within in
+      rw (next, c.1) (made ∙ ap (λ f. times p f) entry ∙ whole p ∙ before)) ]
+
+-- a factor of 1 changes nothing
+pub times_low-one : (p : ℕ) → times_low p one_factor ≡ p
+times_low-one p = mul-div_cancel p (omega arith)
+
+pub times_high-one : (p : ℕ) → times_high p one_factor ≡ p
+times_high-one p = ap (λ n. div_ceil n one_factor) (omega arith) ∙ div_ceil-whole p one_factor (omega arith)
 
 -- no product passes the one of all factors
 pub product-le_all : (times : ℕ → ℕ → ℕ) (least : ℕ) → Grows times least → (xs : List ℕ) (start fraction count : ℕ) → ((i : ℕ) → i < length xs → least ≤ get_or xs i 0) → count ≤ length xs →
@@ -132,3 +158,36 @@ product-le_all times least g xs start fraction count large within =
     let kept = kept-all times least g xs start fraction count large within in
     let rest = grows-drop times least g xs count (product times (λ i. get_or xs i 0) start fraction count) large in
     omega (arith, kept, rest)
+
+-- ---- the factors of the digit 1 of a table
+
+-- every second entry
+abbrev pub seconds : List ℕ → List ℕ
+seconds [] = []
+seconds (x ∷ []) = []
+seconds (x ∷ (y ∷ xs)) = y ∷ seconds xs
+
+pub seconds-at : (xs : List ℕ) (i : ℕ) → get_or (seconds xs) i 0 ≡ get_or xs (2 * i + 1) 0
+seconds-at [] i = refl
+seconds-at (x ∷ []) i = (let e : 2 * i + 1 ≡ suc (2 * i) = omega arith in rw e refl)
+seconds-at (x ∷ (y ∷ xs)) zero = refl
+seconds-at (x ∷ (y ∷ xs)) (suc i) = (let e : 2 * suc i + 1 ≡ suc (suc (2 * i + 1)) = omega arith in rw e (seconds-at xs i))
+
+-- the entries between them are all 1
+abbrev pub are_ones : List ℕ → Bool
+are_ones [] = true
+are_ones (x ∷ []) = x == one_factor
+are_ones (x ∷ (y ∷ xs)) = (x == one_factor) && are_ones xs
+
+both-true : (a b : Bool) → (a && b) ≡ true → (a ≡ true) × (b ≡ true)
+both-true true b h = (refl, h)
+both-true false b h = absurd (false≢true h)
+
+pub ones-at : (xs : List ℕ) (i : ℕ) → are_ones xs ≡ true → 2 * i < length xs → get_or xs (2 * i) 0 ≡ one_factor
+ones-at [] i all within = absurd (omega arith)
+ones-at (x ∷ []) zero all within = eqb-true x one_factor all
+ones-at (x ∷ []) (suc i) all within = absurd (omega arith)
+ones-at (x ∷ (y ∷ xs)) zero all within = eqb-true x one_factor (both-true (x == one_factor) (are_ones xs) all).0
+ones-at (x ∷ (y ∷ xs)) (suc i) all within =
+  let e : 2 * suc i ≡ suc (suc (2 * i)) = omega arith in
+  rw e (ones-at xs i (both-true (x == one_factor) (are_ones xs) all).1 (omega arith))

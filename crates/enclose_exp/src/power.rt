@@ -1,18 +1,22 @@
 //! Ten to the power of an interval.
 
-ghost use Rattle.std.specs.Prelude.{◌≡◌, ◌<◌, ◌≤◌, ◌*◌, ◌^◌, ◌≤ℤ◌, IsSomeAnd, IfSome, pos, Some, option_and_then};
+ghost use Rattle.std.specs.Prelude.{◌≡◌, ◌<◌, ◌≤◌, ◌*◌, ◌%◌, ◌^◌, ◌≤ℤ◌, IsSomeAnd, IfSome, pos, Some};
 ghost use Rattle.std.specs.Option.{option_map_or};
-ghost use Rattle.fix_interval.specs.Ten.{ten_of, ten_low, ten_high, raised_low, raised_high, fraction_low, fraction_high};
+ghost use Rattle.fix_interval.specs.Ten.{ten_of, raised_low, raised_high, fraction_low, fraction_high};
+ghost use Rattle.enclose_exp.specs.Exponent.{counted, low_value, high_value};
 
-use crate::product::{ONE, product_high, product_low, units_up};
-use crate::tables::{POWERS_OF_TEN, TEN_HIGH, TEN_LOW};
+use crate::product::{Start, products, units_up};
+use crate::tables::{ONE, POWERS_OF_TEN, TEN_HIGH, TEN_LOW};
 use fix_interval::Iv;
 
 /// The exponent 20, from which on the low end stays and the high end is unbounded.
 const GREATEST: i128 = 20 << 32;
 
-/// The exponent -19, below which a power is less than the least end above 0.
-const LEAST: i128 = -19 << 32;
+/// That exponent as it is counted, from -20 on.
+const GREATEST_COUNTED: u64 = 40 << 32;
+
+/// The exponent -19 as it is counted: below it a power is less than the least end above 0.
+const LEAST_COUNTED: u64 = 1 << 32;
 
 /// Ten to the power of an interval, end by end: the low end rounded down and the high end rounded up to
 /// 2^-32. ISO 9613-2 adds levels by it, in equations (5) and (6). The low end is bounded and not below 0;
@@ -22,47 +26,79 @@ pub fn ten(a: Iv) -> Iv
     ensures low { IsSomeAnd result.lo (λ z. pos 0 ≤ℤ z) }
     ensures high { IfSome result.hi (λ z. pos 1 ≤ℤ z) }
 {
-    Iv::of_ends(low_power(a.low()), high_power(a.high()))
+    let low = exponent(a.low(), 0);
+    let high = exponent(a.high(), GREATEST_COUNTED);
+    let (down, up) = fractions((low % (1 << 32)) as u32, (high % (1 << 32)) as u32);
+    Iv::of_ends(low_power(low, down), high_power(high, up))
 }
 
-/// Ten to the power of a low end. Unbounded, it gives 0.
-fn low_power(end: Option<i128>) -> Option<i128>
-    ensures { result ≡ Some (pos (option_map_or ten_low end 0)) }
+/// The exponent of an end as it is counted, from -20 on; `unbounded` where there is no end.
+fn exponent(end: Option<i128>, unbounded: u64) -> u64
+    requires { unbounded ≤ 40 * 2 ^ 32 }
+    ensures value { result ≡ option_map_or counted end unbounded }
+    ensures bound { result ≤ 40 * 2 ^ 32 }
 {
-    let Some(exponent) = end else {
-        return Some(0);
+    match end {
+        Some(exponent) => (exponent.clamp(-GREATEST, GREATEST) + GREATEST) as u64,
+        None => unbounded,
+    }
+}
+
+/// Ten to the power of two fractions of 2^-32nds, in units of 2^-60, of the first rounded down and of the
+/// second rounded up.
+fn fractions(low: u32, high: u32) -> (u64, u64)
+    ensures low { result.0 ≡ fraction_low low }
+    ensures high { result.1 ≡ fraction_high high }
+{
+    let low = Start {
+        factor: ONE,
+        fraction: low,
     };
-    if exponent >= GREATEST {
+    let high = Start {
+        factor: ONE,
+        fraction: high,
+    };
+    products(&TEN_LOW, &TEN_HIGH, low, high)
+}
+
+/// The low end of a power, of which `fraction` is the power of the fraction.
+fn low_power(exponent: u64, fraction: u64) -> Option<i128>
+    requires exponent { exponent ≤ 40 * 2 ^ 32 }
+    requires fraction { fraction ≡ fraction_low (exponent % 2 ^ 32) }
+    ensures { result ≡ Some (pos (low_value exponent)) }
+{
+    if exponent >= GREATEST_COUNTED {
         Some(100_000_000_000_000_000_000 << 32)
-    } else if exponent < LEAST {
+    } else if exponent < LEAST_COUNTED {
         Some(0)
     } else {
-        Some(power_down((exponent + GREATEST) as u64) as i128)
+        Some(power_down(exponent, fraction) as i128)
     }
 }
 
-/// Ten to the power of a high end. Unbounded, it stays so.
-fn high_power(end: Option<i128>) -> Option<i128>
-    ensures { result ≡ option_and_then ten_high end }
+/// The high end of a power.
+fn high_power(exponent: u64, fraction: u64) -> Option<i128>
+    requires exponent { exponent ≤ 40 * 2 ^ 32 }
+    requires fraction { fraction ≡ fraction_high (exponent % 2 ^ 32) }
+    ensures { result ≡ high_value exponent }
 {
-    let exponent = end?;
-    if exponent >= GREATEST {
+    if exponent >= GREATEST_COUNTED {
         None
-    } else if exponent < LEAST {
+    } else if exponent < LEAST_COUNTED {
         Some(1)
     } else {
-        Some(power_up((exponent + GREATEST) as u64) as i128)
+        Some(power_up(exponent, fraction) as i128)
     }
 }
 
-/// Ten to the power of a number that counts from -20, rounded down.
-fn power_down(exponent: u64) -> u128
+/// The power of a fraction times that of the whole part, rounded down.
+fn power_down(exponent: u64, fraction: u64) -> u128
     requires above { 2 ^ 32 ≤ exponent }
     requires below { exponent < 40 * 2 ^ 32 }
+    requires fraction { fraction ≡ fraction_low (exponent % 2 ^ 32) }
     ensures value { result ≡ raised_low exponent }
     ensures bound { result < 2 ^ 100 }
 {
-    let fraction = fraction_down((exponent % (1 << 32)) as u32);
     let whole = (exponent >> 32) as usize;
     if whole < 20 {
         u128::from((fraction >> 28) / power_of_ten(20 - whole))
@@ -72,13 +108,13 @@ fn power_down(exponent: u64) -> u128
 }
 
 /// The same, rounded up.
-fn power_up(exponent: u64) -> u128
+fn power_up(exponent: u64, fraction: u64) -> u128
     requires above { 2 ^ 32 ≤ exponent }
     requires below { exponent < 40 * 2 ^ 32 }
+    requires fraction { fraction ≡ fraction_high (exponent % 2 ^ 32) }
     ensures value { result ≡ raised_high exponent }
     ensures bound { result < 2 ^ 101 }
 {
-    let fraction = fraction_up((exponent % (1 << 32)) as u32);
     let whole = (exponent >> 32) as usize;
     if whole < 20 {
         u128::from(units_up(fraction).div_ceil(power_of_ten(20 - whole)))
@@ -95,20 +131,6 @@ fn power_of_ten(exponent: usize) -> u64
     ensures positive { 0 < result }
 {
     POWERS_OF_TEN[exponent]
-}
-
-/// Ten to the power of a fraction of 2^-32nds, in units of 2^-60, rounded down.
-fn fraction_down(fraction: u32) -> u64
-    ensures { result ≡ fraction_low fraction }
-{
-    product_low(&TEN_LOW, ONE, fraction)
-}
-
-/// The same, rounded up.
-fn fraction_up(fraction: u32) -> u64
-    ensures { result ≡ fraction_high fraction }
-{
-    product_high(&TEN_HIGH, ONE, fraction)
 }
 
 #[cfg(test)]

@@ -1,7 +1,7 @@
 pub mod DecadeLemmas
 pub mod Law
 pub mod LgInterval
-pub mod LgSpans
+pub mod LogarithmNode
 pub mod Powers
 pub mod Quotients
 pub mod Turns

@@ -1,8 +1,9 @@
-use Rattle.enclose_exp.proofs.TenInterval.{ten_of-interval, ten_of-holds}
+use Rattle.enclose_exp.proofs.TenInterval.{ten_of-holds}
+use Rattle.enclose_exp.proofs.PowerNodes.{Ten-lawful}
 use Rattle.enclose_exp.proofs.laws.power_is_enclosed.Goals as goal
 
-pub returns-clause-interval : goal.returns-clause-interval
-returns-clause-interval c = ten_of-interval
+pub returns-clause-ends : goal.returns-clause-ends
+returns-clause-ends c = ten_of-holds
 
-pub returns-clause-encloses : goal.returns-clause-encloses
-returns-clause-encloses c = ten_of-holds
+pub returns-clause-lawful : goal.returns-clause-lawful
+returns-clause-lawful c = Ten-lawful

@@ -1,28 +1,20 @@
-use Rattle.std.proofs.Common.{◌*◌, ◌^◌, sym, arith, rules, pos, ◌≤ℤ◌, ◌<ℤ◌, neg_ℤ}
+use Rattle.std.proofs.Common.{◌≡◌, ◌∙◌, ap, sym, arith, Some, pos, ℤ}
 use Rattle.std.proofs.lemmas.Int.{ints}
 use mir.Syntax.{w128}
-use mir.Val.{SFits}
-use Rattle.enclose_exp.proofs.Exponents.{ten_high-greatest, ten_high-least, high-made}
+use mir.Val.{to_z}
+use Rattle.enclose_exp.proofs.Exponents.{high_value-greatest, high_value-least, high_value-within}
 use Rattle.enclose_exp.proofs.power.high_power.Goals as goal
 
-pub returns-then-exponent-ge-GREATEST : goal.returns-then-exponent-ge-GREATEST
-returns-then-exponent-ge-GREATEST c =
-    let z = c.in_ok-exponent.exponent in
-    let fits : SFits w128 z = search rules in
-    let h : pos (20 * 2 ^ 32) ≤ℤ z = grind (arith, ints) in
-    rw c.in_ok-exponent.was (sym (ten_high-greatest z h))
+pub returns-then-exponent-ge-GREATEST_COUNTED : goal.returns-then-exponent-ge-GREATEST_COUNTED
+returns-then-exponent-ge-GREATEST_COUNTED c = sym (high_value-greatest c.args.exponent c.if-exponent-ge-GREATEST_COUNTED.true)
 
-pub returns-then-exponent-lt-LEAST : goal.returns-then-exponent-lt-LEAST
-returns-then-exponent-lt-LEAST c =
-    let z = c.in_ok-exponent.exponent in
-    let fits : SFits w128 z = search rules in
-    let h : z <ℤ neg_ℤ (pos (19 * 2 ^ 32)) = grind (arith, ints) in
-    rw c.in_ok-exponent.was (sym (ten_high-least z h))
+pub returns-then-exponent-lt-LEAST_COUNTED : goal.returns-then-exponent-lt-LEAST_COUNTED
+returns-then-exponent-lt-LEAST_COUNTED c = sym (high_value-least c.args.exponent c.if-exponent-lt-LEAST_COUNTED.true)
 
-pub returns-else-exponent-lt-LEAST : goal.returns-else-exponent-lt-LEAST
-returns-else-exponent-lt-LEAST c =
-    let z = c.in_ok-exponent.exponent in
-    let fits : SFits w128 z = search rules in
-    let low : neg_ℤ (pos (19 * 2 ^ 32)) ≤ℤ z = grind (arith, ints) in
-    let high : z <ℤ pos (20 * 2 ^ 32) = grind (arith, ints) in
-    rw c.in_ok-exponent.was (high-made z c.power_up.result fits low high c.power_up.ensures.value (omega (arith, c.power_up.ensures.bound)))
+pub returns-else-exponent-lt-LEAST_COUNTED : goal.returns-else-exponent-lt-LEAST_COUNTED
+returns-else-exponent-lt-LEAST_COUNTED c =
+  let r = c.power_up.result in
+  let small = c.power_up.ensures.bound in
+  let whole : to_z w128 r ≡ pos r = omega (arith, ints, small) in
+  ap Some (whole ∙ ap pos c.power_up.ensures.value)
+  ∙ sym (high_value-within c.args.exponent c.if-exponent-lt-LEAST_COUNTED.false c.if-exponent-ge-GREATEST_COUNTED.false)

@@ -9,14 +9,14 @@ returns-then-whole-lt20-clause-value c =
     let whole = c.args.exponent / 2 ^ 32 in
     rw unit-is
     (c.from.ensures ∙ c.div_ceil.ensures ∙ ap (λ n. div_ceil n c.power_of_ten.result) c.units_up.ensures
-    ∙ scaled_high-below c.fraction_up-fraction.result whole c.power_of_ten.result c.if-whole-lt20.true c.power_of_ten.ensures.value
-    ∙ ap (λ p. div_ceil (p * 10 ^ whole) (10 ^ 20 * 2 ^ 28)) c.fraction_up-fraction.ensures)
+    ∙ scaled_high-below c.args.fraction whole c.power_of_ten.result c.if-whole-lt20.true c.power_of_ten.ensures.value
+    ∙ ap (λ p. div_ceil (p * 10 ^ whole) (10 ^ 20 * 2 ^ 28)) c.requires.fraction)
 
 pub returns-else-whole-lt20-clause-value : goal.returns-else-whole-lt20-clause-value
 returns-else-whole-lt20-clause-value c =
     let whole = c.args.exponent / 2 ^ 32 in
     let t = c.power_of_ten-else-whole-lt20 in
     rw (unit-is, c.from-else-whole-lt20.ensures, c.from-else-whole-lt20-2.ensures)
-    (div_ceil-added (c.fraction_up-fraction.result * t.result) (2 ^ 28) (omega arith)
-    ∙ scaled_high-above c.fraction_up-fraction.result whole t.result c.if-whole-lt20.false t.ensures.value
-    ∙ ap (λ p. div_ceil (p * 10 ^ whole) (10 ^ 20 * 2 ^ 28)) c.fraction_up-fraction.ensures)
+    (div_ceil-added (c.args.fraction * t.result) (2 ^ 28) (omega arith)
+    ∙ scaled_high-above c.args.fraction whole t.result c.if-whole-lt20.false t.ensures.value
+    ∙ ap (λ p. div_ceil (p * 10 ^ whole) (10 ^ 20 * 2 ^ 28)) c.requires.fraction)
