@@ -1,0 +1,4 @@
+pub mod Plan
+pub mod Vector
+pub mod Point
+pub mod Outline
