@@ -1,2 +1,5 @@
 pub mod Whole
+pub mod Vectors
+pub mod Crossings
 pub mod OutlineLemmas
+pub mod Windings

@@ -1,4 +1,9 @@
 pub mod Plan
 pub mod Vector
+pub mod Positive
 pub mod Point
+pub mod Step
+pub mod Fraction
+pub mod Direction
+pub mod Crossing
 pub mod Outline

@@ -1,4 +1,3 @@
-ghost use Rattle.std.specs.Prelude.{◌≡◌};
 ghost use Rattle.scene_geom.specs.Plan.{InPlan};
 
 /// A point of the plan, in mm: both coordinates lie between -4,000,000 and 4,000,000, these ends
@@ -12,12 +11,17 @@ pub struct Pt {
 }
 
 impl Pt {
+    ghost use Rattle.std.specs.Prelude.{◌≡◌};
+    ghost use Rattle.scene_geom.specs.Plan.{InPlan};
+    ghost use Rattle.scene_geom.specs.Point.{point_at};
+
     /// The point with these coordinates, in mm.
     pub const fn new(x: i64, y: i64) -> Self
         requires x_in_plan { InPlan x }
         requires y_in_plan { InPlan y }
         ensures x { result.x ≡ x }
         ensures y { result.y ≡ y }
+        ensures place { result ≡ point_at x y }
     {
         Pt {
             x: x as i32,

@@ -1,9 +1,8 @@
-ghost use Rattle.std.specs.Prelude.{◌≡◌, ◌≤◌, ◌-ℤ◌, ◌*ℤ◌, unsigned_abs};
+ghost use Rattle.std.specs.Prelude.{◌≡◌, ◌≤◌, unsigned_abs};
 
 use super::plan::Pt;
 
-/// The way from one point of the plan to another, in mm, and products of two such ways, for which
-/// 64 bits are enough.
+/// The way from one point of the plan to another, in mm. 64 bits hold the product of two such ways.
 #[derive(Clone, Copy, Debug)]
 pub struct Step {
     pub x: i64,
@@ -13,10 +12,14 @@ pub struct Step {
 }
 
 impl Step {
+    ghost use Rattle.std.specs.Prelude.{◌≡◌, ◌≤◌, unsigned_abs};
+    ghost use Rattle.scene_geom.specs.Point.{at, from_to};
+    ghost use Rattle.scene_geom.specs.Step.{vector};
+    ghost use Rattle.scene_geom.specs.Vector.{cross};
+
     /// The way from `a` to `b`.
     pub fn between(a: Pt, b: Pt) -> Self
-        ensures x { result.x ≡ b.x -ℤ a.x }
-        ensures y { result.y ≡ b.y -ℤ a.y }
+        ensures { vector result ≡ from_to a b }
     {
         Step {
             x: i64::from(b.x) - i64::from(a.x),
@@ -26,8 +29,7 @@ impl Step {
 
     /// The way from the origin to `a`.
     pub fn to(a: Pt) -> Self
-        ensures x { result.x ≡ a.x }
-        ensures y { result.y ≡ a.y }
+        ensures { vector result ≡ at a }
     {
         Step {
             x: i64::from(a.x),
@@ -37,7 +39,7 @@ impl Step {
 
     /// The cross product with `other`, in mm²: positive where `other` turns left.
     pub fn cross(self, other: Step) -> i64
-        ensures value { result ≡ self.x *ℤ other.y -ℤ self.y *ℤ other.x }
+        ensures value { result ≡ cross (vector self) (vector other) }
         ensures within { unsigned_abs result ≤ 128000000000000 }
     {
         self.x * other.y - self.y * other.x
