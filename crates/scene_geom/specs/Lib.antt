@@ -7,3 +7,4 @@ pub mod Fraction
 pub mod Direction
 pub mod Crossing
 pub mod Outline
+pub mod Laws

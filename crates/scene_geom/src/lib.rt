@@ -5,6 +5,7 @@ mod aims;
 mod crossing;
 mod direction;
 mod fraction;
+pub mod laws;
 mod meeting;
 mod outline;
 mod places;
