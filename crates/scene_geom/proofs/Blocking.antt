@@ -1,17 +1,15 @@
 -- Sides that block: what the numbers at their ends say.
-use Rattle.std.proofs.Common.{◌≡◌, ℕ, zero, suc, Bool, true, false, arith, ap, subst, ◌∙◌, sym, refl, ◌⊎◌, inl, inr}
-use Rattle.std.specs.Prelude.{ℤ, pos, negsuc, ◌+ℤ◌, ◌-ℤ◌, ◌*ℤ◌, neg_ℤ, int_lt, ◌&&◌, ◌||◌, Option, None, Some}
+use Rattle.std.proofs.Common.{◌≡◌, zero, suc, Bool, true, false, arith, ap, subst, ◌∙◌, sym, refl, ◌⊎◌, inl, inr}
+use Rattle.std.specs.Prelude.{ℤ, pos, negsuc, ◌-ℤ◌, ◌*ℤ◌, neg_ℤ, int_lt, ◌&&◌, ◌||◌, Some}
 use Rattle.std.specs.Bool.{then_some}
 use Rattle.std.specs.Option.{option_and_then}
 use Rattle.std.proofs.lemmas.Int.{ints}
 use Rattle.scene_geom.specs.declared.plan.Pt.{Pt}
 use Rattle.scene_geom.specs.declared.plan.Side.{Side}
-use Rattle.scene_geom.specs.declared.fraction.Frac.{Frac}
-use Rattle.scene_geom.specs.Vector.{Vector, cross}
-use Rattle.scene_geom.specs.Point.{from_to, along, turned, orient_of}
-use Rattle.scene_geom.specs.Fraction.{over, inner, is_inside, is_ahead}
-use Rattle.scene_geom.specs.Direction.{direct}
-use Rattle.scene_geom.specs.Crossing.{differ, is_split, hits_of, crosses_of, are_opposite, blocks_of}
+use Rattle.scene_geom.specs.Vector.{cross}
+use Rattle.scene_geom.specs.Point.{from_to, along, orient_of}
+use Rattle.scene_geom.specs.Fraction.{over, inner, is_inside}
+use Rattle.scene_geom.specs.Crossing.{differ, is_split, crosses_of, are_opposite, blocks_of}
 use Rattle.scene_geom.specs.Laws.{UncrossedIsUnblocked, BlocksTurned}
 use Rattle.scene_geom.proofs.Whole.{mul_sub, sub_mul}
 
@@ -47,16 +45,16 @@ opposed : (a b : ℤ) → are_opposite a b ≡ true → Opposed a b
 unfolding Opposed
 opposed a b e =
     elim (one_holds (int_lt a (pos 0) && int_lt (pos 0) b) (int_lt b (pos 0) && int_lt (pos 0) a) e) [
-      inl h ↦ inl (both_hold (int_lt a (pos 0)) (int_lt (pos 0) b) h)
-    | inr h ↦ inr (both_hold (int_lt b (pos 0)) (int_lt (pos 0) a) h)
+      | inl h ↦ inl (both_hold (int_lt a (pos 0)) (int_lt (pos 0) b) h)
+      | inr h ↦ inr (both_hold (int_lt b (pos 0)) (int_lt (pos 0) a) h)
     ]
 
 differ-opposed : (a b : ℤ) → Opposed a b → differ (int_lt (pos 0) a) (int_lt (pos 0) b) ≡ true
 unfolding Opposed
 differ-opposed a b o =
     elim o [
-      inl h ↦ (let below = h.0 in let no : false ≡ int_lt (pos 0) a = omega (arith, ints) in rw (h.1, ← no) refl)
-    | inr h ↦ (let below = h.0 in let no : false ≡ int_lt (pos 0) b = omega (arith, ints) in rw (h.1, ← no) refl)
+      | inl h ↦ (let below = h.0 in let no : false ≡ int_lt (pos 0) a = omega (arith, ints) in rw (h.1, ← no) refl)
+      | inr h ↦ (let below = h.0 in let no : false ≡ int_lt (pos 0) b = omega (arith, ints) in rw (h.1, ← no) refl)
     ]
 
 inside-over : (n d : ℤ) → Opposed n (n -ℤ d) → is_inside (over n d) (over (pos 1) (pos 1)) ≡ true
@@ -64,13 +62,13 @@ unfolding Opposed
 inside-over n (pos zero) o = elim o [ inl h ↦ (let a = h.0 in let b = h.1 in absurd (omega (arith, ints))) | inr h ↦ (let a = h.0 in let b = h.1 in absurd (omega (arith, ints))) ]
 inside-over n (pos (suc k)) o =
     elim o [
-      inl h ↦ (let a = h.0 in let b = h.1 in absurd (omega (arith, ints)))
-    | inr h ↦ (let a = h.0 in let b = h.1 in both (int_lt (pos 0) n) (int_lt (n *ℤ pos 1) (pos 1 *ℤ pos (suc k))) b (sym (omega (arith, ints))))
+      | inl h ↦ (let a = h.0 in let b = h.1 in absurd (omega (arith, ints)))
+      | inr h ↦ (let a = h.0 in let b = h.1 in both (int_lt (pos 0) n) (int_lt (n *ℤ pos 1) (pos 1 *ℤ pos (suc k))) b (sym (omega (arith, ints))))
     ]
 inside-over n (negsuc k) o =
     elim o [
-      inl h ↦ (let a = h.0 in let b = h.1 in both (int_lt (pos 0) (neg_ℤ n)) (int_lt (neg_ℤ n *ℤ pos 1) (pos 1 *ℤ pos (suc k))) (sym (omega (arith, ints))) (sym (omega (arith, ints))))
-    | inr h ↦ (let a = h.0 in let b = h.1 in absurd (omega (arith, ints)))
+      | inl h ↦ (let a = h.0 in let b = h.1 in both (int_lt (pos 0) (neg_ℤ n)) (int_lt (neg_ℤ n *ℤ pos 1) (pos 1 *ℤ pos (suc k))) (sym (omega (arith, ints))) (sym (omega (arith, ints))))
+      | inr h ↦ (let a = h.0 in let b = h.1 in absurd (omega (arith, ints)))
     ]
 
 -- ---- the numbers of a crossing are those of the side's own line
@@ -85,7 +83,7 @@ rest m n = omega (arith, ints)
 
 -- where the ends are opposed both ways, the side crosses
 crosses-blocking : (side : Side) (p q : Pt) → Opposed (orient_of p q side.from) (orient_of p q side.to) → Opposed (orient_of side.from side.to p) (orient_of side.from side.to q)
-  → crosses_of side p q ≡ Some (over (orient_of side.from side.to p) (orient_of side.from side.to p -ℤ orient_of side.from side.to q))
+    → crosses_of side p q ≡ Some (over (orient_of side.from side.to p) (orient_of side.from side.to p -ℤ orient_of side.from side.to q))
 crosses-blocking side p q ends points =
     let m = orient_of side.from side.to p in let n = orient_of side.from side.to q in
     let split : is_split side p (from_to p q) ≡ true = differ-opposed (orient_of p q side.from) (orient_of p q side.to) ends in

@@ -1,6 +1,6 @@
 -- The place of a crossing is the one point of both lines.
-use Rattle.std.proofs.Common.{◌≡◌, ℕ, zero, suc, ◌+◌, ◌*◌, Bool, true, false, arith, ap, subst, ◌∙◌, sym, refl}
-use Rattle.std.specs.Prelude.{ℤ, pos, negsuc, ◌+ℤ◌, ◌-ℤ◌, ◌*ℤ◌, neg_ℤ, Option, None, Some, unsigned_abs}
+use Rattle.std.proofs.Common.{◌≡◌, ℕ, zero, suc, ◌*◌, Bool, true, false, arith, ap, subst, ◌∙◌, sym, refl}
+use Rattle.std.specs.Prelude.{ℤ, pos, negsuc, ◌+ℤ◌, ◌-ℤ◌, ◌*ℤ◌, neg_ℤ, None, Some, unsigned_abs}
 use Rattle.std.specs.Bool.{then_some}
 use Rattle.std.specs.Option.{option_and_then}
 use Rattle.std.proofs.lemmas.Int.{ints, unsigned_abs-mul}
@@ -10,11 +10,11 @@ use Rattle.scene_geom.specs.declared.plan.Pt.{Pt}
 use Rattle.scene_geom.specs.declared.plan.Side.{Side}
 use Rattle.scene_geom.specs.declared.fraction.Frac.{Frac}
 use Rattle.scene_geom.specs.Vector.{Vector, cross}
-use Rattle.scene_geom.specs.Point.{from_to, along, orient_of}
+use Rattle.scene_geom.specs.Point.{from_to, along}
 use Rattle.scene_geom.specs.Fraction.{over, inner, is_inside}
-use Rattle.scene_geom.specs.Crossing.{differ, is_left, is_split, hits_of, crosses_of}
-use Rattle.scene_geom.specs.Laws.{IsOnLine, IsCommonPoint, CrossingIsCommon}
-use Rattle.scene_geom.proofs.Whole.{add_mul, mul_add, sub_mul, mul_sub}
+use Rattle.scene_geom.specs.Crossing.{is_left, is_split, crosses_of}
+use Rattle.scene_geom.specs.Laws.{IsOnLine, CrossingIsCommon}
+use Rattle.scene_geom.proofs.Whole.{mul_add, sub_mul, mul_sub}
 use Rattle.scene_geom.proofs.Vectors.{cross-between}
 use Rattle.scene_geom.proofs.Crossings.{apart}
 use Rattle.scene_geom.proofs.Blocking.{reached-orient}
@@ -23,11 +23,18 @@ use Rattle.scene_geom.proofs.Turning.{neg-mul, beq-apart}
 -- ---- products of three
 mul_assoc : (a b c : ℤ) → (a *ℤ b) *ℤ c ≡ a *ℤ (b *ℤ c)
 mul_assoc a b c =
-    omega (arith, ints,
-      ap (λ (n : ℕ). n * up c) (product_is a b).0, ap (λ (n : ℕ). n * down c) (product_is a b).0,
-      ap (λ (n : ℕ). n * up c) (product_is a b).1, ap (λ (n : ℕ). n * down c) (product_is a b).1,
-      ap (λ (n : ℕ). up a * n) (product_is b c).0, ap (λ (n : ℕ). down a * n) (product_is b c).0,
-      ap (λ (n : ℕ). up a * n) (product_is b c).1, ap (λ (n : ℕ). down a * n) (product_is b c).1)
+    omega (
+      arith,
+      ints,
+      ap (λ (n : ℕ). n * up c) (product_is a b).0,
+      ap (λ (n : ℕ). n * down c) (product_is a b).0,
+      ap (λ (n : ℕ). n * up c) (product_is a b).1,
+      ap (λ (n : ℕ). n * down c) (product_is a b).1,
+      ap (λ (n : ℕ). up a * n) (product_is b c).0,
+      ap (λ (n : ℕ). down a * n) (product_is b c).0,
+      ap (λ (n : ℕ). up a * n) (product_is b c).1,
+      ap (λ (n : ℕ). down a * n) (product_is b c).1,
+    )
 
 left_comm : (a b c : ℤ) → a *ℤ (b *ℤ c) ≡ b *ℤ (a *ℤ c)
 left_comm a b c = sym (mul_assoc a b c) ∙ ap (λ (z : ℤ). z *ℤ c) (*ℤ_comm a b) ∙ mul_assoc b a c
@@ -64,7 +71,7 @@ scaled_difference x d x' d' f =
 
 -- what two points of one line have between them is along it
 on_one_line : (x y d x' y' d' : ℤ) (from : Pt) (v : Vector) → IsOnLine x y d from v → IsOnLine x' y' d' from v
-  → cross v (record { x = x' *ℤ d -ℤ x *ℤ d'; y = y' *ℤ d -ℤ y *ℤ d' }) ≡ pos 0
+    → cross v (record { x = x' *ℤ d -ℤ x *ℤ d'; y = y' *ℤ d -ℤ y *ℤ d' }) ≡ pos 0
 on_one_line x y d x' y' d' from v e e' =
     ap (λ (z : ℤ). v.x *ℤ z -ℤ v.y *ℤ (x' *ℤ d -ℤ x *ℤ d')) (scaled_difference y d y' d' from.y)
     ∙ ap (λ (z : ℤ). v.x *ℤ (d *ℤ (y' -ℤ d' *ℤ from.y) -ℤ d' *ℤ (y -ℤ d *ℤ from.y)) -ℤ v.y *ℤ z) (scaled_difference x d x' d' from.x)
@@ -100,17 +107,19 @@ zero_factor a b h e = by_abs (unsigned_abs a) (unsigned_abs b) refl refl (sym (u
     by_abs (suc m) (suc n) f g k = let no : suc m * suc n ≡ 0 = rw (← f, ← g) k in absurd (omega arith)
 
 pub alone : (x y d : ℤ) (from : Pt) (v : Vector) (other : Pt) (s : Vector) → (cross v s ≡ pos 0 → ⊥)
-  → IsOnLine x y d from v → IsOnLine x y d other s
-  → (x' y' d' : ℤ) → IsOnLine x' y' d' from v → IsOnLine x' y' d' other s → (x' *ℤ d ≡ x *ℤ d') × (y' *ℤ d ≡ y *ℤ d')
+    → IsOnLine x y d from v → IsOnLine x y d other s
+    → (x' y' d' : ℤ) → IsOnLine x' y' d' from v → IsOnLine x' y' d' other s → (x' *ℤ d ≡ x *ℤ d') × (y' *ℤ d ≡ y *ℤ d')
 alone x y d from v other s apart e f x' y' d' e' f' =
     let zx = x' *ℤ d -ℤ x *ℤ d' in let zy = y' *ℤ d -ℤ y *ℤ d' in
     let along_v = on_one_line x y d x' y' d' from v e e' in
-    let along_s = on_one_line x y d x' y' d' other s f f' in
-    (same _ _ (zero_factor (cross v s) zx apart (eliminate_x v.x v.y s.x s.y zx zy ∙ none _ _ (ap (λ (z : ℤ). s.x *ℤ z) along_v ∙ mul-zero s.x) (ap (λ (z : ℤ). v.x *ℤ z) along_s ∙ mul-zero v.x))),
-     same _ _ (zero_factor (cross v s) zy apart (eliminate_y v.x v.y s.x s.y zx zy ∙ none _ _ (ap (λ (z : ℤ). s.y *ℤ z) along_v ∙ mul-zero s.y) (ap (λ (z : ℤ). v.y *ℤ z) along_s ∙ mul-zero v.y))))
+    let along_s = on_one_line x y d x' y' d' other s f f' in (
+      same _ _ (zero_factor (cross v s) zx apart (eliminate_x v.x v.y s.x s.y zx zy ∙ none _ _ (ap (λ (z : ℤ). s.x *ℤ z) along_v ∙ mul-zero s.x) (ap (λ (z : ℤ). v.x *ℤ z) along_s ∙ mul-zero v.x))),
+      same _ _ (zero_factor (cross v s) zy apart (eliminate_y v.x v.y s.x s.y zx zy ∙ none _ _ (ap (λ (z : ℤ). s.y *ℤ z) along_v ∙ mul-zero s.y) (ap (λ (z : ℤ). v.y *ℤ z) along_s ∙ mul-zero v.y))),
+    )
   where
     same : (a b : ℤ) → a -ℤ b ≡ pos 0 → a ≡ b
     same a b e = omega (arith, ints)
+
     none : (a b : ℤ) → a ≡ pos 0 → b ≡ pos 0 → a -ℤ b ≡ pos 0
     none a b e f = omega (arith, ints)
 
@@ -130,13 +139,15 @@ found side p q place e = at_split (is_split side p (from_to p q)) refl
   where
     hit : Frac
     hit = over (cross (from_to p side.from) (along side) *ℤ pos 1) (cross (from_to p q) (along side))
+
     from_inner : (b : Bool) → then_some b hit ≡ Some place → place ≡ hit
     from_inner true h = cc
     from_inner false h = cc
+
     at_split : (b : Bool) → is_split side p (from_to p q) ≡ b → Found side p q place
     at_split true t = record {
       split = t;
-      is = from_inner (is_inside hit (over (pos 1) (pos 1))) (sym (ap (λ (b : Bool). option_and_then inner (then_some b hit)) t) ∙ e)
+      is = from_inner (is_inside hit (over (pos 1) (pos 1))) (sym (ap (λ (b : Bool). option_and_then inner (then_some b hit)) t) ∙ e);
     }
     at_split false t = let no : None ≡ Some place = sym (ap (λ (b : Bool). option_and_then inner (then_some b hit)) t) ∙ e in cc
 
@@ -148,11 +159,12 @@ on_own_line n d p q =
   where
     less : (a b : ℤ) → (a +ℤ b) -ℤ a ≡ b
     less a b = omega (arith, ints)
+
     ready : (a b : ℤ) → a ≡ b → a -ℤ b ≡ pos 0
     ready a b e = omega (arith, ints)
 
 on_side_line : (n d m e : ℤ) (p q a : Pt) (s : Vector) → cross s (from_to a p) ≡ m → cross s (from_to p q) ≡ neg_ℤ e → n *ℤ e ≡ d *ℤ m
-  → IsOnLine (d *ℤ p.x +ℤ n *ℤ (q.x -ℤ p.x)) (d *ℤ p.y +ℤ n *ℤ (q.y -ℤ p.y)) d a s
+    → IsOnLine (d *ℤ p.x +ℤ n *ℤ (q.x -ℤ p.x)) (d *ℤ p.y +ℤ n *ℤ (q.y -ℤ p.y)) d a s
 on_side_line n d m e p q a s reached divisor same =
     ap (λ (z : ℤ). s.x *ℤ z -ℤ s.y *ℤ ((d *ℤ p.x +ℤ n *ℤ (q.x -ℤ p.x)) -ℤ d *ℤ a.x)) (moved p.y a.y (n *ℤ (q.y -ℤ p.y)))
     ∙ ap (λ (z : ℤ). s.x *ℤ (d *ℤ (p.y -ℤ a.y) +ℤ n *ℤ (q.y -ℤ p.y)) -ℤ s.y *ℤ z) (moved p.x a.x (n *ℤ (q.x -ℤ p.x)))
@@ -166,8 +178,10 @@ on_side_line n d m e p q a s reached divisor same =
       where
         order : (x y z : ℤ) → (x +ℤ y) -ℤ z ≡ (x -ℤ z) +ℤ y
         order x y z = omega (arith, ints)
+
     mul-neg : (x y : ℤ) → x *ℤ neg_ℤ y ≡ neg_ℤ (x *ℤ y)
     mul-neg x y = *ℤ_comm x (neg_ℤ y) ∙ neg-mul y x ∙ ap neg_ℤ (*ℤ_comm y x)
+
     ready : (x y z : ℤ) → y ≡ neg_ℤ z → z ≡ x → x +ℤ y ≡ pos 0
     ready x y z e f = omega (arith, ints)
 
@@ -178,15 +192,16 @@ crossing_is_common side p q place e =
     let n = cross (from_to p side.from) s *ℤ pos 1 in
     let own = on_own_line place.n place.d p q in
     let there = on_side_line place.n place.d n (cross v s) p q side.from s (sym (reached-orient side p)) (swapped v s)
-      (subst (λ (hit : Frac). hit.n *ℤ cross v s ≡ hit.d *ℤ n) (sym f.is) (over-cross n (cross v s) (divides f.split))) in
+    (subst (λ (hit : Frac). hit.n *ℤ cross v s ≡ hit.d *ℤ n) (sym f.is) (over-cross n (cross v s) (divides f.split))) in
     record {
       on_line = own;
       on_other = there;
-      alone = alone _ _ place.d p v side.from s (divides f.split) own there
+      alone = alone _ _ place.d p v side.from s (divides f.split) own there;
     }
   where
     swapped : (v s : Vector) → cross s v ≡ neg_ℤ (cross v s)
     swapped v s = omega (arith, ints)
+
     divides : is_split side p (from_to p q) ≡ true → cross (from_to p q) (along side) ≡ pos 0 → ⊥
     divides split h =
         apart (cross (from_to p q) (from_to p side.to)) (cross (from_to p q) (from_to p side.from))

@@ -1,13 +1,12 @@
 -- Sums over the sides of an outline in either direction.
-use Rattle.std.proofs.Common.{◌≡◌, Bool, true, false, cond, arith, ap, ◌∙◌, sym, refl, List, [], ◌∷◌, ◌++◌, append_assoc}
-use Rattle.std.specs.Prelude.{ℤ, pos, ◌+ℤ◌, neg_ℤ, Option, None, Some, reverse, int_lt, not, ◌||◌}
+use Rattle.std.proofs.Common.{◌≡◌, Bool, true, false, cond, arith, ap, ◌∙◌, sym, refl, List, [], ◌∷◌, ◌++◌}
+use Rattle.std.specs.Prelude.{ℤ, pos, neg_ℤ, Option, None, Some, reverse, int_lt, not, ◌||◌}
 use Rattle.std.specs.Ordering.{int_eq, is_eq}
-use Rattle.std.specs.declared.cmp.Ordering.{Ordering}
 use Rattle.std.specs.declared.cmp.Ordering.TheVariants.{Less, Equal, Greater}
 use Rattle.std.proofs.lemmas.Int.{ints}
 use Rattle.std.specs.Option.{option_map}
 use Rattle.std.proofs.lemmas.List.{reverse-append, reverse-reverse}
-use Rattle.std.proofs.Math.IntN.{+ℤ_comm, +ℤ_assoc, neg_ℤ-+ℤ, +ℤ_idr}
+use Rattle.std.proofs.Math.IntN.{+ℤ_comm, neg_ℤ-+ℤ}
 use Rattle.scene_geom.specs.declared.plan.Pt.{Pt}
 use Rattle.scene_geom.specs.declared.plan.Side.{Side}
 use Rattle.scene_geom.specs.declared.fraction.Frac.{Frac}
@@ -53,7 +52,7 @@ over_line g points = total g (sides_along points)
 
 -- one more point at the end of a line adds one side
 over_line-push : (g : Side → Option ℤ) (xs : List Pt) (a b : Pt)
-  → over_line g ((xs ++ a ∷ []) ++ b ∷ []) ≡ add_turns (over_line g (xs ++ a ∷ [])) (g (record { from = a; to = b }))
+    → over_line g ((xs ++ a ∷ []) ++ b ∷ []) ≡ add_turns (over_line g (xs ++ a ∷ [])) (g (record { from = a; to = b }))
 over_line-push g [] a b = add_turns_comm (g (record { from = a; to = b })) (Some (pos 0))
 over_line-push g (x ∷ []) a b =
     ap (add_turns (g (record { from = x; to = a }))) (over_line-push g [] a b)
@@ -80,7 +79,7 @@ over_line-reverse g turns (a ∷ b ∷ rest) =
 
 -- the outline whose corners but the first are z and then w, in the other direction
 ring-reverse : (g : Side → Option ℤ) → ((s : Side) → g (turned s) ≡ flip (g s)) → (a z : Pt) (w rest : List Pt) → reverse rest ≡ z ∷ w
-  → total g (ring (reverse (a ∷ rest))) ≡ flip (total g (ring (a ∷ rest)))
+    → total g (ring (reverse (a ∷ rest))) ≡ flip (total g (ring (a ∷ rest)))
 ring-reverse g turns a z w rest e =
     ap (λ (xs : List Pt). total g (ring xs)) (reverse-cons a rest ∙ ap (λ (xs : List Pt). xs ++ a ∷ []) e)
     ∙ over_line-push g (z ∷ w) a z
@@ -91,8 +90,10 @@ ring-reverse g turns a z w rest e =
   where
     there : over_line g ((z ∷ w) ++ a ∷ []) ≡ flip (over_line g (a ∷ rest))
     there = ap (λ (xs : List Pt). over_line g (xs ++ a ∷ [])) (sym e) ∙ ap (over_line g) (sym (reverse-cons a rest)) ∙ over_line-reverse g turns (a ∷ rest)
+
     whole : rest ≡ reverse w ++ z ∷ []
     whole = sym (reverse-reverse rest) ∙ ap reverse e ∙ reverse-cons z w
+
     back : add_turns (over_line g (a ∷ rest)) (g (record { from = z; to = a })) ≡ total g (ring (a ∷ rest))
     back =
         ap (λ (xs : List Pt). add_turns (over_line g (a ∷ xs)) (g (record { from = z; to = a }))) whole
@@ -100,7 +101,7 @@ ring-reverse g turns a z w rest e =
         ∙ ap (λ (xs : List Pt). over_line g (a ∷ (xs ++ a ∷ []))) (sym whole)
 
 pub total-ring-reverse : (g : Side → Option ℤ) → ((s : Side) → g (turned s) ≡ flip (g s)) → (outline : List Pt)
-  → total g (ring (reverse outline)) ≡ flip (total g (ring outline))
+    → total g (ring (reverse outline)) ≡ flip (total g (ring outline))
 total-ring-reverse g turns [] = refl
 total-ring-reverse g turns (a ∷ []) =
     add_turns_zero (g (record { from = a; to = a })) ∙ turns (record { from = a; to = a }) ∙ ap flip (sym (add_turns_zero (g (record { from = a; to = a }))))
@@ -129,7 +130,7 @@ swept-total (s ∷ sides) = ap (add_turns (Some (cross (at s.from) (at s.to)))) 
 pub area_reversed : AreaReversed
 area_reversed outline =
     let e : Some (area2_of (reverse outline)) ≡ Some (neg_ℤ (area2_of outline)) =
-      sym (swept-total (ring (reverse outline))) ∙ total-ring-reverse share share-turned outline ∙ ap flip (swept-total (ring outline)) in
+    sym (swept-total (ring (reverse outline))) ∙ total-ring-reverse share share-turned outline ∙ ap flip (swept-total (ring outline)) in
     cc
 
 -- ---- what an outline meets
@@ -158,8 +159,8 @@ answer-clear true w = refl
 answer-clear false w = refl
 
 pub meets-reversed : (from : Pt) (dir : Dir) (end : Frac)
-  → ((s : Side) → clear_turn_of (passage_of (turned s) from dir) end ≡ flip (clear_turn_of (passage_of s from dir) end))
-  → (outline : List Pt) → meets_of (reverse outline) from dir end ≡ meets_of outline from dir end
+    → ((s : Side) → clear_turn_of (passage_of (turned s) from dir) end ≡ flip (clear_turn_of (passage_of s from dir) end))
+    → (outline : List Pt) → meets_of (reverse outline) from dir end ≡ meets_of outline from dir end
 meets-reversed from dir end turns outline =
     met (ring (reverse outline))
     ∙ ap answer (by_total (ring (reverse outline)) ∙ total-ring-reverse turn turns outline ∙ ap flip (sym (by_total (ring outline))))
@@ -168,8 +169,10 @@ meets-reversed from dir end turns outline =
   where
     turn : Side → Option ℤ
     turn s = clear_turn_of (passage_of s from dir) end
+
     by_total : (sides : List Side) → clear_winding_of sides from dir end ≡ total turn sides
     by_total [] = refl
     by_total (s ∷ sides) = ap (add_turns (turn s)) (by_total sides)
+
     met : (sides : List Side) → (some_inside (passages_of sides from dir) end || not (int_eq (winding_of (passages_of sides from dir)) (pos 0))) ≡ answer (clear_winding_of sides from dir end)
     met sides = answer-clear (some_inside (passages_of sides from dir) end) (winding_of (passages_of sides from dir)) ∙ ap answer (sym (clear_winding-is sides from dir end))

@@ -1,6 +1,6 @@
 -- A side with its ends exchanged hits where it hit, and leads to the other hand there.
-use Rattle.std.proofs.Common.{◌≡◌, zero, suc, Bool, true, false, arith, ap, subst, ◌∙◌, sym, refl}
-use Rattle.std.specs.Prelude.{ℤ, pos, negsuc, ◌-ℤ◌, ◌*ℤ◌, neg_ℤ, int_lt, Option, None, Some, if◌then◌else◌}
+use Rattle.std.proofs.Common.{◌≡◌, zero, suc, Bool, true, false, arith, ap, ◌∙◌, sym, refl}
+use Rattle.std.specs.Prelude.{ℤ, pos, negsuc, ◌*ℤ◌, neg_ℤ, None, Some, if◌then◌else◌}
 use Rattle.std.specs.Bool.{beq, then_some}
 use Rattle.std.specs.Option.{option_map}
 use Rattle.std.proofs.lemmas.Int.{ints}
@@ -9,7 +9,6 @@ use Rattle.scene_geom.specs.declared.plan.Pt.{Pt}
 use Rattle.scene_geom.specs.declared.plan.Side.{Side}
 use Rattle.scene_geom.specs.declared.fraction.Frac.{Frac}
 use Rattle.scene_geom.specs.declared.direction.Dir.{Dir}
-use Rattle.scene_geom.specs.declared.crossing.Passage.{Passage}
 use Rattle.scene_geom.specs.Vector.{Vector, cross}
 use Rattle.scene_geom.specs.Point.{from_to, along, turned}
 use Rattle.scene_geom.specs.Fraction.{over, is_ahead, is_inside}
@@ -46,7 +45,7 @@ beq-apart false true e = refl
 beq-apart false false e = sym e
 
 place-turned : (side : Side) (from : Pt) (dir : Dir) → differ (is_left from (way dir) side.from) (is_left from (way dir) side.to) ≡ true
-  → over (cross (from_to from side.to) (from_to side.to side.from) *ℤ dir.w) (cross (way dir) (from_to side.to side.from))
+    → over (cross (from_to from side.to) (from_to side.to side.from) *ℤ dir.w) (cross (way dir) (from_to side.to side.from))
     ≡ over (cross (from_to from side.from) (along side) *ℤ dir.w) (cross (way dir) (along side))
 place-turned side from dir split =
     ap (λ (n : ℤ). over (n *ℤ dir.w) (cross (way dir) (from_to side.to side.from))) (reached-turned side from)
@@ -62,19 +61,19 @@ place-turned side from dir split =
 
 -- the turn where a side leads to the left and where it leads to the right
 opposite_hands : (inside ahead : Bool)
-  → (if inside then None else Some (if ahead then pos 1 else pos 0)) ≡ flip (if inside then None else Some (if ahead then neg_ℤ (pos 1) else pos 0))
+    → (if inside then None else Some (if ahead then pos 1 else pos 0)) ≡ flip (if inside then None else Some (if ahead then neg_ℤ (pos 1) else pos 0))
 opposite_hands true ahead = refl
 opposite_hands false true = refl
 opposite_hands false false = refl
 
 other_hands : (inside ahead : Bool)
-  → (if inside then None else Some (if ahead then neg_ℤ (pos 1) else pos 0)) ≡ flip (if inside then None else Some (if ahead then pos 1 else pos 0))
+    → (if inside then None else Some (if ahead then neg_ℤ (pos 1) else pos 0)) ≡ flip (if inside then None else Some (if ahead then pos 1 else pos 0))
 other_hands true ahead = refl
 other_hands false true = refl
 other_hands false false = refl
 
 hands : (l r : Bool) (place place' : Frac) (end : Frac) → (differ l r ≡ true → place' ≡ place)
-  → clear_turn_of (option_map (λ (hit : Frac). record { place = hit; to_left = l }) (then_some (differ r l) place')) end
+    → clear_turn_of (option_map (λ (hit : Frac). record { place = hit; to_left = l }) (then_some (differ r l) place')) end
     ≡ flip (clear_turn_of (option_map (λ (hit : Frac). record { place = hit; to_left = r }) (then_some (differ l r) place)) end)
 hands true true place place' end same = refl
 hands false false place place' end same = refl
@@ -84,7 +83,7 @@ hands false true place place' end same =
     ap (λ (hit : Frac). clear_turn_of (Some (record { place = hit; to_left = false })) end) (same refl) ∙ other_hands (is_inside place end) (is_ahead place)
 
 clear_turn-turned : (from : Pt) (dir : Dir) (end : Frac) (side : Side)
-  → clear_turn_of (passage_of (turned side) from dir) end ≡ flip (clear_turn_of (passage_of side from dir) end)
+    → clear_turn_of (passage_of (turned side) from dir) end ≡ flip (clear_turn_of (passage_of side from dir) end)
 clear_turn-turned from dir end side =
     hands (is_left from (way dir) side.from) (is_left from (way dir) side.to)
     (over (cross (from_to from side.from) (along side) *ℤ dir.w) (cross (way dir) (along side)))

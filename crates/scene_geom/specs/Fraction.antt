@@ -1,5 +1,5 @@
 -- Fractions, kept as they were found and not reduced.
-use Rattle.std.specs.Prelude.{zero, suc, ℤ, pos, negsuc, neg_ℤ, ◌*ℤ◌, ◌≤◌, Bool, ◌&&◌, int_lt, unsigned_abs, Option}
+use Rattle.std.specs.Prelude.{◌<ℤ◌, zero, suc, ℤ, pos, negsuc, neg_ℤ, ◌*ℤ◌, ◌≤◌, Bool, ◌&&◌, int_lt, unsigned_abs, Option}
 use Rattle.std.specs.Bool.{then_some}
 use Rattle.scene_geom.specs.declared.fraction.Frac.{Frac}
 use Rattle.scene_geom.specs.Positive.{suc-positive}
@@ -33,3 +33,9 @@ pub record FitsPlace (place : Frac) : Type 0 where
 pub record FitsEnd (end : Frac) : Type 0 where
   pub above : unsigned_abs end.n ≤ 2970000000000
   pub below : unsigned_abs end.d ≤ 5940000000000
+
+-- a fraction strictly between 0 and 1, as a crossing's is, with the bound of a crossing's divisor
+pub record FitsCrossing (place : Frac) : Type 0 where
+  pub above_zero : pos 0 <ℤ place.n
+  pub below_one : place.n <ℤ place.d
+  pub below : unsigned_abs place.d ≤ 256000000000000

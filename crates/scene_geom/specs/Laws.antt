@@ -1,13 +1,12 @@
 -- What holds of the plan's predicates beyond their definitions.
-use Rattle.std.specs.Prelude.{◌≡◌, ℤ, pos, ◌+ℤ◌, ◌-ℤ◌, ◌*ℤ◌, neg_ℤ, ◌≢◌, Bool, true, false, IsTrue, Option, None, Some, List, reverse}
+use Rattle.std.specs.Prelude.{◌≡◌, ℤ, pos, ◌+ℤ◌, ◌-ℤ◌, ◌*ℤ◌, neg_ℤ, false, None, Some, List, reverse}
 use Rattle.scene_geom.specs.declared.plan.Pt.{Pt}
 use Rattle.scene_geom.specs.declared.plan.Side.{Side}
 use Rattle.scene_geom.specs.declared.fraction.Frac.{Frac}
 use Rattle.scene_geom.specs.declared.direction.Dir.{Dir}
 use Rattle.scene_geom.specs.Vector.{Vector, cross}
 use Rattle.scene_geom.specs.Point.{from_to, along, turned}
-use Rattle.scene_geom.specs.Direction.{way}
-use Rattle.scene_geom.specs.Crossing.{hits_of, crosses_of, blocks_of}
+use Rattle.scene_geom.specs.Crossing.{crosses_of, blocks_of}
 use Rattle.scene_geom.specs.Outline.{area2_of, meets_of}
 
 -- a side that doesn't cross the way between two points doesn't block it
@@ -40,7 +39,7 @@ pub record IsCommonPoint (x y d : ℤ) (from : Pt) (v : Vector) (other : Pt) (w 
 -- q and the side's line
 abbrev pub CrossingIsCommon : Type 0
 CrossingIsCommon = (side : Side) (p q : Pt) (place : Frac) → crosses_of side p q ≡ Some place
-  → IsCommonPoint
+    → IsCommonPoint
     (place.d *ℤ p.x +ℤ place.n *ℤ (q.x -ℤ p.x))
     (place.d *ℤ p.y +ℤ place.n *ℤ (q.y -ℤ p.y))
     place.d

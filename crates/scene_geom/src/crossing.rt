@@ -1,7 +1,7 @@
 ghost use Rattle.std.specs.Prelude.{◌≡◌, ◌≤◌, ◌*ℤ◌, unsigned_abs, IfSome};
 ghost use Rattle.scene_geom.specs.Crossing.{crosses_of, blocks_of, hits_of, passage_of, are_opposite};
 ghost use Rattle.scene_geom.specs.Direction.{FitsDirection};
-ghost use Rattle.scene_geom.specs.Fraction.{FitsPlace};
+ghost use Rattle.scene_geom.specs.Fraction.{FitsPlace, FitsCrossing};
 
 use super::aims::turn_from;
 use super::direction::Dir;
@@ -23,6 +23,7 @@ pub struct Passage {
 /// where it doesn't: one end of the side has to lie strictly left of the line, and the other not.
 pub fn crosses(side: Side, p: Pt, q: Pt) -> Option<Frac>
     ensures value { result ≡ crosses_of side p q }
+    ensures fits { IfSome result FitsCrossing }
 {
     let line = Step::between(p, q);
     let start = Step::between(p, side.from);
@@ -55,13 +56,14 @@ pub fn passes(side: Side, from: Pt, dir: Dir) -> Option<Passage>
     let start = Step::between(from, side.from);
     let before = turn_from(dir, start);
     let after = turn_from(dir, Step::between(from, side.to));
-    if (before > 0) == (after > 0) {
+    let to_left = after > 0;
+    if (before > 0) == to_left {
         return None;
     }
     let reached = start.cross(Step::between(side.from, side.to));
     Some(Passage {
         place: fraction(scaled(reached, dir), after - before),
-        to_left: after > 0,
+        to_left,
     })
 }
 

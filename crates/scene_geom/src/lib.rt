@@ -11,6 +11,8 @@ mod outline;
 mod places;
 mod plan;
 mod step;
+#[cfg(test)]
+mod tests;
 mod turns;
 
 pub use aims::dir_of;

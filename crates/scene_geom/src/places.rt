@@ -1,5 +1,5 @@
-ghost use Rattle.std.specs.Prelude.{◌≡◌, pos, ◌≢◌, ◌<◌, ◌^◌, unsigned_abs};
-ghost use Rattle.scene_geom.specs.Fraction.{over, inner, is_inside, FitsPlace, FitsEnd};
+ghost use Rattle.std.specs.Prelude.{◌≡◌, pos, ◌≢◌, ◌<◌, ◌≤◌, ◌^◌, unsigned_abs, IfSome};
+ghost use Rattle.scene_geom.specs.Fraction.{over, inner, is_inside, FitsPlace, FitsEnd, FitsCrossing};
 
 use super::fraction::Frac;
 
@@ -21,8 +21,9 @@ pub fn fraction(n: i128, d: i128) -> Frac
 pub fn inner_fraction(n: i128, d: i128) -> Option<Frac>
     requires divides { d ≢ pos 0 }
     requires n_turns { unsigned_abs n < 2 ^ 127 }
-    requires d_turns { unsigned_abs d < 2 ^ 127 }
-    ensures { result ≡ inner (over n d) }
+    requires d_within { unsigned_abs d ≤ 256000000000000 }
+    ensures value { result ≡ inner (over n d) }
+    ensures fits { IfSome result FitsCrossing }
 {
     if 0 < n && n < d || d < n && n < 0 {
         Some(fraction(n, d))

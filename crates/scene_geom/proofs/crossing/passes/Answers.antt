@@ -7,20 +7,20 @@ use Rattle.scene_geom.proofs.crossing.passes.Goals as goal
 use mir.Syntax.{w64, w128}
 use mir.Val.{to_z, of_z}
 
-pub returns-then-before-after-clause-value : goal.returns-then-before-after-clause-value
-returns-then-before-after-clause-value c =
+pub returns-then-before-to_left-clause-value : goal.returns-then-before-to_left-clause-value
+returns-then-before-to_left-clause-value c =
     let before = kept c.turn_from-before.result 33760000000000000000000000 c.turn_from-before.ensures.within (omega arith) in
     let after = kept c.turn_from-after.result 33760000000000000000000000 c.turn_from-after.ensures.within (omega arith) in
     let before_is = cross_eq _ _ _ _ _ c.turn_from-before.ensures.value refl c.between-start.ensures in
     let after_is = cross_eq _ _ _ _ _ c.turn_from-after.ensures.value refl c.between.ensures in
-    sym (passage-none c.args.side c.args.from c.args.dir _ _ (record { before_is = before_is; after_is = after_is }) (rw (before, after) at c.if-before-after.true))
+    sym (passage-none c.args.side c.args.from c.args.dir _ _ (record { before_is = before_is; after_is = after_is }) (rw (before, after) at c.if-before-to_left.true))
 
 pub fraction-requires-clause-divides : goal.fraction-requires-clause-divides
 fraction-requires-clause-divides c e =
     let before = kept c.turn_from-before.result 33760000000000000000000000 c.turn_from-before.ensures.within (omega arith) in
     let after = kept c.turn_from-after.result 33760000000000000000000000 c.turn_from-after.ensures.within (omega arith) in
     let d_is = difference_kept c.turn_from-after.result c.turn_from-before.result c.turn_from-after.ensures.within c.turn_from-before.ensures.within in
-    apart c.turn_from-after.result c.turn_from-before.result (rw (before, after) at c.if-before-after.false) (sym d_is ∙ e)
+    apart c.turn_from-after.result c.turn_from-before.result (rw (before, after) at c.if-before-to_left.false) (sym d_is ∙ e)
 
 pub overflow_sub-after : goal.overflow_sub-after
 overflow_sub-after c = difference_fits c.turn_from-after.result c.turn_from-before.result c.turn_from-after.ensures.within c.turn_from-before.ensures.within
@@ -49,7 +49,7 @@ returns-clause-value c =
     ap (λ (z : ℤ). Some (record { place = c.fraction.result; to_left = int_lt (pos 0) z })) after
     ∙ sym
     (passage-some c.args.side c.args.from c.args.dir _ _ _ c.fraction.result (record { before_is = before_is; after_is = after_is }) reached_is
-    (rw (before, after) at c.if-before-after.false) (c.fraction.ensures ∙ over_eq _ _ _ _ over_is under_is))
+    (rw (before, after) at c.if-before-to_left.false) (c.fraction.ensures ∙ over_eq _ _ _ _ over_is under_is))
 
 pub returns-clause-fits : goal.returns-clause-fits
 returns-clause-fits c =
