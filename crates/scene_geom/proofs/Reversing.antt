@@ -16,7 +16,8 @@ use Rattle.scene_geom.specs.Point.{at, turned}
 use Rattle.scene_geom.specs.Crossing.{passage_of}
 use Rattle.scene_geom.specs.Laws.{AreaReversed}
 use Rattle.scene_geom.proofs.Blocking.{neg-below, neg-above}
-use Rattle.scene_geom.specs.Outline.{sides_along, ring, add_turns, swept, area2_of, passages_of, winding_of, clear_turn_of, clear_winding_of, meets_of}
+use Rattle.scene_geom.specs.Outline.{sides_along, ring, swept, area2_of, passages_of, winding_of, meets_of}
+use Rattle.scene_geom.specs.ClearWinding.{add_turns, clear_turn_of, clear_winding_of}
 use Rattle.scene_geom.proofs.Windings.{add_turns-zero, add_turns-assoc, clear, some_inside, clear_winding-is}
 
 -- the other sign

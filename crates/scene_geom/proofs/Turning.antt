@@ -14,7 +14,7 @@ use Rattle.scene_geom.specs.Point.{from_to, along, turned}
 use Rattle.scene_geom.specs.Fraction.{over, is_ahead, is_inside}
 use Rattle.scene_geom.specs.Direction.{way}
 use Rattle.scene_geom.specs.Crossing.{differ, is_left, passage_of}
-use Rattle.scene_geom.specs.Outline.{clear_turn_of}
+use Rattle.scene_geom.specs.ClearWinding.{clear_turn_of}
 use Rattle.scene_geom.specs.Laws.{MeetsReversed}
 use Rattle.scene_geom.proofs.Whole.{mul_sub, sub_mul}
 use Rattle.scene_geom.proofs.Vectors.{cross-between}

@@ -15,7 +15,8 @@ use Rattle.scene_geom.specs.declared.direction.Dir.{Dir}
 use Rattle.scene_geom.specs.declared.crossing.Passage.{Passage}
 use Rattle.scene_geom.specs.Fraction.{is_inside}
 use Rattle.scene_geom.specs.Crossing.{passage_of}
-use Rattle.scene_geom.specs.Outline.{passages_of, turn_of, winding_of, clear_turn_of, add_turns, clear_winding_of}
+use Rattle.scene_geom.specs.Outline.{passages_of, turn_of, winding_of}
+use Rattle.scene_geom.specs.ClearWinding.{clear_turn_of, add_turns, clear_winding_of}
 
 -- whether some passage lies strictly between
 abbrev pub some_inside : List Passage → Frac → Bool

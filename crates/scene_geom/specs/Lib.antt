@@ -7,4 +7,5 @@ pub mod Fraction
 pub mod Direction
 pub mod Crossing
 pub mod Outline
+pub mod ClearWinding
 pub mod Laws

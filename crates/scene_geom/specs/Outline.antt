@@ -1,5 +1,5 @@
 -- Outlines: lists of corners, closed by the side from the last corner back to the first.
-use Rattle.std.specs.Prelude.{ℤ, pos, ◌+ℤ◌, ◌-ℤ◌, neg_ℤ, Option, None, Some, List, [], ◌∷◌, ◌++◌, map, Bool, ◌||◌, not, if◌then◌else◌}
+use Rattle.std.specs.Prelude.{ℤ, pos, ◌+ℤ◌, ◌-ℤ◌, neg_ℤ, List, [], ◌∷◌, ◌++◌, map, Bool, ◌||◌, not, if◌then◌else◌}
 use Rattle.std.specs.List.{fold, filter_map, list_any}
 use Rattle.std.specs.Int.{int_max, int_min}
 use Rattle.std.specs.Ordering.{int_eq}
@@ -61,21 +61,3 @@ spread (z ∷ zs) = fold int_max z zs -ℤ fold int_min z zs
 -- the dimension of some points across the line from p to q, times the length of that line
 abbrev pub extent_of : List Pt → Pt → Pt → ℤ
 extent_of points p q = spread (map (orient_of p q) points)
-
--- ---- the same, as it is found side by side
--- what a side adds to the winding, and none where it crosses strictly between the start and the end
-abbrev pub clear_turn_of : Option Passage → Frac → Option ℤ
-clear_turn_of None end = Some (pos 0)
-clear_turn_of (Some passage) end = if is_inside passage.place end then None else Some (turn_of passage)
-
--- the sum of two turns, where there are both
-abbrev pub add_turns : Option ℤ → Option ℤ → Option ℤ
-add_turns None w = None
-add_turns (Some t) None = None
-add_turns (Some t) (Some w) = Some (t +ℤ w)
-
--- the winding of sides of which none crosses strictly between
-abbrev pub clear_winding_of : List Side → Pt → Dir → Frac → Option ℤ
-clear_winding_of [] from dir end = Some (pos 0)
-clear_winding_of (side ∷ sides) from dir end =
-    add_turns (clear_turn_of (passage_of side from dir) end) (clear_winding_of sides from dir end)

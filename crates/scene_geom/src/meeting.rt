@@ -2,7 +2,8 @@ ghost use Rattle.std.specs.Prelude.{◌≡◌, ◌≤◌, unsigned_abs, IfSome};
 ghost use Rattle.scene_geom.specs.Crossing.{passage_of};
 ghost use Rattle.scene_geom.specs.Direction.{FitsDirection};
 ghost use Rattle.scene_geom.specs.Fraction.{FitsEnd};
-ghost use Rattle.scene_geom.specs.Outline.{ring, meets_of, clear_turn_of, clear_winding_of};
+ghost use Rattle.scene_geom.specs.Outline.{ring, meets_of};
+ghost use Rattle.scene_geom.specs.ClearWinding.{clear_turn_of, clear_winding_of};
 
 use super::crossing::passes;
 use super::direction::Dir;

@@ -1,7 +1,8 @@
 use Rattle.std.proofs.Common.{◌≡◌, arith, ap, ◌∙◌, sym}
 use Rattle.std.proofs.lemmas.Int.{ints}
 use Rattle.std.specs.Prelude.{◌+ℤ◌}
-use Rattle.scene_geom.specs.Outline.{ring, clear_winding_of}
+use Rattle.scene_geom.specs.Outline.{ring}
+use Rattle.scene_geom.specs.ClearWinding.{clear_winding_of}
 use Rattle.scene_geom.specs.declared.plan.Pt.{Pt}
 use Rattle.scene_geom.proofs.OutlineLemmas.{sides-step, sides-last}
 use Rattle.scene_geom.proofs.Windings.{add_turns-zero, winding-next, winding-last}

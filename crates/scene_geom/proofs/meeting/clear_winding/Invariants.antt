@@ -1,6 +1,7 @@
 use Rattle.std.proofs.Common.{◌≡◌, ◌≤◌, unsigned_abs, ◌∷◌, [], ◌++◌, drop}
 use Rattle.std.specs.Prelude.{Some}
-use Rattle.scene_geom.specs.Outline.{sides_along, ring, add_turns, clear_winding_of}
+use Rattle.scene_geom.specs.Outline.{sides_along, ring}
+use Rattle.scene_geom.specs.ClearWinding.{add_turns, clear_winding_of}
 use Rattle.scene_geom.proofs.meeting.clear_winding.Given as goal
 
 abbrev pub invariant-loop-next : goal.invariant-loop-next
