@@ -1,4 +1,5 @@
--- How a side meets a line of sight.
+-- How a side of an obstacle meets a line of sight, for screening (ISO 9613-2, 7.4), for the legs of
+-- reflections (7.5) and for zones of ground (7.3.1).
 use Rattle.std.specs.Prelude.{ℤ, pos, ◌*ℤ◌, Bool, true, false, not, ◌&&◌, ◌||◌, int_lt, Option}
 use Rattle.std.specs.Bool.{then_some}
 use Rattle.std.specs.Option.{option_map, option_and_then}

@@ -20,8 +20,9 @@ direct p q = dir_over (from_to p q) (pos 1)
 abbrev pub way : Dir → Vector
 way dir = record { x = dir.x; y = dir.y }
 
--- the bounds of a direction: the legs of the reflection in a wall of at most 262,143 mm have a
--- divisor of at most the square of that length, and components below 2.11 * 10^18
+-- the bounds of a direction. The legs of a path by way of a reflecting wall (ISO 9613-2, 7.5) of at
+-- most 262,143 mm have a divisor of at most the square of that length, and components below
+-- 2.11 * 10^18
 pub record FitsDirection (dir : Dir) : Type 0 where
   pub x_within : unsigned_abs dir.x ≤ 2110000000000000000
   pub y_within : unsigned_abs dir.y ≤ 2110000000000000000

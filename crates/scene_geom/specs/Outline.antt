@@ -46,8 +46,8 @@ abbrev pub winding_of : List Passage → ℤ
 winding_of [] = pos 0
 winding_of (passage ∷ passages) = turn_of passage +ℤ winding_of passages
 
--- whether an outline meets the way from a point along a direction up to an end: some side crosses
--- strictly between, or the outline winds round the start
+-- whether an outline, as a zone of ground (ISO 9613-2, 7.3.1), meets the way from a point along a
+-- direction up to an end: some side crosses strictly between, or the outline winds round the start
 abbrev pub meets_of : List Pt → Pt → Dir → Frac → Bool
 meets_of outline from dir end =
     list_any (λ passage. is_inside passage.place end) (passages_of (ring outline) from dir)
@@ -58,6 +58,7 @@ abbrev pub spread : List ℤ → ℤ
 spread [] = pos 0
 spread (z ∷ zs) = fold int_max z zs -ℤ fold int_min z zs
 
--- the dimension of some points across the line from p to q, times the length of that line
+-- the dimension of an object normal to the line from source to receiver (ISO 9613-2, 7.4), times the
+-- length of that line: the extent of its points across the line from p to q
 abbrev pub extent_of : List Pt → Pt → Pt → ℤ
 extent_of points p q = spread (map (orient_of p q) points)

@@ -1,4 +1,6 @@
-//! Exact plan geometry over whole millimetres.
+//! Exact plan geometry over whole millimetres: the predicates by which ISO 9613-2's paths are found.
+//! Each is exactly its definition in `specs/`, without rounding, within 64 bits and, along the legs of
+//! reflections, within 128. No call takes memory.
 #![tactic(auto)]
 
 mod aims;

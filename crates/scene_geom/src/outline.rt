@@ -33,7 +33,7 @@ fn swept(a: Pt, b: Pt) -> i64
 }
 
 /// The greatest less the least of `orient(p, q, c)` over some points `c`, in mm²: their dimension
-/// across the line from `p` to `q`, times that line's length. 0 for no points.
+/// normal to the line from `p` to `q` (ISO 9613-2, 7.4), times that line's length. 0 for no points.
 pub fn extent(points: &[Pt], p: Pt, q: Pt) -> i128
     ensures value { result ≡ extent_of points.now p q }
     ensures within { unsigned_abs result ≤ 256000000000000 }

@@ -1,7 +1,7 @@
 ghost use Rattle.scene_geom.specs.Plan.{InPlan};
 
 /// A point of the plan, in mm: both coordinates lie between -4,000,000 and 4,000,000, these ends
-/// included.
+/// included. Points are ordered by `x` and then by `y`.
 #[derive(Clone, Copy, Debug, PartialEq, Eq, PartialOrd, Ord, Hash)]
 pub struct Pt {
     pub x: i32,
