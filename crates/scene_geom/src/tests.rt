@@ -1,7 +1,5 @@
 //! Values from outside, calculated by an independent program over fractions without rounding.
 
-ghost use Rattle.std.specs.Prelude.{◌≡◌};
-
 use super::{
     Dir, Frac, Pt, Side, area2, blocks, crosses, dir_of, extent, hits, lies_inside, meets, orient,
     passes,
