@@ -6,3 +6,4 @@ pub mod Powers
 pub mod Quotients
 pub mod Turns
 pub mod Value
+pub mod LgSpans

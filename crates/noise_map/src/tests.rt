@@ -3,6 +3,7 @@ use crate::run::run;
 use crate::status::{Fault, Report, Status};
 use map_io::{FreeSink, FreeSource, MemSink, MemSource, OpenGate};
 use std::alloc::Global;
+use std::process::Abort;
 use std::test::Fail;
 
 const FAN: &str =
@@ -29,99 +30,87 @@ fn written(
     Ok((report, sink.bytes().to_vec(alloc)?))
 }
 
-fn lines(alloc: Global, lines: &[&str]) -> Result<String, Fail> {
-    let mut text = String::new(alloc);
-    for line in lines {
-        text.push_str(line)?;
-        text.push('\n')?;
-    }
-    Ok(text)
+// A run over this input ends so, and has written these rows.
+fn writes(
+    rt: &impl Abort,
+    alloc: Global,
+    input: &[u8],
+    rows: &[u8],
+    status: Status,
+) -> Result<(), Fail> {
+    let (report, taken) = written(alloc, input, 0, 0)?;
+    assert_eq!(rt; report.status, status);
+    assert_eq!(rt; taken.as_slice(), rows);
+    Ok(())
 }
 
 #[test]
 fn runs_write_these_rows(rt: HostRuntime) -> Result<(), Fail> {
-    let alloc = rt.alloc();
-    let above = r#"{"do":"receiver","name":"r","x":0,"y":0,"h":2000}"#;
-    let nearer = r#"{"do":"receiver","name":"r","x":50000,"y":0,"h":2000}"#;
-    let dark =
-        r#"{"do":"source","name":"s","kind":"industry","x":0,"y":0,"h":2000,"lw":[null,null,null,null,null,null,null,null]}"#;
-    let low_band =
-        r#"{"do":"source","name":"s","kind":"industry","x":0,"y":0,"h":2000,"lw":[1,null,null,null,10000,null,null,null]}"#;
-    let loud =
-        r#"{"do":"source","name":"s","kind":"rail","x":0,"y":0,"h":2000,"lw":[null,null,null,null,16000,null,null,null],"dc":2000}"#;
-    let west =
-        r#"{"do":"source","name":"s","kind":"other","x":-2000000,"y":0,"h":2000,"lw":[null,null,null,null,10000,null,null,null]}"#;
-    let at_reach = r#"{"do":"receiver","name":"r","x":2000000,"y":0,"h":2000}"#;
-    let past_reach = r#"{"do":"receiver","name":"far","x":2000001,"y":0,"h":2000}"#;
-    let second =
-        r#"{"do":"source","name":"t","kind":"industry","x":0,"y":0,"h":2000,"lw":[null,null,null,null,10000,null,null,null]}"#;
-    let named_as_source = r#"{"do":"receiver","name":"s","x":0,"y":0,"h":2000}"#;
-    let aircraft =
-        r#"{"do":"source","name":"s","kind":"aircraft","x":0,"y":0,"h":2000,"lw":[null,null,null,null,10000,null,null,null]}"#;
-    let table: [(&[&str], &str, Status); 13] = [
-        (&[], "", Status::Done),
-        (&[FAN, HOUSE, SETTLE], SETTLED, Status::Done),
+    let table = [
+        ("", "", Status::Done),
         (
-            &[FAN, above, SETTLE],
+            "{\"do\":\"source\",\"name\":\"s\",\"kind\":\"industry\",\"x\":0,\"y\":0,\"h\":2000,\"lw\":[null,null,null,null,10000,null,null,null]}\n{\"do\":\"receiver\",\"name\":\"r\",\"x\":100000,\"y\":0,\"h\":2000}\n{\"do\":\"settle\"}\n",
+            "settle,2,1,,,,\nrow,2,r,current,,49.00,49.00\n",
+            Status::Done,
+        ),
+        (
+            "{\"do\":\"source\",\"name\":\"s\",\"kind\":\"industry\",\"x\":0,\"y\":0,\"h\":2000,\"lw\":[null,null,null,null,10000,null,null,null]}\n{\"do\":\"receiver\",\"name\":\"r\",\"x\":0,\"y\":0,\"h\":2000}\n{\"do\":\"settle\"}\n",
             "settle,2,1,,,,\nrow,2,r,current,,89.00,89.00\n",
             Status::Done,
         ),
         (
-            &[FAN, nearer, SETTLE],
+            "{\"do\":\"source\",\"name\":\"s\",\"kind\":\"industry\",\"x\":0,\"y\":0,\"h\":2000,\"lw\":[null,null,null,null,10000,null,null,null]}\n{\"do\":\"receiver\",\"name\":\"r\",\"x\":50000,\"y\":0,\"h\":2000}\n{\"do\":\"settle\"}\n",
             "settle,2,1,,,,\nrow,2,r,current,,55.02,55.03\n",
             Status::Done,
         ),
         (
-            &[dark, HOUSE, SETTLE],
+            "{\"do\":\"source\",\"name\":\"s\",\"kind\":\"industry\",\"x\":0,\"y\":0,\"h\":2000,\"lw\":[null,null,null,null,null,null,null,null]}\n{\"do\":\"receiver\",\"name\":\"r\",\"x\":100000,\"y\":0,\"h\":2000}\n{\"do\":\"settle\"}\n",
             "settle,2,1,,,,\nrow,2,r,current,,0.00,0.00\n",
             Status::Done,
         ),
         (
-            &[loud, above, SETTLE],
+            "{\"do\":\"source\",\"name\":\"s\",\"kind\":\"industry\",\"x\":0,\"y\":0,\"h\":2000,\"lw\":[null,null,null,null,16000,null,null,null],\"dc\":2000}\n{\"do\":\"receiver\",\"name\":\"r\",\"x\":0,\"y\":0,\"h\":2000}\n{\"do\":\"settle\"}\n",
             "settle,2,1,,,,\nrow,2,r,current,,169.00,169.00\n",
             Status::Done,
         ),
         (
-            &[west, at_reach, past_reach, SETTLE],
+            "{\"do\":\"source\",\"name\":\"s\",\"kind\":\"industry\",\"x\":-2000000,\"y\":0,\"h\":2000,\"lw\":[null,null,null,null,10000,null,null,null]}\n{\"do\":\"receiver\",\"name\":\"r\",\"x\":2000000,\"y\":0,\"h\":2000}\n{\"do\":\"receiver\",\"name\":\"far\",\"x\":2000001,\"y\":0,\"h\":2000}\n{\"do\":\"settle\"}\n",
             "settle,3,2,,,,\nrow,3,r,current,,16.95,16.96\nrow,3,far,current,,0.00,0.00\n",
             Status::Done,
         ),
         (
-            &["", " ", "\t", "\r", " \t\r ", SETTLE],
+            "\n \n \r \n{\"do\":\"settle\"}\n",
             "settle,0,0,,,,\n",
             Status::Done,
         ),
         (
-            &[r#"{"do":"look"}"#],
+            "{\"do\":\"look\"}\n",
             "refused,0,1,NotBuilt,,,\n",
             Status::SomeRefused,
         ),
         (
-            &[low_band],
+            "{\"do\":\"source\",\"name\":\"s\",\"kind\":\"industry\",\"x\":0,\"y\":0,\"h\":2000,\"lw\":[1,null,null,null,10000,null,null,null]}\n",
             "refused,0,1,NotBuilt,,,\n",
             Status::SomeRefused,
         ),
         (
-            &[aircraft],
+            "{\"do\":\"source\",\"name\":\"s\",\"kind\":\"aircraft\",\"x\":0,\"y\":0,\"h\":2000,\"lw\":[null,null,null,null,10000,null,null,null]}\n",
             "refused,0,1,NotBuilt,,,\n",
             Status::SomeRefused,
         ),
         (
-            &[FAN, FAN, second, HOUSE, HOUSE, named_as_source, SETTLE],
+            "{\"do\":\"source\",\"name\":\"s\",\"kind\":\"industry\",\"x\":0,\"y\":0,\"h\":2000,\"lw\":[null,null,null,null,10000,null,null,null]}\n{\"do\":\"source\",\"name\":\"s\",\"kind\":\"industry\",\"x\":0,\"y\":0,\"h\":2000,\"lw\":[null,null,null,null,10000,null,null,null]}\n{\"do\":\"source\",\"name\":\"t\",\"kind\":\"industry\",\"x\":0,\"y\":0,\"h\":2000,\"lw\":[null,null,null,null,10000,null,null,null]}\n{\"do\":\"receiver\",\"name\":\"r\",\"x\":100000,\"y\":0,\"h\":2000}\n{\"do\":\"receiver\",\"name\":\"r\",\"x\":100000,\"y\":0,\"h\":2000}\n{\"do\":\"receiver\",\"name\":\"s\",\"x\":100000,\"y\":0,\"h\":2000}\n{\"do\":\"settle\"}\n",
             "refused,1,2,NotBuilt,,,\nrefused,1,3,NotBuilt,,,\nrefused,2,5,NotBuilt,,,\nrefused,2,6,NotBuilt,,,\nsettle,2,1,,,,\nrow,2,r,current,,49.00,49.00\n",
             Status::SomeRefused,
         ),
         (
-            &["[1]", "{", "{}", r#"{"do":7}"#, SETTLE],
+            "[1]\n{\n{}\n{\"do\":7}\n{\"do\":\"settle\"}\n",
             "refused,0,1,NotBuilt,,,\nrefused,0,2,NotBuilt,,,\nrefused,0,3,NotBuilt,,,\nrefused,0,4,NotBuilt,,,\nsettle,0,0,,,,\n",
             Status::SomeRefused,
         ),
     ];
     for (input, rows, status) in table {
-        let input = lines(alloc, input)?;
-        let (report, taken) = written(alloc, input.as_bytes(), 0, 0)?;
-        assert_eq!(rt; report.status, status, "{input}");
-        assert_eq!(rt; taken.as_slice(), rows.as_bytes(), "{input}");
+        writes(&rt, rt.alloc(), input.as_bytes(), rows.as_bytes(), status)?;
     }
     Ok(())
 }
@@ -181,7 +170,7 @@ fn long_lines_and_deep_nests_are_refused(rt: HostRuntime) -> Result<(), Fail> {
 #[test]
 fn faults_break_a_run_off(rt: HostRuntime) -> Result<(), Fail> {
     let alloc = rt.alloc();
-    let input = lines(alloc, &[FAN, HOUSE, SETTLE])?;
+    let input = format!(in alloc; "{FAN}\n{HOUSE}\n{SETTLE}\n")?;
     let (report, taken) = written(alloc, input.as_bytes(), 3, 0)?;
     assert_eq!(rt; (report.status, report.lines), (Status::ReadFault, 0));
     assert!(rt; taken.is_empty());
