@@ -84,8 +84,8 @@ unfolding div_of
 tenth-ends i l h lo_is hi_is ordered small fits =
     let by : (ratio_of (pos 10) 1) ≡ record { lo = Some ten_units; hi = Some ten_units } = ratio_of-one (pos 10) (lit< tt) ∙ ap (λ (z : ℤ). record { lo = Some z; hi = Some z }) (units-is 10) in
     ap (λ (j : Interval). j.hi)
-        (on_ends-bounded quotient_of_ends i (ratio_of (pos 10) 1) l h ten_units ten_units (lo_is, hi_is) (ap (λ (j : Interval). j.lo) by, ap (λ (j : Interval). j.hi) by)
-            ∙ quotient_of_ends-positive l h ten_units ten_units (omega (arith, ints)) (omega (arith, ints)) ordered small fits)
+    (on_ends-bounded quotient_of_ends i (ratio_of (pos 10) 1) l h ten_units ten_units (lo_is, hi_is) (ap (λ (j : Interval). j.lo) by, ap (λ (j : Interval). j.hi) by)
+    ∙ quotient_of_ends-positive l h ten_units ten_units (omega (arith, ints)) (omega (arith, ints)) ordered small fits)
 
 tenth-below : (h : ℤ) → h ≤ℤ pos (199 * 2 ^ 32) → ceil_quotient (h *ℤ pos unit) ten_units <ℤ pos (20 * 2 ^ 32)
 tenth-below h below =

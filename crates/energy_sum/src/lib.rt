@@ -3,8 +3,6 @@
 
 mod sum;
 
-pub use sum::Sum;
-
 ghost use Rattle.std.specs.Prelude.{◌≡◌, ◌*◌, ◌^◌, pos, neg_ℤ, ◌≤ℤ◌, IsSomeAnd};
 ghost use Rattle.fix_interval.specs.Bounds.{IsBetween, AreBetween};
 ghost use Rattle.fix_interval.specs.Interval.{IsInterval};
@@ -14,6 +12,7 @@ ghost use Rattle.energy_sum.specs.Energies.{energy_form, level_form};
 use enclose_exp::ten;
 use enclose_log::lg;
 use fix_interval::{Iv, div, exact, max, mul};
+pub use sum::Sum;
 
 /// The energy of a level in dB, as a ratio: 10 to the power of a tenth of it (ISO 9613-2, equation 5). It isn't below 0.
 /// Where the level is from -2^29 dB to 199 dB, the energy is below 7 · 10^29 units of 2^-32.
@@ -48,3 +47,6 @@ fn one_at_least(sum: &Sum) -> Iv
     let _ = energy.low();
     energy
 }
+
+#[cfg(test)]
+mod tests;

@@ -57,10 +57,11 @@ unfolding unit
 quotient-limit = omega (arith, ints)
 
 quotient-low : (x : ℤ) → Within (pos (2 ^ 72)) x → Within (pos (2 ^ 60)) (floor_of (x *ℤ pos unit) (10000 * 2 ^ 32))
-quotient-low x w =
-    (let m = floor_of-mono (pos 0) (x *ℤ pos unit) (10000 * 2 ^ 32) (lit< tt) (units-not_negative x w.0) in rw quotient-zero at m,
-     ≤ℤ_trans (floor_of (x *ℤ pos unit) (10000 * 2 ^ 32)) (floor_of (pos (2 ^ 72) *ℤ pos unit) (10000 * 2 ^ 32)) (pos (2 ^ 60))
-         (floor_of-mono (x *ℤ pos unit) (pos (2 ^ 72) *ℤ pos unit) (10000 * 2 ^ 32) (lit< tt) (units-mono x (pos (2 ^ 72)) w.1)) quotient-limit)
+quotient-low x w = (
+  let m = floor_of-mono (pos 0) (x *ℤ pos unit) (10000 * 2 ^ 32) (lit< tt) (units-not_negative x w.0) in rw quotient-zero at m,
+  ≤ℤ_trans (floor_of (x *ℤ pos unit) (10000 * 2 ^ 32)) (floor_of (pos (2 ^ 72) *ℤ pos unit) (10000 * 2 ^ 32)) (pos (2 ^ 60))
+      (floor_of-mono (x *ℤ pos unit) (pos (2 ^ 72) *ℤ pos unit) (10000 * 2 ^ 32) (lit< tt) (units-mono x (pos (2 ^ 72)) w.1)) quotient-limit,
+)
 
 ceiling-zero : ceil_of (pos 0) (10000 * 2 ^ 32) ≡ pos 0
 ceiling-zero = refl
@@ -70,10 +71,11 @@ unfolding unit
 ceiling-limit = omega (arith, ints)
 
 quotient-high : (x : ℤ) → Within (pos (2 ^ 72)) x → Within (pos (2 ^ 60)) (ceil_of (x *ℤ pos unit) (10000 * 2 ^ 32))
-quotient-high x w =
-    (let m = ceil_of-mono (pos 0) (x *ℤ pos unit) (10000 * 2 ^ 32) (lit< tt) (units-not_negative x w.0) in rw ceiling-zero at m,
-     ≤ℤ_trans (ceil_of (x *ℤ pos unit) (10000 * 2 ^ 32)) (ceil_of (pos (2 ^ 72) *ℤ pos unit) (10000 * 2 ^ 32)) (pos (2 ^ 60))
-         (ceil_of-mono (x *ℤ pos unit) (pos (2 ^ 72) *ℤ pos unit) (10000 * 2 ^ 32) (lit< tt) (units-mono x (pos (2 ^ 72)) w.1)) ceiling-limit)
+quotient-high x w = (
+  let m = ceil_of-mono (pos 0) (x *ℤ pos unit) (10000 * 2 ^ 32) (lit< tt) (units-not_negative x w.0) in rw ceiling-zero at m,
+  ≤ℤ_trans (ceil_of (x *ℤ pos unit) (10000 * 2 ^ 32)) (ceil_of (pos (2 ^ 72) *ℤ pos unit) (10000 * 2 ^ 32)) (pos (2 ^ 60))
+      (ceil_of-mono (x *ℤ pos unit) (pos (2 ^ 72) *ℤ pos unit) (10000 * 2 ^ 32) (lit< tt) (units-mono x (pos (2 ^ 72)) w.1)) ceiling-limit,
+)
 
 below_94 : (x : ℤ) → Within (pos (2 ^ 72)) x → unsigned_abs x < 2 ^ 94
 below_94 (pos n) w = omega (arith, ints, w.1)
@@ -84,14 +86,15 @@ ten_thousand = pos (10000 * 2 ^ 32)
 
 quotient-ends : (p : Interval) → (span : Span (pos (2 ^ 72)) p) → div_of p (ratio_of (pos 10000) 1) ≡ record {
   lo = Some (int_min (floor_quotient (span.lo *ℤ pos unit) ten_thousand) (floor_quotient (span.lo *ℤ pos unit) ten_thousand));
-  hi = Some (int_max (ceil_quotient (span.hi *ℤ pos unit) ten_thousand) (ceil_quotient (span.hi *ℤ pos unit) ten_thousand)) }
+  hi = Some (int_max (ceil_quotient (span.hi *ℤ pos unit) ten_thousand) (ceil_quotient (span.hi *ℤ pos unit) ten_thousand));
+}
 unfolding div_of
 quotient-ends p span =
     let low : Within (pos (2 ^ 72)) span.lo = (span.not_negative, ≤ℤ_trans span.lo span.hi (pos (2 ^ 72)) span.ordered span.below) in
     let high : Within (pos (2 ^ 72)) span.hi = (≤ℤ_trans (pos 0) span.lo span.hi span.not_negative span.ordered, span.below) in
     let by : (ratio_of (pos 10000) 1) ≡ record { lo = Some ten_thousand; hi = Some ten_thousand } = ratio_of-one (pos 10000) (lit< tt) ∙ ap (λ (z : ℤ). record { lo = Some z; hi = Some z }) (units-is 10000) in
     on_ends-bounded quotient_of_ends p (ratio_of (pos 10000) 1) span.lo span.hi ten_thousand ten_thousand (span.lo_is, span.hi_is) (ap (λ (i : Interval). i.lo) by, ap (λ (i : Interval). i.hi) by)
-        ∙ quotient_of_ends-positive span.lo span.hi ten_thousand ten_thousand (omega (arith, ints)) (omega (arith, ints)) span.ordered (below_94 span.lo low) (below_94 span.hi high)
+    ∙ quotient_of_ends-positive span.lo span.hi ten_thousand ten_thousand (omega (arith, ints)) (omega (arith, ints)) span.ordered (below_94 span.lo low) (below_94 span.hi high)
 
 div-within : (p : Interval) → Span (pos (2 ^ 72)) p → AreBetween (pos 0) (pos (2 ^ 60)) (div_of p (ratio_of (pos 10000) 1))
 div-within p span =
@@ -119,4 +122,3 @@ bounded-high d m limit is high from =
     let h = at_least_one-high d limit high from in
     let e : m.hi ≡ Some h.0 = ap (λ (i : Interval). i.hi) is ∙ h.1 in
     rw e h.2
-

@@ -47,3 +47,6 @@ fn whole(n: u32) -> Iv
 {
     exact(n.into())
 }
+
+#[cfg(test)]
+mod tests;
