@@ -136,3 +136,15 @@ high_value-end (Some n) = high_value-counted n
 pub min-made : (z : ℤ) (m : ℤ) → pos 0 ≤ℤ z → m ≡ int_min z (pos (23 * 2 ^ 32)) → (unsigned_abs m ≡ min (unsigned_abs z) (23 * 2 ^ 32)) × (pos 0 ≤ℤ m)
 min-made (pos n) m low made = (ap unsigned_abs (let e : m ≡ pos (min n (23 * 2 ^ 32)) = omega (arith, ints, clamps) in e), omega (arith, ints, clamps))
 min-made (negsuc n) m low made = absurd (omega (arith, ints, low))
+
+pub kept-is : (z m f : ℤ) → SFits w128 z → f ≡ pos (23 * 2 ^ 32) → m ≡ int_min (to_z w128 (of_z w128 z)) (to_z w128 (of_z w128 f)) → m ≡ int_min z (pos (23 * 2 ^ 32))
+kept-is z m f fits e made =
+  made ∙ ap (λ y. int_min y (to_z w128 (of_z w128 f))) (to_z-of_z w128 z fits) ∙ ap (λ y. int_min z (to_z w128 (of_z w128 y))) e
+
+pub cast-kept : (m : ℤ) → SFits w128 m → pos 0 ≤ℤ m → m ≤ℤ pos (23 * 2 ^ 32) →
+  T (non_neg (to_z w128 (of_z w128 m))) × Fits w64 (unsigned_abs (to_z w128 (of_z w128 m)))
+cast-kept m fits low high = rw (to_z-of_z w128 m fits) (whole m low high)
+  where
+  whole : (z : ℤ) → pos 0 ≤ℤ z → z ≤ℤ pos (23 * 2 ^ 32) → T (non_neg z) × Fits w64 (unsigned_abs z)
+  whole (pos n) low high = (tt, record { fits = omega (arith, ints, high) })
+  whole (negsuc n) low high = absurd (omega (arith, ints, low))
