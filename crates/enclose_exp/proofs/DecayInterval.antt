@@ -83,6 +83,6 @@ low-kept None = exp_neg_low-past (23 * 2 ^ 32) (omega arith)
 low-kept (Some z) = exp_neg_low-kept (unsigned_abs z)
 
 pub high-kept : (lo : Option ℤ) → IsNotNegative lo →
-  Some (pos (exp_neg_high (option_map_or (λ z. min (unsigned_abs z) (23 * 2 ^ 32)) lo (23 * 2 ^ 32)))) ≡ option_map (λ z. pos (exp_neg_high (unsigned_abs z))) lo
+    Some (pos (exp_neg_high (option_map_or (λ z. min (unsigned_abs z) (23 * 2 ^ 32)) lo (23 * 2 ^ 32)))) ≡ option_map (λ z. pos (exp_neg_high (unsigned_abs z))) lo
 high-kept None start = absurd start
 high-kept (Some z) start = ap (λ n. Some (pos n)) (exp_neg_high-kept (unsigned_abs z))

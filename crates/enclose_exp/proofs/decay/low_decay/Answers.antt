@@ -7,9 +7,9 @@ use Rattle.enclose_exp.proofs.decay.low_decay.Goals as goal
 
 pub returns-then-exponent-lt-GREATEST : goal.returns-then-exponent-lt-GREATEST
 returns-then-exponent-lt-GREATEST c =
-  let value = ap (λ p. p / 2 ^ 28) c.requires ∙ sym (exp_neg_low-within c.args.exponent c.if-exponent-lt-GREATEST.true) in
-  let fits : SFits w128 c.from.result = search rules in
-  ap Some (to_z-of_z w128 c.from.result fits ∙ c.from.ensures ∙ ap pos value)
+    let value = ap (λ p. p / 2 ^ 28) c.requires ∙ sym (exp_neg_low-within c.args.exponent c.if-exponent-lt-GREATEST.true) in
+    let fits : SFits w128 c.from.result = search rules in
+    ap Some (to_z-of_z w128 c.from.result fits ∙ c.from.ensures ∙ ap pos value)
 
 pub returns-else-exponent-lt-GREATEST : goal.returns-else-exponent-lt-GREATEST
 returns-else-exponent-lt-GREATEST c = ap (λ n. Some (pos n)) (sym (exp_neg_low-past c.args.exponent c.if-exponent-lt-GREATEST.false))
