@@ -1,5 +1,5 @@
 -- e to the power of the negative of an interval.
-use Rattle.std.specs.Prelude.{ℕ, zero, suc, ◌*◌, ◌/◌, ◌%◌, ◌^◌, nat_le, if◌then◌else◌, ℤ, pos, unsigned_abs, Option, Some}
+use Rattle.std.specs.Prelude.{ℕ, zero, suc, ◌*◌, ◌/◌, ◌%◌, ◌^◌, nat_le, if◌then◌else◌, pos, unsigned_abs, Some}
 use Rattle.std.specs.Int.{div_ceil}
 use Rattle.std.specs.Option.{option_map, option_map_or}
 use Rattle.fix_interval.specs.Units.{unit}
