@@ -1,5 +1,5 @@
 -- The decay of a whole interval, from those of its ends.
-use Rattle.std.proofs.Common.{◌≡◌, ◌^◌, ◌≤◌, ◌⊎◌, inl, inr, true, refl, sym, arith, ℤ, pos, negsuc, ◌≤ℤ◌, unsigned_abs, Option, Some, None, IsSomeAnd}
+use Rattle.std.proofs.Common.{◌≡◌, ◌^◌, ◌≤◌, ◌⊎◌, inl, inr, true, refl, sym, arith, ℤ, pos, negsuc, ◌≤ℤ◌, unsigned_abs, Option, Some, None, IsSomeAnd, min, ◌*◌, ap}
 use Rattle.std.proofs.lemmas.Int.{ints}
 use Rattle.std.specs.Option.{option_map, option_map_or}
 use Rattle.std.specs.Prelude.{int_le}
@@ -7,7 +7,7 @@ use Rattle.fix_interval.specs.Interval.{Interval, IsInterval}
 use Rattle.fix_interval.specs.Powers.{IsAtMostDecay, IsAtLeastDecay}
 use Rattle.fix_interval.specs.Rules.{HoldsDecay}
 use Rattle.fix_interval.specs.ExpNeg.{exp_neg_low, exp_neg_high, exp_neg_of}
-use Rattle.enclose_exp.proofs.DecayLaw.{low_end-law, high_end-law, ends-ordered, exp_neg_high-le}
+use Rattle.enclose_exp.proofs.DecayLaw.{low_end-law, high_end-law, ends-ordered, exp_neg_high-le, exp_neg_low-past, exp_neg_low-kept, exp_neg_high-kept}
 
 abbrev pub IsNotNegative : Option ℤ → Type 0
 IsNotNegative end = IsSomeAnd end (λ x. pos 0 ≤ℤ x)
@@ -76,3 +76,13 @@ exp_neg_of-low i start = rw (exp_neg_of-ends i.lo i.hi start) (omega (arith, int
 pub made-is : (i : Interval) (low high : Option ℤ) → IsNotNegative i.lo → low ≡ Some (pos (option_map_or (λ z. exp_neg_low (unsigned_abs z)) i.hi 0)) →
     high ≡ option_map (λ z. pos (exp_neg_high (unsigned_abs z))) i.lo → record { lo = low; hi = high } ≡ exp_neg_of i
 made-is i low high start below above = rw (below, above) (sym (exp_neg_of-ends i.lo i.hi start))
+
+-- the same by exponents that are kept within 23
+pub low-kept : (hi : Option ℤ) → exp_neg_low (option_map_or (λ z. min (unsigned_abs z) (23 * 2 ^ 32)) hi (23 * 2 ^ 32)) ≡ option_map_or (λ z. exp_neg_low (unsigned_abs z)) hi 0
+low-kept None = exp_neg_low-past (23 * 2 ^ 32) (omega arith)
+low-kept (Some z) = exp_neg_low-kept (unsigned_abs z)
+
+pub high-kept : (lo : Option ℤ) → IsNotNegative lo →
+    Some (pos (exp_neg_high (option_map_or (λ z. min (unsigned_abs z) (23 * 2 ^ 32)) lo (23 * 2 ^ 32)))) ≡ option_map (λ z. pos (exp_neg_high (unsigned_abs z))) lo
+high-kept None start = absurd start
+high-kept (Some z) start = ap (λ n. Some (pos n)) (exp_neg_high-kept (unsigned_abs z))

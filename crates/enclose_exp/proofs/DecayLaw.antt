@@ -39,18 +39,18 @@ unfolding exp_neg_high
 exp_neg_high-past n large = rw (past-cut n large) refl
 
 pub low-made : (n p : ℕ) → n ≤ 23 * 2 ^ 32 →
-  p ≡ product times_low (factor_at DECAY_LOW) (get_or WHOLE_LOW (n / 2 ^ 32) 0) (n % 2 ^ 32) 32 → p ≡ decay_low n
+    p ≡ product times_low (factor_at DECAY_LOW) (get_or WHOLE_LOW (n / 2 ^ 32) 0) (n % 2 ^ 32) 32 → p ≡ decay_low n
 unfolding decay_low
 low-made n p small made =
-  let whole : n / 2 ^ 32 < 24 = omega (arith, small) in
-  rw (unit-is, made, decay_low-is (get_or WHOLE_LOW (n / 2 ^ 32) 0) (n % 2 ^ 32), whole_low-at (n / 2 ^ 32) whole) refl
+    let whole : n / 2 ^ 32 < 24 = omega (arith, small) in
+    rw (unit-is, made, decay_low-is (get_or WHOLE_LOW (n / 2 ^ 32) 0) (n % 2 ^ 32), whole_low-at (n / 2 ^ 32) whole) refl
 
 pub high-made : (n p : ℕ) → n ≤ 23 * 2 ^ 32 →
-  p ≡ product times_high (factor_at DECAY_HIGH) (get_or WHOLE_HIGH (n / 2 ^ 32) 0) (n % 2 ^ 32) 32 → p ≡ decay_high n
+    p ≡ product times_high (factor_at DECAY_HIGH) (get_or WHOLE_HIGH (n / 2 ^ 32) 0) (n % 2 ^ 32) 32 → p ≡ decay_high n
 unfolding decay_high
 high-made n p small made =
-  let whole : n / 2 ^ 32 < 24 = omega (arith, small) in
-  rw (unit-is, made, decay_high-is (get_or WHOLE_HIGH (n / 2 ^ 32) 0) (n % 2 ^ 32), whole_high-at (n / 2 ^ 32) whole) refl
+    let whole : n / 2 ^ 32 < 24 = omega (arith, small) in
+    rw (unit-is, made, decay_high-is (get_or WHOLE_HIGH (n / 2 ^ 32) 0) (n % 2 ^ 32), whole_high-at (n / 2 ^ 32) whole) refl
 
 -- ---- the law
 
@@ -232,12 +232,14 @@ exp_neg_high-le n =
 -- an exponent that is kept within 23 decays the same
 pub exp_neg_low-kept : (n : ℕ) → exp_neg_low (min n (23 * 2 ^ 32)) ≡ exp_neg_low n
 exp_neg_low-kept n =
-  elim (cases_lt n (23 * 2 ^ 32)) [
-    inl small ↦ ap exp_neg_low (omega arith)
-  | inr large ↦ exp_neg_low-past (min n (23 * 2 ^ 32)) (omega arith) ∙ sym (exp_neg_low-past n large) ]
+    elim (cases_lt n (23 * 2 ^ 32)) [
+      | inl small ↦ ap exp_neg_low (omega arith)
+      | inr large ↦ exp_neg_low-past (min n (23 * 2 ^ 32)) (omega arith) ∙ sym (exp_neg_low-past n large)
+    ]
 
 pub exp_neg_high-kept : (n : ℕ) → exp_neg_high (min n (23 * 2 ^ 32)) ≡ exp_neg_high n
 exp_neg_high-kept n =
-  elim (cases_lt n (23 * 2 ^ 32)) [
-    inl small ↦ ap exp_neg_high (omega arith)
-  | inr large ↦ exp_neg_high-past (min n (23 * 2 ^ 32)) (omega arith) ∙ sym (exp_neg_high-past n large) ]
+    elim (cases_lt n (23 * 2 ^ 32)) [
+      | inl small ↦ ap exp_neg_high (omega arith)
+      | inr large ↦ exp_neg_high-past (min n (23 * 2 ^ 32)) (omega arith) ∙ sym (exp_neg_high-past n large)
+    ]

@@ -1,5 +1,5 @@
 -- Products of factors by their digits.
-use Rattle.std.proofs.Common.{◌≡◌, ℕ, zero, suc, ◌+◌, ◌*◌, ◌^◌, ◌<◌, ◌≤◌, ◌⊎◌, ◌==◌, Bool, true, false, cond, inl, inr, refl, sym, ap, ◌∙◌, arith, rules, tests, List, [], ◌∷◌, length, get_or, drop}
+use Rattle.std.proofs.Common.{◌≡◌, ℕ, zero, suc, ◌+◌, ◌*◌, ◌^◌, ◌<◌, ◌≤◌, ◌⊎◌, ◌==◌, Bool, true, false, cond, inl, inr, refl, ap, ◌∙◌, arith, rules, tests, List, [], ◌∷◌, length, get_or, drop}
 use Rattle.std.proofs.lemmas.Bool.{cases_lt, false≢true, eqb-true}
 use Rattle.std.specs.Prelude.{◌&&◌}
 use Rattle.std.proofs.Math.Seq.{drop-cons}
@@ -122,27 +122,29 @@ fits-growing times least g xs start fraction count large small place within =
 
 -- one turn of the code: `entry` stands in the table at the place of the digit d
 pub turn-fits : (times : ℕ → ℕ → ℕ) (table : List ℕ) (start fraction place p d : ℕ) → ((q : ℕ) → times q one_factor ≡ q) → IsDigitTable table →
-  ProductsFit times (factor_at table) start fraction → place < 32 → p < 2 ^ 64 → p ≡ product times (factor_at table) start fraction place →
-  d ≡ digit_at fraction place → times p (get_or table (2 * place + d) 0) < 2 ^ 64
+    ProductsFit times (factor_at table) start fraction → place < 32 → p < 2 ^ 64 → p ≡ product times (factor_at table) start fraction place →
+    d ≡ digit_at fraction place → times p (get_or table (2 * place + d) 0) < 2 ^ 64
 turn-fits times table start fraction place p d whole ones fit within small before digit =
-  elim (cases_lt d 1) [
-    inl none ↦ (let zero_digit : 2 * place + d ≡ 2 * place = omega arith in
-      let entry : get_or table (2 * place + d) 0 ≡ one_factor = ap (λ i. get_or table i 0) zero_digit ∙ ones place within in
-      rw (entry, whole p) small)
-  | inr some ↦ (let one_digit : 2 * place + d ≡ 2 * place + 1 = omega (arith, digit) in
-      rw (one_digit, before) (fit place within)) ]
+    elim (cases_lt d 1) [
+      | inl none ↦ (let zero_digit : 2 * place + d ≡ 2 * place = omega arith in
+          let entry : get_or table (2 * place + d) 0 ≡ one_factor = ap (λ i. get_or table i 0) zero_digit ∙ ones place within in
+          rw (entry, whole p) small)
+      | inr some ↦ (let one_digit : 2 * place + d ≡ 2 * place + 1 = omega (arith, digit) in
+          rw (one_digit, before) (fit place within))
+    ]
 
 pub turn-is : (times : ℕ → ℕ → ℕ) (table : List ℕ) (start fraction place p d r : ℕ) → ((q : ℕ) → times q one_factor ≡ q) → IsDigitTable table →
-  place < 32 → p ≡ product times (factor_at table) start fraction place →
-  d ≡ digit_at fraction place → r ≡ times p (get_or table (2 * place + d) 0) → r ≡ product times (factor_at table) start fraction (place + 1)
+    place < 32 → p ≡ product times (factor_at table) start fraction place →
+    d ≡ digit_at fraction place → r ≡ times p (get_or table (2 * place + d) 0) → r ≡ product times (factor_at table) start fraction (place + 1)
 turn-is times table start fraction place p d r whole ones within before digit made =
-  let next : place + 1 ≡ suc place = omega arith in
-  elim (product-cases times (factor_at table) start fraction place) [
-    inl c ↦ (let one_digit : 2 * place + d ≡ 2 * place + 1 = omega (arith, digit, c.0) in
-      rw (next, c.1) (made ∙ ap (λ i. times p (get_or table i 0)) one_digit ∙ ap (λ q. times q (factor_at table place)) before))
-  | inr c ↦ (let zero_digit : 2 * place + d ≡ 2 * place = omega (arith, digit, c.0) in
-      let entry : get_or table (2 * place + d) 0 ≡ one_factor = ap (λ i. get_or table i 0) zero_digit ∙ ones place within in
-      rw (next, c.1) (made ∙ ap (λ f. times p f) entry ∙ whole p ∙ before)) ]
+    let next : place + 1 ≡ suc place = omega arith in
+    elim (product-cases times (factor_at table) start fraction place) [
+      | inl c ↦ (let one_digit : 2 * place + d ≡ 2 * place + 1 = omega (arith, digit, c.0) in
+          rw (next, c.1) (made ∙ ap (λ i. times p (get_or table i 0)) one_digit ∙ ap (λ q. times q (factor_at table place)) before))
+      | inr c ↦ (let zero_digit : 2 * place + d ≡ 2 * place = omega (arith, digit, c.0) in
+          let entry : get_or table (2 * place + d) 0 ≡ one_factor = ap (λ i. get_or table i 0) zero_digit ∙ ones place within in
+          rw (next, c.1) (made ∙ ap (λ f. times p f) entry ∙ whole p ∙ before))
+    ]
 
 -- a factor of 1 changes nothing
 pub times_low-one : (p : ℕ) → times_low p one_factor ≡ p
@@ -189,5 +191,5 @@ ones-at (x ∷ []) zero all within = eqb-true x one_factor all
 ones-at (x ∷ []) (suc i) all within = absurd (omega arith)
 ones-at (x ∷ (y ∷ xs)) zero all within = eqb-true x one_factor (both-true (x == one_factor) (are_ones xs) all).0
 ones-at (x ∷ (y ∷ xs)) (suc i) all within =
-  let e : 2 * suc i ≡ suc (suc (2 * i)) = omega arith in
-  rw e (ones-at xs i (both-true (x == one_factor) (are_ones xs) all).1 (omega arith))
+    let e : 2 * suc i ≡ suc (suc (2 * i)) = omega arith in
+    rw e (ones-at xs i (both-true (x == one_factor) (are_ones xs) all).1 (omega arith))

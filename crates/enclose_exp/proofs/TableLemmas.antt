@@ -74,7 +74,7 @@ all_to-at most (x ∷ xs) (suc i) all within = all_to-at most xs i (both-true (n
 ten_low-at : (i : ℕ) → i < 32 → factor_at TEN_LOW i ≡ ten_factor_low i
 unfolding root_low ten_factor_low
 ten_low-at i within =
-  sym (seconds-at TEN_LOW i) ∙ roots_low-at (10 * one_factor) 0 (seconds TEN_LOW) i refl within ∙ ap (λ k. root_low (10 * one_factor) (suc k)) (zero-add i)
+    sym (seconds-at TEN_LOW i) ∙ roots_low-at (10 * one_factor) 0 (seconds TEN_LOW) i refl within ∙ ap (λ k. root_low (10 * one_factor) (suc k)) (zero-add i)
 
 pub ten_low-ones : IsDigitTable TEN_LOW
 ten_low-ones place within = ones-at TEN_LOW place refl (omega arith)
@@ -82,7 +82,7 @@ ten_low-ones place within = ones-at TEN_LOW place refl (omega arith)
 ten_high-at : (i : ℕ) → i < 32 → factor_at TEN_HIGH i ≡ ten_factor_high i
 unfolding root_high ten_factor_high
 ten_high-at i within =
-  sym (seconds-at TEN_HIGH i) ∙ roots_high-at (10 * one_factor) 0 (seconds TEN_HIGH) i refl within ∙ ap (λ k. root_high (10 * one_factor) (suc k)) (zero-add i)
+    sym (seconds-at TEN_HIGH i) ∙ roots_high-at (10 * one_factor) 0 (seconds TEN_HIGH) i refl within ∙ ap (λ k. root_high (10 * one_factor) (suc k)) (zero-add i)
 
 pub ten_high-ones : IsDigitTable TEN_HIGH
 ten_high-ones place within = ones-at TEN_HIGH place refl (omega arith)
@@ -90,7 +90,7 @@ ten_high-ones place within = ones-at TEN_HIGH place refl (omega arith)
 decay_low-at : (i : ℕ) → i < 32 → factor_at DECAY_LOW i ≡ decay_factor_low i
 unfolding root_low decay_factor_low inverse_e_low factorial_20 exponential_sum
 decay_low-at i within =
-  sym (seconds-at DECAY_LOW i) ∙ roots_low-at inverse_e_low 0 (seconds DECAY_LOW) i refl within ∙ ap (λ k. root_low inverse_e_low (suc k)) (zero-add i)
+    sym (seconds-at DECAY_LOW i) ∙ roots_low-at inverse_e_low 0 (seconds DECAY_LOW) i refl within ∙ ap (λ k. root_low inverse_e_low (suc k)) (zero-add i)
 
 pub decay_low-ones : IsDigitTable DECAY_LOW
 decay_low-ones place within = ones-at DECAY_LOW place refl (omega arith)
@@ -98,7 +98,7 @@ decay_low-ones place within = ones-at DECAY_LOW place refl (omega arith)
 decay_high-at : (i : ℕ) → i < 32 → factor_at DECAY_HIGH i ≡ decay_factor_high i
 unfolding root_high decay_factor_high inverse_e_high factorial_20 exponential_sum
 decay_high-at i within =
-  sym (seconds-at DECAY_HIGH i) ∙ roots_high-at inverse_e_high 0 (seconds DECAY_HIGH) i refl within ∙ ap (λ k. root_high inverse_e_high (suc k)) (zero-add i)
+    sym (seconds-at DECAY_HIGH i) ∙ roots_high-at inverse_e_high 0 (seconds DECAY_HIGH) i refl within ∙ ap (λ k. root_high inverse_e_high (suc k)) (zero-add i)
 
 pub decay_high-ones : IsDigitTable DECAY_HIGH
 decay_high-ones place within = ones-at DECAY_HIGH place refl (omega arith)
@@ -107,33 +107,33 @@ decay_high-ones place within = ones-at DECAY_HIGH place refl (omega arith)
 
 -- the factors of the digit 1, as a list of their own
 as_list : (times : ℕ → ℕ → ℕ) (table : List ℕ) (start fraction place : ℕ) →
-  product times (λ i. get_or (seconds table) i 0) start fraction place ≡ product times (factor_at table) start fraction place
+    product times (λ i. get_or (seconds table) i 0) start fraction place ≡ product times (factor_at table) start fraction place
 as_list times table start fraction place =
-  product-same times (λ i. get_or (seconds table) i 0) (factor_at table) start fraction place (λ i h. seconds-at table i)
+    product-same times (λ i. get_or (seconds table) i 0) (factor_at table) start fraction place (λ i h. seconds-at table i)
 
 fits-from_list : (times : ℕ → ℕ → ℕ) (table : List ℕ) (start fraction : ℕ) →
-  ProductsFit times (λ i. get_or (seconds table) i 0) start fraction → ProductsFit times (factor_at table) start fraction
+    ProductsFit times (λ i. get_or (seconds table) i 0) start fraction → ProductsFit times (factor_at table) start fraction
 fits-from_list times table start fraction fit place within =
-  rw (← as_list times table start fraction place, ← seconds-at table place) (fit place within)
+    rw (← as_list times table start fraction place, ← seconds-at table place) (fit place within)
 
 pub ten_low-fits : (fraction : ℕ) → ProductsFit times_low (factor_at TEN_LOW) one_factor fraction
 ten_low-fits fraction =
-  fits-from_list times_low TEN_LOW one_factor fraction
+    fits-from_list times_low TEN_LOW one_factor fraction
     (fits-growing times_low one_factor grows-low (seconds TEN_LOW) one_factor fraction refl (λ i h. all_from-at one_factor (seconds TEN_LOW) i refl h) (lit< tt))
 
 pub ten_high-fits : (fraction : ℕ) → ProductsFit times_high (factor_at TEN_HIGH) one_factor fraction
 ten_high-fits fraction =
-  fits-from_list times_high TEN_HIGH one_factor fraction
+    fits-from_list times_high TEN_HIGH one_factor fraction
     (fits-growing times_high one_factor grows-high (seconds TEN_HIGH) one_factor fraction refl (λ i h. all_from-at one_factor (seconds TEN_HIGH) i refl h) (lit< tt))
 
 pub decay_low-fits : (start fraction : ℕ) → start < 2 ^ 64 → ProductsFit times_low (factor_at DECAY_LOW) start fraction
 decay_low-fits start fraction small =
-  fits-shrinking times_low (factor_at DECAY_LOW) start fraction small
+    fits-shrinking times_low (factor_at DECAY_LOW) start fraction small
     (λ p i h. shrinks-low p (factor_at DECAY_LOW i) (rw (← seconds-at DECAY_LOW i) (all_to-at one_factor (seconds DECAY_LOW) i refl h)))
 
 pub decay_high-fits : (start fraction : ℕ) → start < 2 ^ 64 → ProductsFit times_high (factor_at DECAY_HIGH) start fraction
 decay_high-fits start fraction small =
-  fits-shrinking times_high (factor_at DECAY_HIGH) start fraction small
+    fits-shrinking times_high (factor_at DECAY_HIGH) start fraction small
     (λ p i h. shrinks-high p (factor_at DECAY_HIGH i) (rw (← seconds-at DECAY_HIGH i) (all_to-at one_factor (seconds DECAY_HIGH) i refl h)))
 
 pub ten_low-is : (fraction : ℕ) → product times_low (factor_at TEN_LOW) one_factor fraction 32 ≡ fraction_low fraction
@@ -153,14 +153,14 @@ decay_high-is start fraction = product-same times_high (factor_at DECAY_HIGH) de
 -- fractions of a power fit 64 bits
 pub fraction_low-small : (fraction : ℕ) → fraction_low fraction < 2 ^ 64
 fraction_low-small fraction =
-  let most : product_of_all times_low (seconds TEN_LOW) one_factor < 2 ^ 64 = lit< tt in
-  rw (← ten_low-is fraction, ← as_list times_low TEN_LOW one_factor fraction 32)
+    let most : product_of_all times_low (seconds TEN_LOW) one_factor < 2 ^ 64 = lit< tt in
+    rw (← ten_low-is fraction, ← as_list times_low TEN_LOW one_factor fraction 32)
     (omega (arith, most, product-le_all times_low one_factor grows-low (seconds TEN_LOW) one_factor fraction 32 (λ i h. all_from-at one_factor (seconds TEN_LOW) i refl h) (omega arith)))
 
 pub fraction_high-small : (fraction : ℕ) → fraction_high fraction < 2 ^ 64
 fraction_high-small fraction =
-  let most : product_of_all times_high (seconds TEN_HIGH) one_factor < 2 ^ 64 = lit< tt in
-  rw (← ten_high-is fraction, ← as_list times_high TEN_HIGH one_factor fraction 32)
+    let most : product_of_all times_high (seconds TEN_HIGH) one_factor < 2 ^ 64 = lit< tt in
+    rw (← ten_high-is fraction, ← as_list times_high TEN_HIGH one_factor fraction 32)
     (omega (arith, most, product-le_all times_high one_factor grows-high (seconds TEN_HIGH) one_factor fraction 32 (λ i h. all_from-at one_factor (seconds TEN_HIGH) i refl h) (omega arith)))
 
 -- ---- whole powers of 1/e

@@ -1,6 +1,6 @@
 //! e to the power of the negative of an interval.
 
-ghost use Rattle.std.specs.Prelude.{◌≡◌, ◌<◌, ◌≤◌, ◌*◌, ◌^◌, ◌≤ℤ◌, IsSomeAnd, min, pos, unsigned_abs};
+ghost use Rattle.std.specs.Prelude.{◌≡◌, ◌<◌, ◌≤◌, ◌*◌, ◌^◌, ◌≤ℤ◌, IsSomeAnd, min, pos, Some, unsigned_abs};
 ghost use Rattle.std.specs.Option.{option_map_or, ForSome};
 ghost use Rattle.fix_interval.specs.ExpNeg.{exp_neg_of, exp_neg_low, exp_neg_high, decay_low, decay_high};
 
@@ -23,10 +23,7 @@ pub fn exp_neg(a: Iv) -> Iv
     let low = exponent(a.low());
     let high = exponent(a.high());
     let (down, up) = decays(high, low);
-    Iv::of_ends(
-        Some(i128::from(low_decay(high, down))),
-        Some(i128::from(high_decay(low, up))),
-    )
+    Iv::of_ends(low_decay(high, down), high_decay(low, up))
 }
 
 /// The exponent of an end, kept within 23; an unbounded one is 23.
@@ -61,26 +58,26 @@ fn decays(low: u64, high: u64) -> (u64, u64)
 }
 
 /// The low end of a decay, which is `product` in units of 2^-60.
-fn low_decay(exponent: u64, product: u64) -> u64
+fn low_decay(exponent: u64, product: u64) -> Option<i128>
     requires { product ≡ decay_low exponent }
-    ensures { result ≡ exp_neg_low exponent }
+    ensures { result ≡ Some (pos (exp_neg_low exponent)) }
 {
     if exponent < GREATEST {
-        product >> 28
+        Some(i128::from(product >> 28))
     } else {
-        0
+        Some(0)
     }
 }
 
 /// The high end of a decay.
-fn high_decay(exponent: u64, product: u64) -> u64
+fn high_decay(exponent: u64, product: u64) -> Option<i128>
     requires { product ≡ decay_high exponent }
-    ensures { result ≡ exp_neg_high exponent }
+    ensures { result ≡ Some (pos (exp_neg_high exponent)) }
 {
     if exponent < GREATEST {
-        units_up(product)
+        Some(i128::from(units_up(product)))
     } else {
-        1
+        Some(1)
     }
 }
 

@@ -1,4 +1,4 @@
-use Rattle.std.proofs.Common.{◌≡◌, ◌∙◌, ap, sym, arith, Some, pos, ℤ}
+use Rattle.std.proofs.Common.{◌≡◌, ◌∙◌, ap, sym, arith, Some, pos}
 use Rattle.std.proofs.lemmas.Int.{ints}
 use mir.Syntax.{w128}
 use mir.Val.{to_z}
@@ -13,8 +13,8 @@ returns-then-exponent-lt-LEAST_COUNTED c = sym (high_value-least c.args.exponent
 
 pub returns-else-exponent-lt-LEAST_COUNTED : goal.returns-else-exponent-lt-LEAST_COUNTED
 returns-else-exponent-lt-LEAST_COUNTED c =
-  let r = c.power_up.result in
-  let small = c.power_up.ensures.bound in
-  let whole : to_z w128 r ≡ pos r = omega (arith, ints, small) in
-  ap Some (whole ∙ ap pos c.power_up.ensures.value)
-  ∙ sym (high_value-within c.args.exponent c.if-exponent-lt-LEAST_COUNTED.false c.if-exponent-ge-GREATEST_COUNTED.false)
+    let r = c.power_up.result in
+    let small = c.power_up.ensures.bound in
+    let whole : to_z w128 r ≡ pos r = omega (arith, ints, small) in
+    ap Some (whole ∙ ap pos c.power_up.ensures.value)
+    ∙ sym (high_value-within c.args.exponent c.if-exponent-lt-LEAST_COUNTED.false c.if-exponent-ge-GREATEST_COUNTED.false)

@@ -8,4 +8,5 @@ invariant-loop-place l = record {
   down : l.down ≡ product times_low (factor_at l.below) l.low.factor l.low.fraction l.place;
   up : l.up ≡ product times_high (factor_at l.above) l.high.factor l.high.fraction l.place;
   down_fits : l.down < 2 ^ 64;
-  up_fits : l.up < 2 ^ 64 }
+  up_fits : l.up < 2 ^ 64;
+}
