@@ -87,9 +87,10 @@ span-outward limit least greatest small low high ordered =
     })
 
 pub within-product : (x y a b : ℤ) → Within a x → Within b y → Within (a *ℤ b) (x *ℤ y)
-within-product x y a b hx hy =
-    (let m = times-mono_right x (pos 0) y hx.0 hy.0 in rw *ℤ-zero at m,
-     ≤ℤ_trans (x *ℤ y) (x *ℤ b) (a *ℤ b) (times-mono_right x y b hx.0 hy.1) (times-mono x a b (≤ℤ_trans (pos 0) y b hy.0 hy.1) hx.1))
+within-product x y a b hx hy = (
+  let m = times-mono_right x (pos 0) y hx.0 hy.0 in rw *ℤ-zero at m,
+  ≤ℤ_trans (x *ℤ y) (x *ℤ b) (a *ℤ b) (times-mono_right x y b hx.0 hy.1) (times-mono x a b (≤ℤ_trans (pos 0) y b hy.0 hy.1) hx.1),
+)
 
 least-within : (limit p q r s : ℤ) → Within limit p → Within limit q → Within limit r → Within limit s → Within limit (least_of p q r s)
 least-within limit p q r s hp hq hr hs = int_min-keeps (Within limit) _ _ (int_min-keeps (Within limit) p q hp hq) (int_min-keeps (Within limit) r s hr hs)
@@ -110,8 +111,8 @@ span-mul x y a b hx hy small =
     let r = within-product hx.hi hy.lo a b xh yl in
     let s = within-product hx.hi hy.hi a b xh yh in
     subst (Span (ceil_of (a *ℤ b) unit)) (sym (on_ends-bounded product_of_ends x y hx.lo hx.hi hy.lo hy.hi (hx.lo_is, hx.hi_is) (hy.lo_is, hy.hi_is)))
-        (span-outward (a *ℤ b) _ _ small (least-within (a *ℤ b) _ _ _ _ p q r s) (greatest-within (a *ℤ b) _ _ _ _ p q r s)
-            (least_of-le-greatest_of (hx.lo *ℤ hy.lo) (hx.lo *ℤ hy.hi) (hx.hi *ℤ hy.lo) (hx.hi *ℤ hy.hi)))
+    (span-outward (a *ℤ b) _ _ small (least-within (a *ℤ b) _ _ _ _ p q r s) (greatest-within (a *ℤ b) _ _ _ _ p q r s)
+    (least_of-le-greatest_of (hx.lo *ℤ hy.lo) (hx.lo *ℤ hy.hi) (hx.hi *ℤ hy.lo) (hx.hi *ℤ hy.hi)))
 
 -- a whole number alone
 pub units-is : (n : ℕ) → (pos n *ℤ pos unit) ≡ pos (n * 2 ^ 32)
@@ -132,4 +133,3 @@ pub span-of : (limit : ℤ) (i : Interval) (lo hi : Option ℤ) → lo ≡ i.lo 
 span-of limit i None hi lo_is hi_is ordered low high = absurd low
 span-of limit i (Some l) None lo_is hi_is ordered low high = absurd high
 span-of limit i (Some l) (Some h) lo_is hi_is ordered low high = record { lo = l; hi = h; lo_is = sym lo_is; hi_is = sym hi_is; not_negative = low; ordered = ordered; below = high }
-
