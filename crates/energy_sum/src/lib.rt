@@ -1,6 +1,7 @@
 //! Energies of levels, their exact sums, and levels of sums (ISO 9613-2, equations 5 and 6), as enclosing intervals.
 #![tactic(auto)]
 
+mod laws;
 mod sum;
 
 ghost use Rattle.std.specs.Prelude.{◌≡◌, ◌*◌, ◌^◌, pos, neg_ℤ, ◌≤ℤ◌, IsSomeAnd};
@@ -12,6 +13,7 @@ ghost use Rattle.energy_sum.specs.Energies.{energy_form, level_form};
 use enclose_exp::ten;
 use enclose_log::lg;
 use fix_interval::{Iv, div, exact, max, mul};
+pub use laws::every_formula_is_enclosed;
 pub use sum::Sum;
 
 /// The energy of a level in dB, as a ratio: 10 to the power of a tenth of it (ISO 9613-2, equation 5). It isn't below 0.
