@@ -1,0 +1,164 @@
+-- The kinds of step: what each does to the view of the seat that makes it, and what the seat is told.
+use Rattle.std.specs.Prelude.{◌≡◌, ◌≢◌, ℕ, ◌+◌, ◌-◌, ◌<◌, ◌≤◌, List, [], ◌∷◌, ◌++◌, map, length, All, AllPairs, Contains, Option, Some, None, unwrap_or, if◌then◌else◌, nat_lt}
+use Rattle.atomic_table.specs.Table.{Me, Step, rest}
+use Rattle.atomic_table.specs.declared.shared.Seat.{Seat}
+use Rattle.atomic_table.specs.Seated.{TableId}
+use Rattle.turn_lock.specs.declared.entry.Entry.{Entry}
+use Rattle.turn_lock.specs.declared.entry.Joined.{Joined}
+use Rattle.turn_lock.specs.declared.view.View.{View}
+use Rattle.turn_lock.specs.declared.view.Phase.{Phase}
+use Rattle.turn_lock.specs.declared.view.Phase.TheVariants.{Free, Waiting, InTurn}
+use Rattle.turn_lock.specs.History.{Begins, entries_of, IsRun, IsLegal}
+use Rattle.turn_lock.specs.Standing.{Standing, all_parts, longer}
+use Rattle.turn_lock.specs.Rule.{claims}
+
+module _ {C R : Type 0} where
+  -- what callers see of a view
+  abbrev pub standing : TableId → View C R → Standing C R
+  standing table v = record { table = table; number = unwrap_or v.name 0; seen = v.seen; mine = v.mine; parts = v.parts; joined = v.joined }
+
+  abbrev pub in_phase : Phase → View C R → View C R
+  in_phase phase v = record { name = v.name; seen = v.seen; mine = v.mine; parts = v.parts; joined = v.joined; bound = v.bound; beside = v.beside; phase = phase }
+
+  -- the history so far was seen, and this ticket is served
+  abbrev pub in_turn : ℕ → List (Entry C R) → ℕ → View C R → View C R
+  in_turn ticket history bound v = record { name = v.name; seen = history; mine = v.mine; parts = v.parts; joined = v.joined; bound = bound; beside = []; phase = InTurn ticket }
+
+  -- the entries were made, and the turn is over
+  abbrev pub with_entries : List (Entry C R) → View C R → View C R
+  with_entries added v = record { name = v.name; seen = v.seen ++ added; mine = v.mine ++ added; parts = v.parts; joined = v.joined; bound = v.bound; beside = v.beside; phase = Free }
+
+  abbrev pub with_name : ℕ → View C R → View C R
+  with_name number v = record { name = Some number; seen = v.seen; mine = v.mine; parts = v.parts; joined = v.joined; bound = number + 1; beside = v.beside; phase = v.phase }
+
+  -- a split leaves one part less, and gives the new seat that part, all that was seen, and no number yet
+  abbrev pub with_part_less : View C R → View C R
+  with_part_less v = record { name = v.name; seen = v.seen; mine = v.mine; parts = v.parts - 1; joined = v.joined; bound = v.bound; beside = v.beside; phase = v.phase }
+
+  abbrev pub unnamed : View C R → View C R
+  unnamed v = record { name = None; seen = v.seen; mine = []; parts = 1; joined = []; bound = v.bound; beside = []; phase = Free }
+
+  -- the shorter of the two lists, where `longer` gives the other
+  abbrev pub shorter : List (Entry C R) → List (Entry C R) → List (Entry C R)
+  shorter xs ys = if nat_lt (length xs) (length ys) then xs else ys
+
+  -- a join gives the one view all that the other has, and leaves that one spent
+  abbrev pub merged : View C R → View C R → View C R
+  merged v w = record {
+    name = v.name;
+    seen = longer v.seen w.seen;
+    mine = v.mine;
+    parts = v.parts + w.parts;
+    joined = v.joined ++ claims w;
+    bound = if nat_lt v.bound w.bound then w.bound else v.bound;
+    beside = shorter v.seen w.seen;
+    phase = v.phase;
+  }
+
+  abbrev pub spent : View C R
+  spent = record { name = None; seen = []; mine = []; parts = 0; joined = []; bound = 0; beside = []; phase = Free }
+
+  -- the numbers that a view has
+  abbrev pub names : View C R → List ℕ
+  names v = map (λ j. j.number) (claims v)
+
+module _ {S C R : Type 0} (start : S) (steps : S → C → R → S → Type 0) (may : ℕ → List (Entry C R) → C → Type 0) where
+  -- what follows from the rule for one view alone
+  pub record Knows (v : View C R) : Type 0 where
+    pub legal : IsLegal start steps may v.seen
+    pub names_differ : AllPairs ◌≢◌ (names v)
+    pub done_seen : All (λ j. entries_of j.number v.seen ≡ j.mine) (claims v)
+    pub none_else : v.parts ≡ all_parts → All (λ e. Contains (names v) e.number) v.seen
+    pub some_parts : v.parts ≤ all_parts
+    pub numbers_below : All (λ j. j.number < v.bound) (claims v)
+    pub entries_below : All (λ e. e.number < v.bound) v.seen
+    pub beside : Begins v.beside v.seen
+
+module _ {M C R : Type 0} where
+  -- draw: the ticket was found as expected, and is the seat's; or nothing changed
+  abbrev pub Draws : Step (Option M) → Me (Option M) (View C R) → ℕ → Me (Option M) (View C R) → Type 0
+  Draws step before found after =
+      (found ≡ step.first → after ≡ (in_phase (Waiting found) before.0, before.1)) × (found ≢ step.first → after ≡ before)
+
+module _ {M S C R : Type 0} (state : M → S) (start : S) (steps : S → C → R → S → Type 0) (may : ℕ → List (Entry C R) → C → Type 0) where
+  -- load served: where the seat's ticket is served it has the machine, at the run of the history, which it has seen;
+  -- else nothing changed
+  pub record Serves (step : Step (Option M)) (before : Me (Option M) (View C R)) (found : ℕ) (after : Me (Option M) (View C R)) : Type 0 where
+    pub served : before.0.phase ≡ Waiting found
+        → (machine : M) × (history : List (Entry C R)) × (bound : ℕ)
+        × (after ≡ (in_turn found history bound before.0, (0, Some machine) ∷ before.1))
+        × Begins before.0.seen history × IsRun start steps may history (state machine)
+    pub others : (ticket : ℕ) → before.0.phase ≡ Waiting ticket → found ≢ ticket → after ≡ before
+
+  -- pass on: the entries join the history, the machine is back in its slot, and the next ticket is served
+  abbrev pub PassesOn : List (Entry C R) → Step (Option M) → Me (Option M) (View C R) → ℕ → Me (Option M) (View C R) → Type 0
+  PassesOn added step before found after =
+      (after ≡ (with_entries added before.0, rest before.1)) × Knows start steps may after.0
+
+  -- number: the number was found as expected, and is the seat's; or nothing changed
+  abbrev pub Numbers : Step (Option M) → Me (Option M) (View C R) → ℕ → Me (Option M) (View C R) → Type 0
+  Numbers step before found after =
+      (found ≡ step.first → (after ≡ (with_name found before.0, before.1)) × (before.0.bound ≤ found) × Knows start steps may after.0)
+      × (found ≢ step.first → after ≡ before)
+
+  -- look: nothing changed, and the seat is told what it knows
+  abbrev pub Looks : Step (Option M) → Me (Option M) (View C R) → ℕ → Me (Option M) (View C R) → Type 0
+  Looks step before found after = (after ≡ before) × Knows start steps may after.0
+
+-- a seat between two calls: it has a number, waits for nothing, holds nothing, and knows what the rule says of it
+pub record IsSeated {M S C R : Type 0} (start : S) (steps : S → C → R → S → Type 0) (may : ℕ → List (Entry C R) → C → Type 0) (me : Me (Option M) (View C R)) : Type 0 where
+  pub number : ℕ
+  pub name : me.0.name ≡ Some number
+  pub free : me.0.phase ≡ Free
+  pub empty : me.1 ≡ []
+  pub knows : Knows start steps may me.0
+
+-- the same seat of the same table
+abbrev pub IsSamePlace : {S V : Type 0} → Seat S V → Seat S V → Type 0
+IsSamePlace before after = (after.table_id ≡ before.table_id) × (after.id ≡ before.id)
+
+-- a seat that a split just made
+pub record IsUnnamed {M C R : Type 0} (me : Me (Option M) (View C R)) : Type 0 where
+  pub name : me.0.name ≡ None
+  pub parts : me.0.parts ≡ 1
+  pub mine : me.0.mine ≡ []
+  pub joined : me.0.joined ≡ []
+  pub free : me.0.phase ≡ Free
+  pub empty : me.1 ≡ []
+
+-- it drew a number, which is at least the bound that it was made with
+pub record HasDrawn {M S C R : Type 0} (start : S) (steps : S → C → R → S → Type 0) (may : ℕ → List (Entry C R) → C → Type 0) (before after : Me (Option M) (View C R)) : Type 0 where
+  pub number : ℕ
+  pub me : after ≡ (with_name number before.0, before.1)
+  pub above : before.0.bound ≤ number
+  pub knows : Knows start steps may after.0
+
+-- it waits with this ticket
+abbrev pub IsWaiting : {M C R : Type 0} → ℕ → Me (Option M) (View C R) → Me (Option M) (View C R) → Type 0
+IsWaiting ticket before after = after ≡ (in_phase (Waiting ticket) before.0, before.1)
+
+-- its turn has come: it has seen the history so far, and holds the slot, in which this value is
+pub record HasTurn {M S C R : Type 0} (state : M → S) (start : S) (steps : S → C → R → S → Type 0) (may : ℕ → List (Entry C R) → C → Type 0) (ticket : ℕ) (before : View C R) (machine : M) (slot : Option M) (after : Me (Option M) (View C R)) : Type 0 where
+  pub history : List (Entry C R)
+  pub bound : ℕ
+  pub me : after ≡ (in_turn ticket history bound before, (0, slot) ∷ [])
+  pub seen : Begins before.seen history
+  pub run : IsRun start steps may history (state machine)
+
+-- it may end its turn with this entry
+pub record MayEnd {M S C R : Type 0} (state : M → S) (start : S) (steps : S → C → R → S → Type 0) (may : ℕ → List (Entry C R) → C → Type 0) (ticket : ℕ) (call : C) (reply : R) (machine : M) (me : Me (Option M) (View C R)) : Type 0 where
+  pub number : ℕ
+  pub name : me.0.name ≡ Some number
+  pub phase : me.0.phase ≡ InTurn ticket
+  pub slot : me.1 ≡ (0, None) ∷ []
+  pub allowed : may number me.0.mine call
+  pub before : M
+  pub run : IsRun start steps may me.0.seen (state before)
+  pub step : steps (state before) call reply (state machine)
+
+-- it has a number, waits for nothing and holds nothing
+pub record IsFree {M C R : Type 0} (me : Me (Option M) (View C R)) : Type 0 where
+  pub number : ℕ
+  pub name : me.0.name ≡ Some number
+  pub phase : me.0.phase ≡ Free
+  pub empty : me.1 ≡ []
