@@ -86,6 +86,7 @@ module _ {M S C R : Type 0} (state : M → S) (start : S) (steps : S → C → R
     pub next : ℕ
     -- the words are the next ticket, the ticket that is served, which is the length of the history, and the next number
     pub words : table.words ≡ drawn ∷ length history ∷ next ∷ []
+    pub served : length history ≤ drawn
     pub legal : IsLegal start steps may history
     -- some view has seen the whole history
     pub known : (seat : ℕ) × (v : View C R) × (get_elem? table.views seat ≡ some v) × (v.seen ≡ history)
