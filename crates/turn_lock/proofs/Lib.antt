@@ -1,3 +1,5 @@
 pub mod Histories
 pub mod Counts
 pub mod Facts
+pub mod Changes
+pub mod Queue
