@@ -3,3 +3,5 @@ pub mod Counts
 pub mod Facts
 pub mod Changes
 pub mod Queue
+pub mod Passing
+pub mod Parting
