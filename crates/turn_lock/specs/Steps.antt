@@ -1,5 +1,5 @@
 -- The kinds of step: what each does to the view of the seat that makes it, and what the seat is told.
-use Rattle.std.specs.Prelude.{◌≡◌, ◌≢◌, ℕ, ◌+◌, ◌-◌, ◌<◌, ◌≤◌, List, [], ◌∷◌, ◌++◌, map, length, All, AllPairs, Contains, Option, Some, None, unwrap_or, if◌then◌else◌, nat_lt}
+use Rattle.std.specs.Prelude.{◌≡◌, ◌≢◌, ℕ, ◌+◌, ◌-◌, ◌<◌, ◌≤◌, List, [], ◌∷◌, ◌++◌, map, length, All, AllPairs, Contains, Option, Some, None, unwrap_or, if◌then◌else◌, nat_lt, max}
 use Rattle.atomic_table.specs.Table.{Me, Step, rest}
 use Rattle.atomic_table.specs.declared.shared.Seat.{Seat}
 use Rattle.atomic_table.specs.Seated.{TableId}
@@ -50,7 +50,7 @@ module _ {C R : Type 0} where
     mine = v.mine;
     parts = v.parts + w.parts;
     joined = v.joined ++ claims w;
-    bound = if nat_lt v.bound w.bound then w.bound else v.bound;
+    bound = max v.bound w.bound;
     beside = shorter v.seen w.seen;
     phase = v.phase;
   }
