@@ -135,7 +135,7 @@ module _ {M S C R : Type 0} (state : M → S) (start : S) (steps : S → C → R
           ap (λ hs. get_elem? hs 0) home.1,
           served_kept s r id me.0 m at now name,
           record {
-            served = λ _. (home.0, r.history, r.next, refl, (r.each_fits id me.0 at).seen, home.2);
+            served = λ _. (home.0, record { history = r.history; bound = r.next; me = refl; seen = (r.each_fits id me.0 at).seen; done = (r.each_fits id me.0 at).done; run = home.2 });
             others = λ t waits_too other. absurd (other (let e : Waiting ticket ≡ Waiting t = sym waits ∙ waits_too in let k : ticket ≡ t = cc in hit ∙ k));
           },
         ))

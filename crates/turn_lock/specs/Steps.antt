@@ -80,14 +80,21 @@ module _ {M C R : Type 0} where
   Draws step before found after =
       (found ≡ step.first → after ≡ (in_phase (Waiting found) before.0, before.1)) × (found ≢ step.first → after ≡ before)
 
+-- its turn has come: it has seen the history so far, which has of its numbers what it did, and it holds the slot, in
+-- which this value is; the machine is at the run of that history
+pub record HasTurn {M S C R : Type 0} (state : M → S) (start : S) (steps : S → C → R → S → Type 0) (may : ℕ → List (Entry C R) → C → Type 0) (ticket : ℕ) (before : Me (Option M) (View C R)) (machine : M) (slot : Option M) (after : Me (Option M) (View C R)) : Type 0 where
+  pub history : List (Entry C R)
+  pub bound : ℕ
+  pub me : after ≡ (in_turn ticket history bound before.0, (0, slot) ∷ before.1)
+  pub seen : Begins before.0.seen history
+  pub done : All (λ j. entries_of j.number history ≡ j.mine) (claims before.0)
+  pub run : IsRun start steps may history (state machine)
+
 module _ {M S C R : Type 0} (state : M → S) (start : S) (steps : S → C → R → S → Type 0) (may : ℕ → List (Entry C R) → C → Type 0) where
   -- load served: where the seat's ticket is served it has the machine, at the run of the history, which it has seen;
   -- else nothing changed
   pub record Serves (step : Step (Option M)) (before : Me (Option M) (View C R)) (found : ℕ) (after : Me (Option M) (View C R)) : Type 0 where
-    pub served : before.0.phase ≡ Waiting found
-        → (machine : M) × (history : List (Entry C R)) × (bound : ℕ)
-        × (after ≡ (in_turn found history bound before.0, (0, Some machine) ∷ before.1))
-        × Begins before.0.seen history × IsRun start steps may history (state machine)
+    pub served : before.0.phase ≡ Waiting found → (machine : M) × HasTurn state start steps may found before machine (Some machine) after
     pub others : (ticket : ℕ) → before.0.phase ≡ Waiting ticket → found ≢ ticket → after ≡ before
 
   -- pass on: the entries join the history, the machine is back in its slot, and the next ticket is served
@@ -137,14 +144,6 @@ pub record HasDrawn {M S C R : Type 0} (start : S) (steps : S → C → R → S 
 abbrev pub IsWaiting : {M C R : Type 0} → ℕ → Me (Option M) (View C R) → Me (Option M) (View C R) → Type 0
 IsWaiting ticket before after = after ≡ (in_phase (Waiting ticket) before.0, before.1)
 
--- its turn has come: it has seen the history so far, and holds the slot, in which this value is
-pub record HasTurn {M S C R : Type 0} (state : M → S) (start : S) (steps : S → C → R → S → Type 0) (may : ℕ → List (Entry C R) → C → Type 0) (ticket : ℕ) (before : View C R) (machine : M) (slot : Option M) (after : Me (Option M) (View C R)) : Type 0 where
-  pub history : List (Entry C R)
-  pub bound : ℕ
-  pub me : after ≡ (in_turn ticket history bound before, (0, slot) ∷ [])
-  pub seen : Begins before.seen history
-  pub run : IsRun start steps may history (state machine)
-
 -- it may end its turn with this entry
 pub record MayEnd {M S C R : Type 0} (state : M → S) (start : S) (steps : S → C → R → S → Type 0) (may : ℕ → List (Entry C R) → C → Type 0) (ticket : ℕ) (call : C) (reply : R) (machine : M) (me : Me (Option M) (View C R)) : Type 0 where
   pub number : ℕ
@@ -161,4 +160,11 @@ pub record IsFree {M C R : Type 0} (me : Me (Option M) (View C R)) : Type 0 wher
   pub number : ℕ
   pub name : me.0.name ≡ Some number
   pub phase : me.0.phase ≡ Free
+  pub empty : me.1 ≡ []
+
+-- it has a number and waits with this ticket, and holds nothing
+pub record Waits {M C R : Type 0} (ticket : ℕ) (me : Me (Option M) (View C R)) : Type 0 where
+  pub number : ℕ
+  pub name : me.0.name ≡ Some number
+  pub phase : me.0.phase ≡ Waiting ticket
   pub empty : me.1 ≡ []

@@ -2,7 +2,7 @@
 ghost use Rattle.std.specs.Prelude.{◌≡◌, ℕ, ◌+◌, ◌<◌, ◌^◌, [], ◌∷◌, Some, None, unwrap_or};
 ghost use Rattle.turn_lock.specs.History.{entry};
 ghost use Rattle.turn_lock.specs.Standing.{Standing, IsSound, HasCalled};
-ghost use Rattle.turn_lock.specs.Steps.{IsSamePlace, IsFree, IsWaiting, HasTurn, MayEnd, Knows, with_entries};
+ghost use Rattle.turn_lock.specs.Steps.{IsSamePlace, IsFree, IsWaiting, Waits, HasTurn, MayEnd, Knows, with_entries};
 ghost use Rattle.turn_lock.specs.declared.view.Phase.TheVariants.{Free, Waiting};
 
 use crate::machine::Machine;
@@ -42,7 +42,7 @@ impl<M: Machine> Turn<M> {
         requires free { IsFree place.old.me }
         ensures same { IsSamePlace place.old place.new }
         ensures room { result.0 + 1 < 2 ^ 64 }
-        ensures turn { HasTurn M.state M.start M.steps M.may result.0 place.old.me.0 result.1 None place.new.me }
+        ensures turn { HasTurn M.state M.start M.steps M.may result.0 place.old.me result.1 None place.new.me }
     {
         let ticket = self.draw(rt, place);
         self.wait_for(rt, place, ticket);
@@ -76,9 +76,9 @@ impl<M: Machine> Turn<M> {
     // Waits until the ticket is served, and takes the slot.
     fn wait_for<R: Wait>(&self, rt: &R, place: &mut Place<M, M::Call, M::Reply>, ticket: u64)
         requires own { place.old.table_id ≡ self.now }
-        requires waiting { (place.old.me.0.phase ≡ Waiting ticket) × (place.old.me.1 ≡ []) }
+        requires waiting { Waits ticket place.old.me }
         ensures same { IsSamePlace place.old place.new }
-        ensures turn { (machine : M) × HasTurn M.state M.start M.steps M.may ticket place.old.me.0 machine (Some machine) place.new.me }
+        ensures turn { (machine : M) × HasTurn M.state M.start M.steps M.may ticket place.old.me machine (Some machine) place.new.me }
     {
         let shared = &self.row.shared;
         let mut tries = 0;
