@@ -15,9 +15,9 @@ use Rattle.turn_lock.specs.declared.view.View.{View}
 use Rattle.turn_lock.specs.declared.view.Phase.{Phase}
 use Rattle.turn_lock.specs.declared.view.Phase.TheVariants.{Free, Waiting, InTurn}
 use Rattle.turn_lock.specs.History.{Begins, entries_of, entry, IsRun, IsLegal}
-use Rattle.turn_lock.specs.Standing.{Standing, numbers_of, IsSound, IsNew, all_parts, longer}
+use Rattle.turn_lock.specs.Standing.{Standing, numbers_of, IsSound, IsNew, HasCalled, all_parts}
 use Rattle.turn_lock.specs.Rule.{IsOneWithin, one_if_same, own_claim, claims, tickets, uses, machines, parts_of, Fits, IsKept, first_view}
-use Rattle.turn_lock.specs.Steps.{standing, names, Knows, shorter, with_part_less, IsSeated}
+use Rattle.turn_lock.specs.Steps.{standing, names, Knows, in_turn, with_entries, with_part_less}
 use Rattle.turn_lock.proofs.Histories.{begins_none, legal_front, run_none, begins_nil}
 use Rattle.turn_lock.proofs.Counts.{one_below, two_below, one_there, differ_from_counts}
 
@@ -100,6 +100,25 @@ module _ {C R : Type 0} where
   pub names_seen : (table : TableId) (v : View C R) (n : ℕ) → v.name ≡ Some n → names v ≡ numbers_of (standing table v)
   names_seen table v n name =
       ap (map (λ (j : Joined C R). j.number)) (claims_named v n name) ∙ ap (λ (k : ℕ). k ∷ map (λ (j : Joined C R). j.number) v.joined) (sym (number_named v n name))
+
+  -- of its number, what it did
+  pub own_in : (v : View C R) (n : ℕ) (history : List (Entry C R)) → v.name ≡ Some n → All (λ j. entries_of j.number history ≡ j.mine) (claims v) → entries_of n history ≡ v.mine
+  own_in v n history name done =
+      All-head (λ (j : Joined C R). entries_of j.number history ≡ j.mine) record { number = n; mine = v.mine } v.joined
+      (subst (All (λ (j : Joined C R). entries_of j.number history ≡ j.mine)) (claims_named v n name) done)
+
+  -- a turn, as callers see it
+  pub has_called : (table same : TableId) (v w : View C R) (ticket bound : ℕ) (history : List (Entry C R)) (call : C) (reply : R) → Begins v.seen history → same ≡ table
+      → w ≡ with_entries (entry (unwrap_or v.name 0) call reply ∷ []) (in_turn ticket history bound v) → HasCalled (standing table v) call reply (standing same w)
+  has_called table same v w ticket bound history call reply seen of_table is = record {
+    between = seen.rest;
+    seen = ap (λ (u : View C R). u.seen) is ∙ ap (λ l. l ++ entry (unwrap_or v.name 0) call reply ∷ []) seen.is;
+    mine = ap (λ (u : View C R). u.mine) is;
+    table = of_table;
+    number = ap (λ (u : View C R). unwrap_or u.name 0) is;
+    parts = ap (λ (u : View C R). u.parts) is;
+    joined = ap (λ (u : View C R). u.joined) is;
+  }
 
   -- a number that is at least the bound is new to the seat
   pub new_above : (table : TableId) (v : View C R) (n number : ℕ) → v.name ≡ Some n → All (λ j. j.number < v.bound) (claims v) → All (λ e. e.number < v.bound) v.seen → v.bound ≤ number → IsNew number (standing table v)

@@ -1,5 +1,6 @@
 //! Turns: a ticket is drawn and waited for, the machine answers one call, and the turn is passed on.
 ghost use Rattle.std.specs.Prelude.{◌≡◌, ℕ, ◌+◌, ◌<◌, ◌^◌, [], ◌∷◌, Some, None, unwrap_or};
+ghost use Rattle.turn_lock.specs.Answering.{AnswersAs};
 ghost use Rattle.turn_lock.specs.History.{entry};
 ghost use Rattle.turn_lock.specs.Standing.{Standing, IsSound, HasCalled};
 ghost use Rattle.turn_lock.specs.Steps.{IsSamePlace, IsFree, IsWaiting, Waits, HasTurn, MayEnd, Knows, with_entries};
@@ -31,6 +32,30 @@ impl<M: Machine> Turn<M> {
         let said = Snapshot::of(&call);
         let (ticket, mut machine) = self.take_turn(rt, place);
         let reply = machine.step(alloc, call);
+        let replied = Snapshot::of(&reply);
+        self.end_turn::<Brand>(place, ticket, machine, said, replied);
+        reply
+    }
+
+    /// One call that the closure answers in place of the machine's step, as `turn` says. From every state in which
+    /// the call can be answered it may be called, and what it answers and leaves is a step for this call.
+    pub fn turn_by<R: Wait, F: FnOnce(&mut M, M::Call) -> M::Reply>(
+        &self,
+        rt: &R,
+        seat: &mut Seat<M>,
+        call: M::Call,
+        f: F,
+    ) -> M::Reply
+        requires own { seat.old.table ≡ self.now }
+        requires allowed { M.may seat.old.number seat.old.mine call }
+        requires answers { AnswersAs F.FnOnce M.state M.can M.steps f call }
+        ensures called { HasCalled seat.old call result seat.new }
+        ensures sound { IsSound M.start M.steps M.may seat.new }
+    {
+        let place = &mut seat.place;
+        let said = Snapshot::of(&call);
+        let (ticket, mut machine) = self.take_turn(rt, place);
+        let reply = f(&mut machine, call);
         let replied = Snapshot::of(&reply);
         self.end_turn::<Brand>(place, ticket, machine, said, replied);
         reply
