@@ -14,10 +14,10 @@ use Rattle.turn_lock.specs.declared.entry.Joined.{Joined}
 use Rattle.turn_lock.specs.declared.view.View.{View}
 use Rattle.turn_lock.specs.declared.view.Phase.{Phase}
 use Rattle.turn_lock.specs.declared.view.Phase.TheVariants.{Free, Waiting, InTurn}
-use Rattle.turn_lock.specs.History.{Begins, entries_of, entry, IsRun, IsLegal}
+use Rattle.turn_lock.specs.History.{Begins, entries_of, entry, IsRun, IsLegal, Lawful}
 use Rattle.turn_lock.specs.Standing.{Standing, numbers_of, IsSound, IsNew, HasCalled, all_parts}
 use Rattle.turn_lock.specs.Rule.{IsOneWithin, one_if_same, own_claim, claims, tickets, uses, machines, parts_of, Fits, IsKept, first_view}
-use Rattle.turn_lock.specs.Steps.{standing, names, Knows, in_turn, with_entries, with_part_less}
+use Rattle.turn_lock.specs.Steps.{standing, names, Knows, in_turn, with_entries, with_part_less, HasTurn, MayEnd}
 use Rattle.turn_lock.proofs.Histories.{begins_none, legal_front, run_none, begins_nil}
 use Rattle.turn_lock.proofs.Counts.{one_below, two_below, one_there, differ_from_counts}
 
@@ -139,6 +139,31 @@ module _ {S C R : Type 0} (start : S) (steps : S → C → R → S → Type 0) (
         own_entries = ap (λ (m : ℕ). entries_of m v.seen) (number_named v n name) ∙ All-head (λ (j : Joined C R). entries_of j.number v.seen ≡ j.mine) record { number = n; mine = v.mine } v.joined done;
         joined_entries = All-tail (λ (j : Joined C R). entries_of j.number v.seen ≡ j.mine) record { number = n; mine = v.mine } v.joined done;
         none_else = λ whole. subst (λ (ns : List ℕ). All (λ (e : Entry C R). Contains ns e.number) v.seen) (names_seen table v n name) (k.none_else whole);
+      }
+
+  -- what its seat may ask can be answered, once its turn has come
+  pub can_answer : (can : S → C → Type 0) (table : TableId) (v : View C R) (n : ℕ) (history : List (Entry C R)) (state : S) (call : C) → Lawful start steps can may → v.name ≡ Some n
+      → All (λ j. entries_of j.number history ≡ j.mine) (claims v) → IsRun start steps may history state → (seat : Standing C R) → standing table v ≡ seat → may seat.number seat.mine call → can state call
+  can_answer can table v n history state call lawful name done run seat is allowed =
+      let number = sym (ap (λ (s : Standing C R). s.number) is) ∙ number_named v n name in
+      let mine = sym (ap (λ (s : Standing C R). s.mine) is) ∙ sym (own_in v n history name done) in
+      lawful history state n call run (subst (λ (s : ℕ × List (Entry C R)). may s.0 s.1 call) (λ i. (number i, mine i)) allowed)
+
+  -- a seat whose turn has come may end it with a step for its call
+  pub may_end : {M : Type 0} (state : M → S) (table : TableId) (me after : Me (Option M) (View C R)) (n ticket : ℕ) (call said : C) (reply replied : R) (before machine : M)
+      → me.0.name ≡ Some n → me.1 ≡ [] → HasTurn state start steps may ticket me before None after → (seat : Standing C R) → standing table me.0 ≡ seat → may seat.number seat.mine call
+      → said ≡ call → replied ≡ reply → steps (state before) call reply (state machine) → MayEnd state start steps may ticket said replied machine after
+  may_end state table me after n ticket call said reply replied before machine name empty turn seat is allowed same_call same_reply step =
+      let number = sym (ap (λ (s : Standing C R). s.number) is) ∙ number_named me.0 n name in
+      let mine = sym (ap (λ (s : Standing C R). s.mine) is) ∙ sym (ap (λ m. m.0.mine) turn.me) in record {
+        number = n;
+        name = ap (λ m. m.0.name) turn.me ∙ name;
+        phase = ap (λ m. m.0.phase) turn.me;
+        slot = ap (λ m. m.1) turn.me ∙ ap (λ l. (0, None) ∷ l) empty;
+        allowed = subst (λ (s : ℕ × List (Entry C R) × C). may s.0 s.1 s.2) (λ i. (number i, mine i, sym same_call i)) allowed;
+        before = before;
+        run = subst (λ m. IsRun start steps may m.0.seen (state before)) (sym turn.me) turn.run;
+        step = subst (λ (s : C × R). steps (state before) s.0 s.1 (state machine)) (λ i. (sym same_call i, sym same_reply i)) step;
       }
 
   -- the first seat
