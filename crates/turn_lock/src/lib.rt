@@ -18,5 +18,5 @@ pub use machine::Machine;
 pub use seat::Seat;
 pub use turn::{NoMemory, Turn};
 
-// cfg
-// mod tests;
+#[cfg(test)]
+mod tests;
