@@ -27,17 +27,17 @@ other_is_none m n e = rw (ne_eqb m n e)
 pub one_more : (low high x n n' : ℕ) → low ≤ high → IsOneWithin low high x n → n' ≡ n + one_if_same high x → IsOneWithin low (high + 1) x n'
 one_more low high x n n' order is sum = dite (ℕ_discrete high x)
     (λ here. let one = same_is_one high x here in let old = is.2 (omega arith) in
-      ((λ l h. omega arith), (λ l. absurd (omega arith)), (λ h. absurd (omega arith))))
+    ((λ l h. omega arith), (λ l. absurd (omega arith)), (λ h. absurd (omega arith))))
     (λ other. let none_here = other_is_none high x other in
-      ((λ l h. let old = is.0 l (omega arith) in omega arith), (λ l. let old = is.1 l in omega arith), (λ h. let old = is.2 (omega arith) in omega arith)))
+    ((λ l h. let old = is.0 l (omega arith) in omega arith), (λ l. let old = is.1 l in omega arith), (λ h. let old = is.2 (omega arith) in omega arith)))
 
 -- one less at the low end
 pub one_less : (low high x n n' : ℕ) → low < high → IsOneWithin low high x n → n' + one_if_same low x ≡ n → IsOneWithin (low + 1) high x n'
 one_less low high x n n' order is sum = dite (ℕ_discrete low x)
     (λ here. let one = same_is_one low x here in let old = is.0 (omega arith) (omega arith) in
-      ((λ l h. absurd (omega arith)), (λ l. omega arith), (λ h. absurd (omega arith))))
+    ((λ l h. absurd (omega arith)), (λ l. omega arith), (λ h. absurd (omega arith))))
     (λ other. let none_here = other_is_none low x other in
-      ((λ l h. let old = is.0 (omega arith) h in omega arith), (λ l. let old = is.1 (omega arith) in omega arith), (λ h. let old = is.2 h in omega arith)))
+    ((λ l h. let old = is.0 (omega arith) h in omega arith), (λ l. let old = is.1 (omega arith) in omega arith), (λ h. let old = is.2 h in omega arith)))
 
 pub set_there : {A : Type 0} (l : List A) (i : ℕ) (v w : A) → get_elem? l i ≡ some v → get_elem? (set l i w) i ≡ some w
 set_there [] i v w e = absurd (some-ne-none v (sym e))
@@ -66,10 +66,10 @@ module _ {C R : Type 0} where
       → get_elem? views seat ≡ some v → get_elem? views other ≡ some w → tickets (length history) v ≡ 1 → tickets (length history) w ≡ 1 → seat ≡ other
   served_once history drawn views seat other v w out at there mine theirs = dite (ℕ_discrete seat other) (λ same. same)
       (λ apart. absurd (let two = two_below (tickets (length history)) views seat other v w apart at there in
-        let once = out (length history) in let low = once.0 in let high = once.2 in
-        dite (native.Mathlib.Decide.dec_lt (length history) drawn)
-            (λ lt. let one = low (omega arith) lt in omega arith)
-            (λ ge. let none_out = high (omega arith) in omega arith)))
+      let once = out (length history) in let low = once.0 in let high = once.2 in
+      dite (native.Mathlib.Decide.dec_lt (length history) drawn)
+      (λ lt. let one = low (omega arith) lt in omega arith)
+      (λ ge. let none_out = high (omega arith) in omega arith)))
 
 module _ {M S C R : Type 0} (state : M → S) (start : S) (steps : S → C → R → S → Type 0) (may : ℕ → List (Entry C R) → C → Type 0) where
   abbrev Kept : State (Option M) (View C R) → Type 0

@@ -70,5 +70,5 @@ differ_from_counts {A} number (a ∷ l) h =
     others (b ∷ m) none_there =
         All-cons (λ c. number a ≢ number c) b m
         (λ same. let one : cond {A = ℕ} (eqb (number b) (number a)) 1 0 ≡ 1 = rw (eq-eqb (number b) (number a) (sym same)) in
-          absurd (omega (arith, sum_by-cons (λ c. cond (eqb (number c) (number a)) 1 0) b m)))
+        absurd (omega (arith, sum_by-cons (λ c. cond (eqb (number c) (number a)) 1 0) b m)))
         (others m (omega (arith, sum_by-cons (λ c. cond (eqb (number c) (number a)) 1 0) b m)))

@@ -28,8 +28,8 @@ module _ {C R : Type 0} where
   counted_in n (j ∷ js) h = dite (ℕ_discrete j.number n)
       (λ same. (0, omega arith, same))
       (λ other. let miss : cond {A = ℕ} (eqb j.number n) 1 0 ≡ 0 = rw (ne_eqb j.number n other) in
-        let r = counted_in n js (omega (arith, sum_by-cons (λ (i : Joined C R). cond {A = ℕ} (eqb i.number n) 1 0) j js)) in
-        (suc r.0, omega arith, r.2))
+      let r = counted_in n js (omega (arith, sum_by-cons (λ (i : Joined C R). cond {A = ℕ} (eqb i.number n) 1 0) j js)) in
+      (suc r.0, omega arith, r.2))
 
   -- a seat with all parts is the only one that is not spent
   others_spent : (history : List (Entry C R)) (next : ℕ) (views : List (View C R)) (seat other : ℕ) (v w : View C R)
@@ -46,9 +46,9 @@ module _ {M S C R : Type 0} (state : M → S) (start : S) (steps : S → C → R
   sees_all s r seat v at whole = dite (ℕ_discrete seat r.known.0)
       (λ same. ap (λ (u : View C R). u.seen) (some-injective _ _ (sym at ∙ (ap (get_elem? s.views) same ∙ r.known.2))) ∙ r.known.3)
       (λ other.
-        let spent = (r.each_fits r.known.0 r.known.1 r.known.2).spent (others_spent r.history r.next s.views seat r.known.0 v r.known.1 r.parts_out whole at r.known.2 other) in
-        let empty : r.history ≡ [] = sym r.known.3 ∙ spent.1 in
-        begins_none v.seen (subst (Begins v.seen) empty (r.each_fits seat v at).seen) ∙ sym empty)
+      let spent = (r.each_fits r.known.0 r.known.1 r.known.2).spent (others_spent r.history r.next s.views seat r.known.0 v r.known.1 r.parts_out whole at r.known.2 other) in
+      let empty : r.history ≡ [] = sym r.known.3 ∙ spent.1 in
+      begins_none v.seen (subst (Begins v.seen) empty (r.each_fits seat v at).seen) ∙ sym empty)
 
   -- with all parts, each number of the history is one of the seat's
   all_mine : (s : State (Option M) (View C R)) (r : Kept s) (seat : ℕ) (v : View C R) → get_elem? s.views seat ≡ some v → v.parts ≡ all_parts

@@ -59,9 +59,9 @@ module _ {C R : Type 0} where
   pub both_begin : (xs ys : List (Entry C R)) → Begins (shorter xs ys) (longer xs ys) → Begins xs (longer xs ys) × Begins ys (longer xs ys)
   both_begin xs ys b = dite (dec_lt (length xs) (length ys))
       (λ lt. let is = lt-ltb (length xs) (length ys) lt in let short = subst (λ t. Begins (cond t xs ys) (cond t ys xs)) is b in
-        (subst (λ t. Begins xs (cond t ys xs)) (sym is) short, subst (λ t. Begins ys (cond t ys xs)) (sym is) (begins_self ys)))
+      (subst (λ t. Begins xs (cond t ys xs)) (sym is) short, subst (λ t. Begins ys (cond t ys xs)) (sym is) (begins_self ys)))
       (λ ge. let is = le-ltb (length xs) (length ys) (omega arith) in let short = subst (λ t. Begins (cond t xs ys) (cond t ys xs)) is b in
-        (subst (λ t. Begins xs (cond t ys xs)) (sym is) (begins_self xs), subst (λ t. Begins ys (cond t ys xs)) (sym is) short))
+      (subst (λ t. Begins xs (cond t ys xs)) (sym is) (begins_self xs), subst (λ t. Begins ys (cond t ys xs)) (sym is) short))
 
   -- what holds of each entry of both holds of each of the longer
   all_longer : (P : Entry C R → Type 0) (xs ys : List (Entry C R)) → All P xs → All P ys → All P (longer xs ys)
@@ -200,7 +200,7 @@ module _ {M S C R : Type 0} (state : M → S) (start : S) (steps : S → C → R
       let mine : Joined C R = record { number = r.next; mine = v.mine } in
       let known_fits = r.each_fits r.known.0 r.known.1 r.known.2 in
       let all_below = subst (All (λ (e : Entry C R). e.number < r.next)) r.known.3
-          (All-weaker (λ (e : Entry C R). e.number < r.known.1.bound) (λ (e : Entry C R). e.number < r.next) (λ e below. let b = known_fits.bound in omega arith) r.known.1.seen known_fits.entries_below) in
+      (All-weaker (λ (e : Entry C R). e.number < r.known.1.bound) (λ (e : Entry C R). e.number < r.next) (λ e below. let b = known_fits.bound in omega arith) r.known.1.seen known_fits.entries_below) in
       let seen_below = All-weaker (λ (e : Entry C R). e.number < v.bound) (λ (e : Entry C R). e.number < r.next) (λ e below. let b = fits.bound in omega arith) v.seen fits.entries_below in
       let nothing_done = none_of r.next r.history (λ k d lt same. let b = all_below k d lt in omega arith) ∙ sym new.mine in
       let nothing_seen = none_of r.next v.seen (λ k d lt same. let b = seen_below k d lt in omega arith) ∙ sym new.mine in
@@ -229,23 +229,23 @@ module _ {M S C R : Type 0} (state : M → S) (start : S) (steps : S → C → R
       counted x v none_yet empty sum =
           let before : uses x v ≡ 0 = ap (λ (o : Option ℕ). count_by (λ (j : Joined C R). eqb j.number x) (own_claim o v.mine ++ v.joined)) none_yet ∙ ap (λ (js : List (Joined C R)). count_by (λ (j : Joined C R). eqb j.number x) js) empty in
           let after : uses x (with_name r.next v) ≡ one_if_same r.next x + 0 =
-              sum_by-cons (λ (j : Joined C R). cond {A = ℕ} (eqb j.number x) 1 0) record { number = r.next; mine = v.mine } v.joined
-              ∙ ap (λ (js : List (Joined C R)). one_if_same r.next x + count_by (λ (j : Joined C R). eqb j.number x) js) empty in
+          sum_by-cons (λ (j : Joined C R). cond {A = ℕ} (eqb j.number x) 1 0) record { number = r.next; mine = v.mine } v.joined
+          ∙ ap (λ (js : List (Joined C R)). one_if_same r.next x + count_by (λ (j : Joined C R). eqb j.number x) js) empty in
           omega arith
 
   pub numbers : (slots id : ℕ) (me : Me (Option M) (View C R)) (old : ℕ) → IsUnnamed me
       → Allows Kept slots id me 2 (λ n. either (eqb n old) (old + 1) n) (Numbers state start steps may (step slots 2 old (old + 1) none) me)
   numbers slots id me old new s r _ at _ = rw r.words (dite (ℕ_discrete r.next old)
       (λ hit.
-        let w = with_name r.next me.0 in
-        let kept = named_kept s r id me at new in (
-          w,
-          keeps,
-          tt,
-          subst (λ (b : ℕ). Kept record { words = r.drawn ∷ length r.history ∷ b ∷ []; homes = s.homes; views = set s.views id w })
-              (sym (ap (λ b. either b (old + 1) r.next) (eq-eqb r.next old hit) ∙ ap (λ k. k + 1) (sym hit))) kept,
-          ((λ _. (refl, (r.each_fits id me.0 at).bound, knows state start steps may record { words = r.drawn ∷ length r.history ∷ (r.next + 1) ∷ []; homes = s.homes; views = set s.views id w } kept id w (set_there s.views id me.0 w at))), (λ miss. absurd (miss hit))),
-        ))
+      let w = with_name r.next me.0 in
+      let kept = named_kept s r id me at new in (
+        w,
+        keeps,
+        tt,
+        subst (λ (b : ℕ). Kept record { words = r.drawn ∷ length r.history ∷ b ∷ []; homes = s.homes; views = set s.views id w })
+            (sym (ap (λ b. either b (old + 1) r.next) (eq-eqb r.next old hit) ∙ ap (λ k. k + 1) (sym hit))) kept,
+        ((λ _. (refl, (r.each_fits id me.0 at).bound, knows state start steps may record { words = r.drawn ∷ length r.history ∷ (r.next + 1) ∷ []; homes = s.homes; views = set s.views id w } kept id w (set_there s.views id me.0 w at))), (λ miss. absurd (miss hit))),
+      ))
       (λ miss. (
         me.0,
         keeps,
@@ -336,19 +336,19 @@ module _ {M S C R : Type 0} (state : M → S) (start : S) (steps : S → C → R
       known_now = dite (ℕ_discrete r.known.0 id)
           (λ same. (id, merged v u, here_now, sees_whole v.seen lists.left (ap (λ (x : View C R). x.seen) (some-injective _ _ (sym at ∙ (ap (get_elem? s.views) (sym same) ∙ r.known.2))) ∙ r.known.3)))
           (λ not_id. dite (ℕ_discrete r.known.0 other)
-            (λ same. (id, merged v u, here_now, sees_whole u.seen lists.right (ap (λ (x : View C R). x.seen) (some-injective _ _ (sym there ∙ (ap (get_elem? s.views) (sym same) ∙ r.known.2))) ∙ r.known.3)))
-            (λ not_other. (r.known.0, r.known.1, set_else (set s.views id (merged v u)) other r.known.0 spent not_other ∙ (set_else s.views id r.known.0 (merged v u) not_id ∙ r.known.2), r.known.3)))
+          (λ same. (id, merged v u, here_now, sees_whole u.seen lists.right (ap (λ (x : View C R). x.seen) (some-injective _ _ (sym there ∙ (ap (get_elem? s.views) (sym same) ∙ r.known.2))) ∙ r.known.3)))
+          (λ not_other. (r.known.0, r.known.1, set_else (set s.views id (merged v u)) other r.known.0 spent not_other ∙ (set_else s.views id r.known.0 (merged v u) not_id ∙ r.known.2), r.known.3)))
 
   -- the table at the end: the machine is in its slot, at the run of what the last seat has seen
   pub closes : (id : ℕ) (v : View C R) (ws : List ℕ) (xs : List (Option M)) → v.parts ≡ all_parts → v.phase ≡ Free → Final (Seen Kept id v) ws xs
       → (machine : M) × (get_elem? xs 0 ≡ some (Some machine)) × IsRun start steps may v.seen (state machine)
   closes id v ws xs whole free (s, (r, at), words, count, values) = ⊎_elim
       (λ (out : (s.homes ≡ none ∷ []) × (sum_by machines s.views ≡ 1)). absurd (
-        let user = one_there machines s.views (let one = out.1 in omega arith) in
-        let free_user : machines user.1 ≡ 0 = dite (ℕ_discrete id user.0)
-            (λ same. ap machines (some-injective _ _ (sym user.2 ∙ (ap (get_elem? s.views) (sym same) ∙ at))) ∙ ap machines_in free)
-            (λ other. spent_free r.history r.next user.1 (r.each_fits user.0 user.1 user.2) (let two = two_below parts_of s.views id user.0 v user.1 other at user.2 in let all = r.parts_out in omega arith)) in
-        let has = user.3 in omega arith))
+      let user = one_there machines s.views (let one = out.1 in omega arith) in
+      let free_user : machines user.1 ≡ 0 = dite (ℕ_discrete id user.0)
+      (λ same. ap machines (some-injective _ _ (sym user.2 ∙ (ap (get_elem? s.views) (sym same) ∙ at))) ∙ ap machines_in free)
+      (λ other. spent_free r.history r.next user.1 (r.each_fits user.0 user.1 user.2) (let two = two_below parts_of s.views id user.0 v user.1 other at user.2 in let all = r.parts_out in omega arith)) in
+      let has = user.3 in omega arith))
       (λ (home : (m : M) × (s.homes ≡ some (Some m) ∷ []) × IsRun start steps may r.history (state m) × (sum_by machines s.views ≡ 0)). (
         home.0,
         values 0 (Some home.0) (ap (λ hs. get_elem? hs 0) home.1),

@@ -88,9 +88,9 @@ module _ {M S C R : Type 0} (state : M → S) (start : S) (steps : S → C → R
           done_seen = f.done_seen;
           unnamed = f.unnamed;
           in_turn = λ t now. absurd (
-            let both = f.in_turn t now in
-            let theirs : tickets (length r.history) u ≡ 1 = ap (tickets_in (length r.history)) now ∙ same_is_one t (length r.history) both.0 in
-            apart (served_once r.history r.drawn s.views j id u v r.tickets_out there at theirs mine_served));
+              let both = f.in_turn t now in
+              let theirs : tickets (length r.history) u ≡ 1 = ap (tickets_in (length r.history)) now ∙ same_is_one t (length r.history) both.0 in
+              apart (served_once r.history r.drawn s.views j id u v r.tickets_out there at theirs mine_served));
           bound = f.bound;
           numbers_below = f.numbers_below;
           entries_below = f.entries_below;
@@ -110,10 +110,10 @@ module _ {M S C R : Type 0} (state : M → S) (start : S) (steps : S → C → R
         let mine : Joined C R = record { number = n; mine = v.mine } in
         let more : Joined C R = record { number = n; mine = v.mine ++ e ∷ [] } in
         let all_done : All (λ (j : Joined C R). entries_of j.number after ≡ j.mine) (claims w) =
-            subst (All (λ (j : Joined C R). entries_of j.number after ≡ j.mine)) (sym claims_after)
-            (All-cons (λ (j : Joined C R). entries_of j.number after ≡ j.mine) more v.joined
-            (own_more n r.history v.mine e (All-head (λ (j : Joined C R). entries_of j.number r.history ≡ j.mine) mine v.joined done) own)
-            (others_same r.history e v.joined (apart_from v.joined joined_lack) (All-tail (λ (j : Joined C R). entries_of j.number r.history ≡ j.mine) mine v.joined done))) in
+        subst (All (λ (j : Joined C R). entries_of j.number after ≡ j.mine)) (sym claims_after)
+        (All-cons (λ (j : Joined C R). entries_of j.number after ≡ j.mine) more v.joined
+        (own_more n r.history v.mine e (All-head (λ (j : Joined C R). entries_of j.number r.history ≡ j.mine) mine v.joined done) own)
+        (others_same r.history e v.joined (apart_from v.joined joined_lack) (All-tail (λ (j : Joined C R). entries_of j.number r.history ≡ j.mine) mine v.joined done))) in
         let seen_now : w.seen ≡ after = ap (λ l. l ++ e ∷ []) sees in record {
           seen = subst (λ l. Begins l after) (sym seen_now) (begins_self after);
           done = all_done;
@@ -142,14 +142,14 @@ module _ {M S C R : Type 0} (state : M → S) (start : S) (steps : S → C → R
       out_now = ⊎_elim
           (λ (out : (s.homes ≡ none ∷ []) × (sum_by machines s.views ≡ 1)). out.0)
           (λ (home : (m : M) × (s.homes ≡ some (Some m) ∷ []) × IsRun start steps may r.history (state m) × (sum_by machines s.views ≡ 0)).
-            absurd (let has : machines v ≡ 1 = ap machines_in phase in let none_out = home.3 in let one = one_below machines s.views id v at in omega arith))
+          absurd (let has : machines v ≡ 1 = ap machines_in phase in let none_out = home.3 in let one = one_below machines s.views id v at in omega arith))
           r.slot
 
       one_machine : sum_by machines s.views ≡ 1
       one_machine = ⊎_elim
           (λ (out : (s.homes ≡ none ∷ []) × (sum_by machines s.views ≡ 1)). out.1)
           (λ (home : (m : M) × (s.homes ≡ some (Some m) ∷ []) × IsRun start steps may r.history (state m) × (sum_by machines s.views ≡ 0)).
-            absurd (let has : machines v ≡ 1 = ap machines_in phase in let none_out = home.3 in let one = one_below machines s.views id v at in omega arith))
+          absurd (let has : machines v ≡ 1 = ap machines_in phase in let none_out = home.3 in let one = one_below machines s.views id v at in omega arith))
           r.slot
 
       pub passed_kept : Kept record { words = r.drawn ∷ length after ∷ r.next ∷ []; homes = set s.homes 0 (some (Some machine)); views = set s.views id w }
@@ -171,8 +171,12 @@ module _ {M S C R : Type 0} (state : M → S) (start : S) (steps : S → C → R
                 (one_less (length r.history) r.drawn t (sum_by (tickets t) s.views) (sum_by (tickets t) (set s.views id w)) left (r.tickets_out t) (omega arith));
             numbers_out = λ x. subst (IsOneWithin 0 r.next x) (sym (sum_same (uses x) s.views id v w at (same_use x))) (r.numbers_out x);
             parts_out = sum_same parts_of s.views id v w at refl ∙ r.parts_out;
-            slot = inr (machine, ap (λ hs. set hs 0 (some (Some machine))) out_now, run_after,
-              let sum = sum_set machines s.views id v w at in let had : machines v ≡ 1 = ap machines_in phase in let one = one_machine in omega arith);
+            slot = inr (
+              machine,
+              ap (λ hs. set hs 0 (some (Some machine))) out_now,
+              run_after,
+              let sum = sum_set machines s.views id v w at in let had : machines v ≡ 1 = ap machines_in phase in let one = one_machine in omega arith,
+            );
             each_fits = each_set (Fits after r.next) s.views id w own_fits other_fits;
           }
         where

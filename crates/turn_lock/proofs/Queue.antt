@@ -45,8 +45,8 @@ module _ {M S C R : Type 0} (state : M → S) (start : S) (steps : S → C → R
         spent = fits.spent;
       }
       (λ t. let none_before : tickets t v ≡ 0 = ap (tickets_in t) free in
-        let sum = sum_set (tickets t) s.views id v w at in
-        one_more (length r.history) r.drawn t (sum_by (tickets t) s.views) (sum_by (tickets t) (set s.views id w)) order (r.tickets_out t) (omega arith))
+      let sum = sum_set (tickets t) s.views id v w at in
+      one_more (length r.history) r.drawn t (sum_by (tickets t) s.views) (sum_by (tickets t) (set s.views id w)) order (r.tickets_out t) (omega arith))
       (λ x. subst (IsOneWithin 0 r.next x) (sym (sum_same (uses x) s.views id v w at refl)) (r.numbers_out x))
       (subst (FitsSlot state start steps may s.homes r.history) (sym (sum_same machines s.views id v w at (sym (ap machines_in free)))) r.slot)
 
@@ -77,8 +77,8 @@ module _ {M S C R : Type 0} (state : M → S) (start : S) (steps : S → C → R
       → (machine : M) × (s.homes ≡ some (Some machine) ∷ []) × IsRun start steps may r.history (state machine) × (sum_by machines s.views ≡ 0)
   home_at s r id v at waits = ⊎_elim
       (λ (out : (s.homes ≡ none ∷ []) × (sum_by machines s.views ≡ 1)). absurd (
-        let user = one_there machines s.views (let one = out.1 in omega arith) in
-        clash user.0 user.1 user.2 user.3 user.1.phase refl))
+      let user = one_there machines s.views (let one = out.1 in omega arith) in
+      clash user.0 user.1 user.2 user.3 user.1.phase refl))
       (λ (home : (machine : M) × (s.homes ≡ some (Some machine) ∷ []) × IsRun start steps may r.history (state machine) × (sum_by machines s.views ≡ 0)). home)
       r.slot
     where
@@ -128,17 +128,17 @@ module _ {M S C R : Type 0} (state : M → S) (start : S) (steps : S → C → R
       → Allows Kept slots id me 1 (λ n. n) (Serves state start steps may (step slots 1 0 0 none) me)
   serves slots id me ticket m waits name s r _ at _ = rw r.words (dite (ℕ_discrete (length r.history) ticket)
       (λ hit.
-        let now : me.0.phase ≡ Waiting (length r.history) = waits ∙ ap Waiting (sym hit) in
-        let home = home_at s r id me.0 at now in (
-          in_turn (length r.history) r.history r.next me.0,
-          takes 0 (Some home.0),
-          ap (λ hs. get_elem? hs 0) home.1,
-          served_kept s r id me.0 m at now name,
-          record {
-            served = λ _. (home.0, record { history = r.history; bound = r.next; me = refl; seen = (r.each_fits id me.0 at).seen; done = (r.each_fits id me.0 at).done; run = home.2 });
-            others = λ t waits_too other. absurd (other (let e : Waiting ticket ≡ Waiting t = sym waits ∙ waits_too in let k : ticket ≡ t = cc in hit ∙ k));
-          },
-        ))
+      let now : me.0.phase ≡ Waiting (length r.history) = waits ∙ ap Waiting (sym hit) in
+      let home = home_at s r id me.0 at now in (
+        in_turn (length r.history) r.history r.next me.0,
+        takes 0 (Some home.0),
+        ap (λ hs. get_elem? hs 0) home.1,
+        served_kept s r id me.0 m at now name,
+        record {
+          served = λ _. (home.0, record { history = r.history; bound = r.next; me = refl; seen = (r.each_fits id me.0 at).seen; done = (r.each_fits id me.0 at).done; run = home.2 });
+          others = λ t waits_too other. absurd (other (let e : Waiting ticket ≡ Waiting t = sym waits ∙ waits_too in let k : ticket ≡ t = cc in hit ∙ k));
+        },
+      ))
       (λ miss. (
         me.0,
         keeps,

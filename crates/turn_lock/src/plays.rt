@@ -57,10 +57,8 @@ pub struct PassOn<M, K> {
     added: PhantomData<K>,
 }
 
-impl<M: Machine, K: Added<M::Call, M::Reply>> Play<Option<M>, View<M::Call, M::Reply>> for PassOn<
-    M,
-    K,
-> {
+impl<M: Machine, K: Added<M::Call, M::Reply>> Play<Option<M>, View<M::Call, M::Reply>>
+    for PassOn<M, K> {
     ghost use Rattle.turn_lock.specs.Steps.{PassesOn};
 
     ghost then = { PassesOn M.state M.start M.steps M.may K.added };

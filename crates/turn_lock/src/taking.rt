@@ -22,19 +22,24 @@ const TRIES: u32 = 50;
 impl<M: Machine> Turn<M> {
     /// One call, in the seat's turn, for which it may wait. The history grows by this one entry: the seat has then
     /// seen the history up to it, and it is the last of the seat's own.
-    pub fn turn<R: Wait>(&self, rt: &R, alloc: Global, seat: &mut Seat<M>, call: M::Call) -> M::Reply
+    pub fn turn<R: Wait>(
+        &self,
+        rt: &R,
+        alloc: Global,
+        seat: &mut Seat<M>,
+        call: M::Call,
+    ) -> M::Reply
         requires own { seat.old.table ≡ self.now }
         requires allowed { M.may seat.old.number seat.old.mine call }
         ensures called { HasCalled seat.old call result seat.new }
         ensures sound { IsSound M.start M.steps M.may seat.new }
     {
-        let place = &mut seat.place;
-        let said = Snapshot::of(&call);
-        let (ticket, mut machine) = self.take_turn(rt, place);
-        let reply = machine.step(alloc, call);
-        let replied = Snapshot::of(&reply);
-        self.end_turn::<Brand>(place, ticket, machine, said, replied);
-        reply
+        self.turn_by(
+            rt,
+            seat,
+            call,
+            |machine: &mut M, call: M::Call| machine.step(alloc, call),
+        )
     }
 
     /// One call that the closure answers in place of the machine's step, as `turn` says. From every state in which
@@ -71,7 +76,7 @@ impl<M: Machine> Turn<M> {
     {
         let ticket = self.draw(rt, place);
         self.wait_for(rt, place, ticket);
-        let Some(machine) = self.row.shared.exchange(place, 0, None) else {
+        let Some(machine) = self.table.shared.exchange(place, 0, None) else {
             unreachable!()
         };
         (ticket, machine)
@@ -85,7 +90,7 @@ impl<M: Machine> Turn<M> {
         ensures room { result + 1 < 2 ^ 64 }
         ensures waiting { IsWaiting result place.old.me place.new.me }
     {
-        let shared = &self.row.shared;
+        let shared = &self.table.shared;
         for _ in rt.forever() {
             let next = shared.peek(TICKETS);
             if next < u64::MAX
@@ -105,7 +110,7 @@ impl<M: Machine> Turn<M> {
         ensures same { IsSamePlace place.old place.new }
         ensures turn { (machine : M) × HasTurn M.state M.start M.steps M.may ticket place.old.me machine (Some machine) place.new.me }
     {
-        let shared = &self.row.shared;
+        let shared = &self.table.shared;
         let mut tries = 0;
         for _ in rt.forever() {
             if shared.load::<Serve<M>>(place, SERVED) == ticket {
@@ -138,7 +143,7 @@ impl<M: Machine> Turn<M> {
         ensures passed { place.new.me ≡ (with_entries K.added place.old.me.0, []) }
         ensures knows { Knows M.start M.steps M.may place.new.me.0 }
     {
-        let shared = &self.row.shared;
+        let shared = &self.table.shared;
         shared.exchange(place, 0, Some(machine));
         shared.store::<PassOn<M, K>>(place, SERVED, ticket + 1);
     }

@@ -144,8 +144,20 @@ fn count_of<R: Threads + Wait + Sync>(rt: &R, alloc: Global, clerks: u32) -> Res
     let turns = 10_000;
     let others = if clerks == 2 { 0 } else { turns };
     let office = Office { lock };
-    let left = (Clerk { seat: first, turns }, Clerk { seat: three, turns: others });
-    let right = (Clerk { seat: two, turns }, Clerk { seat: four, turns: others });
+    let left = (
+        Clerk { seat: first, turns },
+        Clerk {
+            seat: three,
+            turns: others,
+        },
+    );
+    let right = (
+        Clerk { seat: two, turns },
+        Clerk {
+            seat: four,
+            turns: others,
+        },
+    );
     let seat = work_all(rt, alloc, &office, left, right).ok_or("the replies rise")?;
     let Office { lock } = office;
     Ok(lock.close(seat).count)

@@ -28,12 +28,12 @@ pub(crate) const NUMBERS: usize = 2;
 pub struct NoMemory;
 
 /// Words, a slot for the machine, and the seats' views.
-pub(crate) type Row<M, C, R> = Table<Option<M>, View<C, R>, (), Order<M>, Global>;
+pub(crate) type Slotted<M, C, R> = Table<Option<M>, View<C, R>, (), Order<M>, Global>;
 
 /// A machine that is taken in turns. Contracts see it as the identity of its table, which its seats share.
 #[derive(Drop)]
 pub struct Turn<M: Machine> {
-    pub(crate) row: Row<M, M::Call, M::Reply>,
+    pub(crate) table: Slotted<M, M::Call, M::Reply>,
 }
 
 impl<M: Machine> Model for Turn<M> {
@@ -44,9 +44,9 @@ impl<M: Machine> Model for Turn<M> {
 
     ghost coded = { table_id_coded };
 
-    ghost view = { λ t. t.row.shared.table_id };
+    ghost view = { λ t. t.table.shared.table_id };
 
-    ghost invariant = { λ t. (t.row.shared.table_id.words ≡ 3) × (t.row.shared.table_id.slots ≡ 1) };
+    ghost invariant = { λ t. (t.table.shared.table_id.words ≡ 3) × (t.table.shared.table_id.slots ≡ 1) };
 }
 
 impl<M: Machine> Turn<M> {
@@ -62,7 +62,7 @@ impl<M: Machine> Turn<M> {
             return Err(NoMemory);
         }
         match Table::new(alloc, &[0, 0, 1], slots, &()) {
-            Ok((row, place)) => Ok((Turn { row }, Seat { place })),
+            Ok((table, place)) => Ok((Turn { table }, Seat { place })),
             Err(_) => Err(NoMemory),
         }
     }
@@ -78,7 +78,7 @@ impl<M: Machine> Turn<M> {
         ensures sound { IsSound M.start M.steps M.may result × IsSound M.start M.steps M.may seat.new }
     {
         let place = &mut seat.place;
-        let mut other = self.row.shared.split_seat::<OnePart>(place);
+        let mut other = self.table.shared.split_seat::<OnePart>(place);
         self.draw_number(rt, &mut other);
         Seat { place: other }
     }
@@ -90,7 +90,7 @@ impl<M: Machine> Turn<M> {
         ensures same { IsSamePlace place.old place.new }
         ensures named { HasDrawn M.start M.steps M.may place.old.me place.new.me }
     {
-        let shared = &self.row.shared;
+        let shared = &self.table.shared;
         for _ in rt.forever() {
             let next = shared.peek(NUMBERS);
             if next < u64::MAX
@@ -115,8 +115,8 @@ impl<M: Machine> Turn<M> {
     {
         let Seat { place: other } = other;
         let place = &mut seat.place;
-        self.row.shared.join_seat::<Merge>(place, other);
-        self.row.shared.load::<Look<M>>(place, TICKETS);
+        self.table.shared.join_seat::<Merge>(place, other);
+        self.table.shared.load::<Look<M>>(place, TICKETS);
     }
 
     /// Hands the machine out, at the run of the whole history. The seat has all parts, so every other seat was joined
@@ -126,14 +126,12 @@ impl<M: Machine> Turn<M> {
         requires whole { seat.parts ≡ all_parts }
         ensures { IsRun M.start M.steps M.may seat.seen (M.state result) }
     {
-        let Turn { row } = self;
+        let Turn { table } = self;
         let Seat { place } = seat;
-        let mut closed = row.close_with(place);
+        let mut closed = table.close_with(place);
         let home = closed.take(0);
         closed.free();
-        let Some(machine) = home else {
-            unreachable!()
-        };
+        let Some(machine) = home else { unreachable!() };
         machine
     }
 }
