@@ -11,7 +11,7 @@ use Rattle.turn_lock.specs.declared.entry.Entry.{Entry}
 use Rattle.turn_lock.specs.declared.view.View.{View}
 use Rattle.turn_lock.specs.declared.view.Phase.{Phase}
 use Rattle.turn_lock.specs.declared.view.Phase.TheVariants.{Free, Waiting, InTurn}
-use Rattle.turn_lock.specs.History.{Begins, IsRun, IsLegal}
+use Rattle.turn_lock.specs.History.{Begins, IsRun, IsLegal, StepRelation, Permission}
 use Rattle.turn_lock.specs.Rule.{IsOneWithin, one_if_same, tickets_in, machines_in, claims, tickets, uses, machines, parts_of, Fits, FitsSlot, IsKept}
 use Rattle.turn_lock.specs.Steps.{Knows, Looks}
 use Rattle.turn_lock.proofs.Counts.{sum_set, sum_same, one_below, two_below, one_there, each_set}
@@ -71,7 +71,7 @@ module _ {C R : Type 0} where
       (λ lt. let one = low (omega arith) lt in omega arith)
       (λ ge. let none_out = high (omega arith) in omega arith)))
 
-module _ {M S C R : Type 0} (state : M → S) (start : S) (steps : S → C → R → S → Type 0) (may : ℕ → List (Entry C R) → C → Type 0) where
+module _ {M S C R : Type 0} (state : M → S) (start : S) (steps : StepRelation S C R) (may : Permission C R) where
   abbrev Kept : State (Option M) (View C R) → Type 0
   Kept = IsKept state start steps may
 

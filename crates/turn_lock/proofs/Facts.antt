@@ -14,7 +14,7 @@ use Rattle.turn_lock.specs.declared.entry.Joined.{Joined}
 use Rattle.turn_lock.specs.declared.view.View.{View}
 use Rattle.turn_lock.specs.declared.view.Phase.{Phase}
 use Rattle.turn_lock.specs.declared.view.Phase.TheVariants.{Free, Waiting, InTurn}
-use Rattle.turn_lock.specs.History.{Begins, entries_of, entry, IsRun, IsLegal, Lawful}
+use Rattle.turn_lock.specs.History.{Begins, entries_of, entry, IsRun, IsLegal, Lawful, StepRelation, Permission}
 use Rattle.turn_lock.specs.Standing.{Standing, numbers_of, IsSound, IsNew, HasCalled, all_parts}
 use Rattle.turn_lock.specs.Rule.{IsOneWithin, one_if_same, own_claim, claims, tickets, uses, machines, parts_of, Fits, IsKept, first_view}
 use Rattle.turn_lock.specs.Steps.{standing, names, Knows, in_turn, with_entries, with_part_less, HasTurn, MayEnd}
@@ -37,7 +37,7 @@ module _ {C R : Type 0} where
   others_spent history next views seat other v w total mine at there apart =
       let both = two_below parts_of views seat other v w apart at there in omega arith
 
-module _ {M S C R : Type 0} (state : M → S) (start : S) (steps : S → C → R → S → Type 0) (may : ℕ → List (Entry C R) → C → Type 0) where
+module _ {M S C R : Type 0} (state : M → S) (start : S) (steps : StepRelation S C R) (may : Permission C R) where
   abbrev Kept : State (Option M) (View C R) → Type 0
   Kept = IsKept state start steps may
 
@@ -128,7 +128,7 @@ module _ {C R : Type 0} where
     above_entries = All-weaker (λ (e : Entry C R). e.number < v.bound) (λ (e : Entry C R). e.number < number) (λ e below. omega arith) v.seen entries;
   }
 
-module _ {S C R : Type 0} (start : S) (steps : S → C → R → S → Type 0) (may : ℕ → List (Entry C R) → C → Type 0) where
+module _ {S C R : Type 0} (start : S) (steps : StepRelation S C R) (may : Permission C R) where
   -- what callers are told of a seat follows from what its view knows
   pub sound : (table : TableId) (v : View C R) (n : ℕ) → v.name ≡ Some n → Knows start steps may v → IsSound start steps may (standing table v)
   sound table v n name k =

@@ -3,7 +3,7 @@ use Rattle.std.proofs.Common.{◌≡◌, ◌≢◌, ℕ, zero, suc, ◌+◌, ◌
 use Rattle.std.proofs.lemmas.List.{append-nil}
 use Rattle.std.proofs.lemmas.List.Elements.{filter-append}
 use Rattle.turn_lock.specs.declared.entry.Entry.{Entry}
-use Rattle.turn_lock.specs.History.{Begins, entries_of, entry, Leads, EachAllowed, IsRun, IsLegal}
+use Rattle.turn_lock.specs.History.{Begins, entries_of, entry, Leads, EachAllowed, IsRun, IsLegal, StepRelation, Permission}
 
 module _ {X : Type 0} where
   pub begins_self : (xs : List X) → Begins xs xs
@@ -77,7 +77,7 @@ module _ {C R : Type 0} where
   none_of n [] h = refl
   none_of n (x ∷ xs) h = rw (ne_eqb x.number n (h 0 x (omega arith))) (none_of n xs (λ k d l. h (suc k) d (omega arith)))
 
-module _ {S C R : Type 0} (steps : S → C → R → S → Type 0) where
+module _ {S C R : Type 0} (steps : StepRelation S C R) where
   pub leads_more : (from mid to : S) (xs : List (Entry C R)) (e : Entry C R) → Leads steps from xs mid → steps mid e.call e.reply to → Leads steps from (xs ++ e ∷ []) to
   leads_more from mid to [] e l s = (to, subst (λ (z : S). steps z e.call e.reply to) (sym l) s, refl)
   leads_more from mid to (x ∷ xs) e l s = (l.0, l.1, leads_more l.0 mid to xs e l.2 s)
@@ -86,7 +86,7 @@ module _ {S C R : Type 0} (steps : S → C → R → S → Type 0) where
   leads_front from to [] ys l = (from, refl)
   leads_front from to (x ∷ xs) ys l = let r = leads_front l.0 to xs ys l.2 in (r.0, (l.0, l.1, r.1))
 
-module _ {C R : Type 0} (may : ℕ → List (Entry C R) → C → Type 0) where
+module _ {C R : Type 0} (may : Permission C R) where
   allowed_more : (before xs : List (Entry C R)) (e : Entry C R) → EachAllowed may before xs → may e.number (entries_of e.number (before ++ xs)) e.call → EachAllowed may before (xs ++ e ∷ [])
   allowed_more before [] e a m = (subst (λ l. may e.number (entries_of e.number l) e.call) (append-nil before) m, tt)
   allowed_more before (x ∷ xs) e a m = (a.0, allowed_more (before ++ x ∷ []) xs e a.1 (subst (λ l. may e.number (entries_of e.number l) e.call) (sym (append_assoc before (x ∷ []) xs)) m))
@@ -95,7 +95,7 @@ module _ {C R : Type 0} (may : ℕ → List (Entry C R) → C → Type 0) where
   allowed_front before [] ys a = tt
   allowed_front before (x ∷ xs) ys a = (a.0, allowed_front (before ++ x ∷ []) xs ys a.1)
 
-module _ {S C R : Type 0} (start : S) (steps : S → C → R → S → Type 0) (may : ℕ → List (Entry C R) → C → Type 0) where
+module _ {S C R : Type 0} (start : S) (steps : StepRelation S C R) (may : Permission C R) where
   -- a run goes on with an allowed step
   pub run_more : (xs : List (Entry C R)) (mid to : S) (e : Entry C R) → IsRun start steps may xs mid → may e.number (entries_of e.number xs) e.call → steps mid e.call e.reply to → IsRun start steps may (xs ++ e ∷ []) to
   run_more xs mid to e r m s = record { allowed = allowed_more may [] xs e r.allowed m; leads = leads_more steps start mid to xs e r.leads s }

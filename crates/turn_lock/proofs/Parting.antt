@@ -17,7 +17,7 @@ use Rattle.turn_lock.specs.declared.entry.Joined.{Joined}
 use Rattle.turn_lock.specs.declared.view.View.{View}
 use Rattle.turn_lock.specs.declared.view.Phase.{Phase}
 use Rattle.turn_lock.specs.declared.view.Phase.TheVariants.{Free, Waiting, InTurn}
-use Rattle.turn_lock.specs.History.{Begins, entries_of, IsRun, IsLegal}
+use Rattle.turn_lock.specs.History.{Begins, entries_of, IsRun, IsLegal, StepRelation, Permission}
 use Rattle.turn_lock.specs.Standing.{all_parts, longer}
 use Rattle.turn_lock.specs.Rule.{IsOneWithin, one_if_same, tickets_in, machines_in, own_claim, claims, tickets, uses, machines, parts_of, Fits, FitsSlot, IsKept, first_view}
 use Rattle.turn_lock.specs.Steps.{with_name, with_part_less, unnamed, merged, shorter, spent, Numbers, Knows, IsUnnamed}
@@ -91,7 +91,7 @@ module _ {C R : Type 0} where
     spent = λ _. (refl, refl);
   }
 
-module _ {M S C R : Type 0} (state : M → S) (start : S) (steps : S → C → R → S → Type 0) (may : ℕ → List (Entry C R) → C → Type 0) where
+module _ {M S C R : Type 0} (state : M → S) (start : S) (steps : StepRelation S C R) (may : Permission C R) where
   abbrev Kept : State (Option M) (View C R) → Type 0
   Kept = IsKept state start steps may
 

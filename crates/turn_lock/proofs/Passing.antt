@@ -13,7 +13,7 @@ use Rattle.turn_lock.specs.declared.entry.Joined.{Joined}
 use Rattle.turn_lock.specs.declared.view.View.{View}
 use Rattle.turn_lock.specs.declared.view.Phase.{Phase}
 use Rattle.turn_lock.specs.declared.view.Phase.TheVariants.{Free, Waiting, InTurn}
-use Rattle.turn_lock.specs.History.{Begins, entries_of, IsRun, IsLegal}
+use Rattle.turn_lock.specs.History.{Begins, entries_of, IsRun, IsLegal, StepRelation, Permission}
 use Rattle.turn_lock.specs.Rule.{IsOneWithin, one_if_same, tickets_in, machines_in, own_claim, claims, tickets, uses, machines, parts_of, Fits, FitsSlot, IsKept}
 use Rattle.turn_lock.specs.Steps.{with_entries, PassesOn, MayEnd, Knows}
 use Rattle.turn_lock.proofs.Histories.{begins_self, begins_front, begins_trans, own_more, own_same, run_more}
@@ -35,7 +35,7 @@ module _ {C R : Type 0} where
   others_same : (history : List (Entry C R)) (e : Entry C R) (js : List (Joined C R)) → All (λ j. e.number ≢ j.number) js → All (λ j. entries_of j.number history ≡ j.mine) js → All (λ j. entries_of j.number (history ++ e ∷ []) ≡ j.mine) js
   others_same history e js other done k d lt = own_same (get_or js k d).number history (get_or js k d).mine e (done k d lt) (other k d lt)
 
-module _ {M S C R : Type 0} (state : M → S) (start : S) (steps : S → C → R → S → Type 0) (may : ℕ → List (Entry C R) → C → Type 0) where
+module _ {M S C R : Type 0} (state : M → S) (start : S) (steps : StepRelation S C R) (may : Permission C R) where
   abbrev Kept : State (Option M) (View C R) → Type 0
   Kept = IsKept state start steps may
 

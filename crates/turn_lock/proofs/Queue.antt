@@ -13,14 +13,14 @@ use Rattle.turn_lock.specs.declared.entry.Joined.{Joined}
 use Rattle.turn_lock.specs.declared.view.View.{View}
 use Rattle.turn_lock.specs.declared.view.Phase.{Phase}
 use Rattle.turn_lock.specs.declared.view.Phase.TheVariants.{Free, Waiting, InTurn}
-use Rattle.turn_lock.specs.History.{Begins, entries_of, IsRun, IsLegal}
+use Rattle.turn_lock.specs.History.{Begins, entries_of, IsRun, IsLegal, StepRelation, Permission}
 use Rattle.turn_lock.specs.Rule.{IsOneWithin, one_if_same, tickets_in, machines_in, claims, tickets, uses, machines, parts_of, Fits, FitsSlot, IsKept}
 use Rattle.turn_lock.specs.Steps.{in_phase, in_turn, Draws, Serves}
 use Rattle.turn_lock.proofs.Histories.{begins_self, begins_nil, begins_length}
 use Rattle.turn_lock.proofs.Counts.{sum_set, sum_same, one_below, two_below, one_there}
 use Rattle.turn_lock.proofs.Changes.{same_is_one, other_is_none, one_more, served_once, unchanged, changed}
 
-module _ {M S C R : Type 0} (state : M → S) (start : S) (steps : S → C → R → S → Type 0) (may : ℕ → List (Entry C R) → C → Type 0) where
+module _ {M S C R : Type 0} (state : M → S) (start : S) (steps : StepRelation S C R) (may : Permission C R) where
   abbrev Kept : State (Option M) (View C R) → Type 0
   Kept = IsKept state start steps may
 

@@ -8,7 +8,7 @@ use Rattle.turn_lock.specs.declared.entry.Joined.{Joined}
 use Rattle.turn_lock.specs.declared.view.View.{View}
 use Rattle.turn_lock.specs.declared.view.Phase.{Phase}
 use Rattle.turn_lock.specs.declared.view.Phase.TheVariants.{Free, Waiting, InTurn}
-use Rattle.turn_lock.specs.History.{Begins, entries_of, IsRun, IsLegal}
+use Rattle.turn_lock.specs.History.{Begins, entries_of, IsRun, IsLegal, StepRelation, Permission}
 use Rattle.turn_lock.specs.Standing.{all_parts}
 
 -- n is 1 where x is one of low, low + 1, .., high - 1, and else 0
@@ -72,7 +72,7 @@ module _ {C R : Type 0} where
     -- without a part it is spent, and knows nothing
     pub spent : v.parts ≡ 0 → (claims v ≡ []) × (v.seen ≡ [])
 
-module _ {M S C R : Type 0} (state : M → S) (start : S) (steps : S → C → R → S → Type 0) (may : ℕ → List (Entry C R) → C → Type 0) where
+module _ {M S C R : Type 0} (state : M → S) (start : S) (steps : StepRelation S C R) (may : Permission C R) where
   -- the slot is out while a view has the machine, and else it holds a machine at the run of the history
   abbrev pub FitsSlot : List (Maybe (Option M)) → List (Entry C R) → ℕ → Type 0
   FitsSlot homes history count =

@@ -4,7 +4,7 @@ use Rattle.std.specs.Coded.{Coded, code_by, coded×, coded_ℕ, coded_list}
 use Rattle.atomic_table.specs.Seated.{TableId, table_id_coded}
 use Rattle.turn_lock.specs.declared.entry.Entry.{Entry}
 use Rattle.turn_lock.specs.declared.entry.Joined.{Joined}
-use Rattle.turn_lock.specs.History.{Begins, IsLegal, entries_of, entry}
+use Rattle.turn_lock.specs.History.{Begins, IsLegal, entries_of, entry, StepRelation, Permission}
 
 -- a seat: whose it is, its number, the history that it has seen, its own entries, its parts of the right to know the
 -- whole, and the seats that were joined into it
@@ -25,7 +25,7 @@ abbrev pub numbers_of : {C R : Type 0} → Standing C R → List ℕ
 numbers_of seat = seat.number ∷ map (λ j. j.number) seat.joined
 
 -- what holds of every seat after every call
-pub record IsSound {S C R : Type 0} (start : S) (steps : S → C → R → S → Type 0) (may : ℕ → List (Entry C R) → C → Type 0) (seat : Standing C R) : Type 0 where
+pub record IsSound {S C R : Type 0} (start : S) (steps : StepRelation S C R) (may : Permission C R) (seat : Standing C R) : Type 0 where
   -- it has seen a legal history
   pub legal : IsLegal start steps may seat.seen
   -- the numbers joined differ from each other and from its own

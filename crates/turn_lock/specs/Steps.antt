@@ -8,7 +8,7 @@ use Rattle.turn_lock.specs.declared.entry.Joined.{Joined}
 use Rattle.turn_lock.specs.declared.view.View.{View}
 use Rattle.turn_lock.specs.declared.view.Phase.{Phase}
 use Rattle.turn_lock.specs.declared.view.Phase.TheVariants.{Free, Waiting, InTurn}
-use Rattle.turn_lock.specs.History.{Begins, entries_of, IsRun, IsLegal}
+use Rattle.turn_lock.specs.History.{Begins, entries_of, IsRun, IsLegal, StepRelation, Permission}
 use Rattle.turn_lock.specs.Standing.{Standing, all_parts, longer}
 use Rattle.turn_lock.specs.Rule.{claims}
 
@@ -18,22 +18,22 @@ module _ {C R : Type 0} where
   standing table v = record { table = table; number = unwrap_or v.name 0; seen = v.seen; mine = v.mine; parts = v.parts; joined = v.joined }
 
   abbrev pub in_phase : Phase → View C R → View C R
-  in_phase phase v = record { name = v.name; seen = v.seen; mine = v.mine; parts = v.parts; joined = v.joined; bound = v.bound; beside = v.beside; phase = phase }
+  in_phase phase v = record v { phase = phase }
 
   -- the history so far was seen, and this ticket is served
   abbrev pub in_turn : ℕ → List (Entry C R) → ℕ → View C R → View C R
-  in_turn ticket history bound v = record { name = v.name; seen = history; mine = v.mine; parts = v.parts; joined = v.joined; bound = bound; beside = []; phase = InTurn ticket }
+  in_turn ticket history bound v = record v { seen = history; bound = bound; beside = []; phase = InTurn ticket }
 
   -- the entries were made, and the turn is over
   abbrev pub with_entries : List (Entry C R) → View C R → View C R
-  with_entries added v = record { name = v.name; seen = v.seen ++ added; mine = v.mine ++ added; parts = v.parts; joined = v.joined; bound = v.bound; beside = v.beside; phase = Free }
+  with_entries added v = record v { seen = v.seen ++ added; mine = v.mine ++ added; phase = Free }
 
   abbrev pub with_name : ℕ → View C R → View C R
-  with_name number v = record { name = Some number; seen = v.seen; mine = v.mine; parts = v.parts; joined = v.joined; bound = number + 1; beside = v.beside; phase = v.phase }
+  with_name number v = record v { name = Some number; bound = number + 1 }
 
   -- a split leaves one part less, and gives the new seat that part, all that was seen, and no number yet
   abbrev pub with_part_less : View C R → View C R
-  with_part_less v = record { name = v.name; seen = v.seen; mine = v.mine; parts = v.parts - 1; joined = v.joined; bound = v.bound; beside = v.beside; phase = v.phase }
+  with_part_less v = record v { parts = v.parts - 1 }
 
   abbrev pub unnamed : View C R → View C R
   unnamed v = record { name = None; seen = v.seen; mine = []; parts = 1; joined = []; bound = v.bound; beside = []; phase = Free }
@@ -62,7 +62,7 @@ module _ {C R : Type 0} where
   abbrev pub names : View C R → List ℕ
   names v = map (λ j. j.number) (claims v)
 
-module _ {S C R : Type 0} (start : S) (steps : S → C → R → S → Type 0) (may : ℕ → List (Entry C R) → C → Type 0) where
+module _ {S C R : Type 0} (start : S) (steps : StepRelation S C R) (may : Permission C R) where
   -- what follows from the rule for one view alone
   pub record Knows (v : View C R) : Type 0 where
     pub legal : IsLegal start steps may v.seen
@@ -82,7 +82,7 @@ module _ {M C R : Type 0} where
 
 -- its turn has come: it has seen the history so far, which has of its numbers what it did, and it holds the slot, in
 -- which this value is; the machine is at the run of that history
-pub record HasTurn {M S C R : Type 0} (state : M → S) (start : S) (steps : S → C → R → S → Type 0) (may : ℕ → List (Entry C R) → C → Type 0) (ticket : ℕ) (before : Me (Option M) (View C R)) (machine : M) (slot : Option M) (after : Me (Option M) (View C R)) : Type 0 where
+pub record HasTurn {M S C R : Type 0} (state : M → S) (start : S) (steps : StepRelation S C R) (may : Permission C R) (ticket : ℕ) (before : Me (Option M) (View C R)) (machine : M) (slot : Option M) (after : Me (Option M) (View C R)) : Type 0 where
   pub history : List (Entry C R)
   pub bound : ℕ
   pub me : after ≡ (in_turn ticket history bound before.0, (0, slot) ∷ before.1)
@@ -90,7 +90,7 @@ pub record HasTurn {M S C R : Type 0} (state : M → S) (start : S) (steps : S �
   pub done : All (λ j. entries_of j.number history ≡ j.mine) (claims before.0)
   pub run : IsRun start steps may history (state machine)
 
-module _ {M S C R : Type 0} (state : M → S) (start : S) (steps : S → C → R → S → Type 0) (may : ℕ → List (Entry C R) → C → Type 0) where
+module _ {M S C R : Type 0} (state : M → S) (start : S) (steps : StepRelation S C R) (may : Permission C R) where
   -- load served: where the seat's ticket is served it has the machine, at the run of the history, which it has seen;
   -- else nothing changed
   pub record Serves (step : Step (Option M)) (before : Me (Option M) (View C R)) (found : ℕ) (after : Me (Option M) (View C R)) : Type 0 where
@@ -113,7 +113,7 @@ module _ {M S C R : Type 0} (state : M → S) (start : S) (steps : S → C → R
   Looks step before found after = (after ≡ before) × Knows start steps may after.0
 
 -- a seat between two calls: it has a number, waits for nothing, holds nothing, and knows what the rule says of it
-pub record IsSeated {M S C R : Type 0} (start : S) (steps : S → C → R → S → Type 0) (may : ℕ → List (Entry C R) → C → Type 0) (me : Me (Option M) (View C R)) : Type 0 where
+pub record IsSeated {M S C R : Type 0} (start : S) (steps : StepRelation S C R) (may : Permission C R) (me : Me (Option M) (View C R)) : Type 0 where
   pub number : ℕ
   pub name : me.0.name ≡ Some number
   pub free : me.0.phase ≡ Free
@@ -134,7 +134,7 @@ pub record IsUnnamed {M C R : Type 0} (me : Me (Option M) (View C R)) : Type 0 w
   pub empty : me.1 ≡ []
 
 -- it drew a number, which is at least the bound that it was made with
-pub record HasDrawn {M S C R : Type 0} (start : S) (steps : S → C → R → S → Type 0) (may : ℕ → List (Entry C R) → C → Type 0) (before after : Me (Option M) (View C R)) : Type 0 where
+pub record HasDrawn {M S C R : Type 0} (start : S) (steps : StepRelation S C R) (may : Permission C R) (before after : Me (Option M) (View C R)) : Type 0 where
   pub number : ℕ
   pub me : after ≡ (with_name number before.0, before.1)
   pub above : before.0.bound ≤ number
@@ -145,7 +145,7 @@ abbrev pub IsWaiting : {M C R : Type 0} → ℕ → Me (Option M) (View C R) →
 IsWaiting ticket before after = after ≡ (in_phase (Waiting ticket) before.0, before.1)
 
 -- it may end its turn with this entry
-pub record MayEnd {M S C R : Type 0} (state : M → S) (start : S) (steps : S → C → R → S → Type 0) (may : ℕ → List (Entry C R) → C → Type 0) (ticket : ℕ) (call : C) (reply : R) (machine : M) (me : Me (Option M) (View C R)) : Type 0 where
+pub record MayEnd {M S C R : Type 0} (state : M → S) (start : S) (steps : StepRelation S C R) (may : Permission C R) (ticket : ℕ) (call : C) (reply : R) (machine : M) (me : Me (Option M) (View C R)) : Type 0 where
   pub number : ℕ
   pub name : me.0.name ≡ Some number
   pub phase : me.0.phase ≡ InTurn ticket
