@@ -25,7 +25,8 @@ abbrev pub numbers_of : {C R : Type 0} → Standing C R → List ℕ
 numbers_of seat = seat.number ∷ map (λ j. j.number) seat.joined
 
 -- what holds of every seat after every call
-pub record IsSound {S C R : Type 0} (start : S) (steps : StepRelation S C R) (may : Permission C R) (seat : Standing C R) : Type 0 where
+pub record IsSound {S C R : Type 0} (start : S) (steps : StepRelation S C R) (may : Permission C R)
+    (seat : Standing C R) : Type 0 where
   -- it has seen a legal history
   pub legal : IsLegal start steps may seat.seen
   -- the numbers joined differ from each other and from its own

@@ -15,7 +15,14 @@ use Rattle.turn_lock.specs.Rule.{claims}
 module _ {C R : Type 0} where
   -- what callers see of a view
   abbrev pub standing : TableId → View C R → Standing C R
-  standing table v = record { table = table; number = unwrap_or v.name 0; seen = v.seen; mine = v.mine; parts = v.parts; joined = v.joined }
+  standing table v = record {
+    table = table;
+    number = unwrap_or v.name 0;
+    seen = v.seen;
+    mine = v.mine;
+    parts = v.parts;
+    joined = v.joined;
+  }
 
   abbrev pub in_phase : Phase → View C R → View C R
   in_phase phase v = record v { phase = phase }
@@ -78,11 +85,14 @@ module _ {M C R : Type 0} where
   -- draw: the ticket was found as expected, and is the seat's; or nothing changed
   abbrev pub Draws : Step (Option M) → Me (Option M) (View C R) → ℕ → Me (Option M) (View C R) → Type 0
   Draws step before found after =
-      (found ≡ step.first → after ≡ (in_phase (Waiting found) before.0, before.1)) × (found ≢ step.first → after ≡ before)
+      (found ≡ step.first → after ≡ (in_phase (Waiting found) before.0, before.1))
+      × (found ≢ step.first → after ≡ before)
 
 -- its turn has come: it has seen the history so far, which has of its numbers what it did, and it holds the slot, in
 -- which this value is; the machine is at the run of that history
-pub record HasTurn {M S C R : Type 0} (state : M → S) (start : S) (steps : StepRelation S C R) (may : Permission C R) (ticket : ℕ) (before : Me (Option M) (View C R)) (machine : M) (slot : Option M) (after : Me (Option M) (View C R)) : Type 0 where
+pub record HasTurn {M S C R : Type 0} (state : M → S) (start : S) (steps : StepRelation S C R) (may : Permission C R)
+    (ticket : ℕ) (before : Me (Option M) (View C R)) (machine : M) (slot : Option M)
+    (after : Me (Option M) (View C R)) : Type 0 where
   pub history : List (Entry C R)
   pub bound : ℕ
   pub me : after ≡ (in_turn ticket history bound before.0, (0, slot) ∷ before.1)
@@ -93,8 +103,10 @@ pub record HasTurn {M S C R : Type 0} (state : M → S) (start : S) (steps : Ste
 module _ {M S C R : Type 0} (state : M → S) (start : S) (steps : StepRelation S C R) (may : Permission C R) where
   -- load served: where the seat's ticket is served it has the machine, at the run of the history, which it has seen;
   -- else nothing changed
-  pub record Serves (step : Step (Option M)) (before : Me (Option M) (View C R)) (found : ℕ) (after : Me (Option M) (View C R)) : Type 0 where
-    pub served : before.0.phase ≡ Waiting found → (machine : M) × HasTurn state start steps may found before machine (Some machine) after
+  pub record Serves (step : Step (Option M)) (before : Me (Option M) (View C R)) (found : ℕ)
+      (after : Me (Option M) (View C R)) : Type 0 where
+    pub served : before.0.phase ≡ Waiting found
+        → (machine : M) × HasTurn state start steps may found before machine (Some machine) after
     pub others : (ticket : ℕ) → before.0.phase ≡ Waiting ticket → found ≢ ticket → after ≡ before
 
   -- pass on: the entries join the history, the machine is back in its slot, and the next ticket is served
@@ -105,7 +117,8 @@ module _ {M S C R : Type 0} (state : M → S) (start : S) (steps : StepRelation 
   -- number: the number was found as expected, and is the seat's; or nothing changed
   abbrev pub Numbers : Step (Option M) → Me (Option M) (View C R) → ℕ → Me (Option M) (View C R) → Type 0
   Numbers step before found after =
-      (found ≡ step.first → (after ≡ (with_name found before.0, before.1)) × (before.0.bound ≤ found) × Knows start steps may after.0)
+      (found ≡ step.first
+      → (after ≡ (with_name found before.0, before.1)) × (before.0.bound ≤ found) × Knows start steps may after.0)
       × (found ≢ step.first → after ≡ before)
 
   -- look: nothing changed, and the seat is told what it knows
@@ -113,7 +126,8 @@ module _ {M S C R : Type 0} (state : M → S) (start : S) (steps : StepRelation 
   Looks step before found after = (after ≡ before) × Knows start steps may after.0
 
 -- a seat between two calls: it has a number, waits for nothing, holds nothing, and knows what the rule says of it
-pub record IsSeated {M S C R : Type 0} (start : S) (steps : StepRelation S C R) (may : Permission C R) (me : Me (Option M) (View C R)) : Type 0 where
+pub record IsSeated {M S C R : Type 0} (start : S) (steps : StepRelation S C R) (may : Permission C R)
+    (me : Me (Option M) (View C R)) : Type 0 where
   pub number : ℕ
   pub name : me.0.name ≡ Some number
   pub free : me.0.phase ≡ Free
@@ -134,7 +148,8 @@ pub record IsUnnamed {M C R : Type 0} (me : Me (Option M) (View C R)) : Type 0 w
   pub empty : me.1 ≡ []
 
 -- it drew a number, which is at least the bound that it was made with
-pub record HasDrawn {M S C R : Type 0} (start : S) (steps : StepRelation S C R) (may : Permission C R) (before after : Me (Option M) (View C R)) : Type 0 where
+pub record HasDrawn {M S C R : Type 0} (start : S) (steps : StepRelation S C R) (may : Permission C R)
+    (before after : Me (Option M) (View C R)) : Type 0 where
   pub number : ℕ
   pub me : after ≡ (with_name number before.0, before.1)
   pub above : before.0.bound ≤ number
@@ -145,7 +160,8 @@ abbrev pub IsWaiting : {M C R : Type 0} → ℕ → Me (Option M) (View C R) →
 IsWaiting ticket before after = after ≡ (in_phase (Waiting ticket) before.0, before.1)
 
 -- it may end its turn with this entry
-pub record MayEnd {M S C R : Type 0} (state : M → S) (start : S) (steps : StepRelation S C R) (may : Permission C R) (ticket : ℕ) (call : C) (reply : R) (machine : M) (me : Me (Option M) (View C R)) : Type 0 where
+pub record MayEnd {M S C R : Type 0} (state : M → S) (start : S) (steps : StepRelation S C R) (may : Permission C R)
+    (ticket : ℕ) (call : C) (reply : R) (machine : M) (me : Me (Option M) (View C R)) : Type 0 where
   pub number : ℕ
   pub name : me.0.name ≡ Some number
   pub phase : me.0.phase ≡ InTurn ticket

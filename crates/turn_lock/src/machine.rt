@@ -20,8 +20,10 @@ pub trait Machine: Drop {
     /// What it answers.
     type Reply;
 
+    // What it means: its state.
     ghost state: { Self → Self.State };
 
+    // Where every history begins.
     ghost start: { Self.State };
 
     // Of the state before, the call, the reply and the state after.
@@ -38,5 +40,6 @@ pub trait Machine: Drop {
         requires { can (state self.old) call }
         ensures { steps (state self.old) call result (state self.new) };
 
+    // After every run a call that its seat may ask is one that can be answered.
     ghost lawful: { Lawful start steps can may };
 }

@@ -72,7 +72,8 @@ impl<M: Machine> Turn<M> {
         requires free { IsFree place.old.me }
         ensures same { IsSamePlace place.old place.new }
         ensures room { result.0 + 1 < 2 ^ 64 }
-        ensures turn { HasTurn M.state M.start M.steps M.may result.0 place.old.me result.1 None place.new.me }
+        ensures turn { HasTurn M.state M.start M.steps M.may
+            result.0 place.old.me result.1 None place.new.me }
     {
         let ticket = self.draw(rt, place);
         self.wait_for(rt, place, ticket);
@@ -108,7 +109,8 @@ impl<M: Machine> Turn<M> {
         requires own { place.old.table_id ≡ self.now }
         requires waiting { Waits ticket place.old.me }
         ensures same { IsSamePlace place.old place.new }
-        ensures turn { (machine : M) × HasTurn M.state M.start M.steps M.may ticket place.old.me machine (Some machine) place.new.me }
+        ensures turn { (machine : M)
+            × HasTurn M.state M.start M.steps M.may ticket place.old.me machine (Some machine) place.new.me }
     {
         let shared = &self.table.shared;
         let mut tries = 0;
@@ -137,8 +139,10 @@ impl<M: Machine> Turn<M> {
     )
         requires own { place.old.table_id ≡ self.now }
         requires room { ticket + 1 < 2 ^ 64 }
-        requires added { K.added ≡ entry (unwrap_or place.old.me.0.name 0) call.value reply.value ∷ [] }
-        requires may { MayEnd M.state M.start M.steps M.may ticket call.value reply.value machine place.old.me }
+        requires added { K.added
+            ≡ entry (unwrap_or place.old.me.0.name 0) call.value reply.value ∷ [] }
+        requires may { MayEnd M.state M.start M.steps M.may
+            ticket call.value reply.value machine place.old.me }
         ensures same { IsSamePlace place.old place.new }
         ensures passed { place.new.me ≡ (with_entries K.added place.old.me.0, []) }
         ensures knows { Knows M.start M.steps M.may place.new.me.0 }

@@ -75,7 +75,8 @@ impl<M: Machine> Turn<M> {
         ensures new { result ≡ newcomer result.number seat.old }
         ensures number { IsNew result.number seat.old }
         ensures old { seat.new ≡ record seat.old { parts = seat.old.parts - 1 } }
-        ensures sound { IsSound M.start M.steps M.may result × IsSound M.start M.steps M.may seat.new }
+        ensures sound { IsSound M.start M.steps M.may seat.new }
+        ensures sound_new { IsSound M.start M.steps M.may result }
     {
         let place = &mut seat.place;
         let mut other = self.table.shared.split_seat::<OnePart>(place);

@@ -34,10 +34,12 @@ returns-clause-number g c =
 pub returns-clause-sound : goal.returns-clause-sound
 returns-clause-sound g c =
     let seat = c.seat.invariant in
-    let drawn = c.draw_number.ensures.named in
     let left = c.split_seat-other.ensures.2 in
-    let two = subst (λ p. 2 ≤ p) (sym (ap (λ s. s.parts) c.seat.view_is)) c.requires.parts in (
-      sound _ _ _ _ _ drawn.number (ap (λ me. me.0.name) drawn.me) drawn.knows,
-      sound _ _ _ _ _ seat.number (ap (λ me. me.0.name) left ∙ seat.name)
-          (subst (λ me. Knows g.M.Machine.start g.M.Machine.steps g.M.Machine.may me.0) (sym left) (knows_less _ _ _ _ two seat.knows)),
-    )
+    let two = subst (λ p. 2 ≤ p) (sym (ap (λ s. s.parts) c.seat.view_is)) c.requires.parts in
+    sound _ _ _ _ _ seat.number (ap (λ me. me.0.name) left ∙ seat.name)
+    (subst (λ me. Knows g.M.Machine.start g.M.Machine.steps g.M.Machine.may me.0) (sym left) (knows_less _ _ _ _ two seat.knows))
+
+pub returns-clause-sound_new : goal.returns-clause-sound_new
+returns-clause-sound_new g c =
+    let drawn = c.draw_number.ensures.named in
+    sound _ _ _ _ _ drawn.number (ap (λ me. me.0.name) drawn.me) drawn.knows
