@@ -5,3 +5,4 @@ pub mod Changes
 pub mod Queue
 pub mod Passing
 pub mod Parting
+pub mod Entries

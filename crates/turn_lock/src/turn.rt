@@ -1,5 +1,5 @@
 //! The lock.
-ghost use Rattle.std.specs.Prelude.{◌≡◌, ℕ, ◌+◌, ◌-◌, ◌≤◌, IfOk};
+ghost use Rattle.std.specs.Prelude.{◌≡◌, ℕ, ◌+◌, ◌-◌, ◌≤◌, length, sum_by, IfOk};
 ghost use Rattle.turn_lock.specs.History.{Begins, IsRun};
 ghost use Rattle.turn_lock.specs.Steps.{IsSamePlace, IsUnnamed, HasDrawn};
 ghost use Rattle.turn_lock.specs.Standing.{Standing, IsSound, IsNew, all_parts, first_standing, newcomer, taken_in};
@@ -121,11 +121,12 @@ impl<M: Machine> Turn<M> {
     }
 
     /// Hands the machine out, at the run of the whole history. The seat has all parts, so every other seat was joined
-    /// into it.
+    /// into it, and the history has as many entries as they and it made.
     pub fn close(self, seat: Seat<M>) -> M
         requires own { seat.table ≡ self }
         requires whole { seat.parts ≡ all_parts }
-        ensures { IsRun M.start M.steps M.may seat.seen (M.state result) }
+        ensures run { IsRun M.start M.steps M.may seat.seen (M.state result) }
+        ensures entries { length seat.seen ≡ length seat.mine + sum_by (λ j. length j.mine) seat.joined }
     {
         let Turn { table } = self;
         let Seat { place } = seat;
