@@ -1,20 +1,18 @@
 -- Steps that leave the history as it is, and change one view.
-use Rattle.std.proofs.Common.{◌≡◌, ◌≢◌, ℕ, zero, suc, ◌+◌, ◌-◌, ◌^◌, ◌≤◌, ◌<◌, ◌⊎◌, eqb, cond, List, [], ◌∷◌, ◌++◌, length, map, set, get_or, refl, sym, ap, ◌∙◌, subst, inl, inr, ⊎_elim, arith, eq-eqb, ne_eqb}
-use Rattle.std.specs.Prelude.{sum_by, All, Option, Some, None}
+use Rattle.std.proofs.Common.{◌≡◌, ◌≢◌, ℕ, zero, suc, ◌+◌, ◌≤◌, ◌<◌, List, [], ◌∷◌, length, set, refl, sym, ap, ◌∙◌, subst, arith, eq-eqb, ne_eqb}
+use Rattle.std.specs.Prelude.{sum_by, Option}
 use mathlib.Core.Logic.{dite}
 use native.Mathlib.Decide.{ℕ_discrete}
 use mathlib.Core.Option.{Option as Maybe, none, some, some-injective, some-ne-none}
 use lib.ListN.{get_elem?}
-use Rattle.atomic_table.specs.Table.{State, Me, step, keeps, stepped, Allows}
+use Rattle.atomic_table.specs.Table.{State, Me, step, keeps, Allows}
 use Rattle.atomic_table.proofs.Lists.{set_again}
 use Rattle.turn_lock.specs.declared.entry.Entry.{Entry}
 use Rattle.turn_lock.specs.declared.view.View.{View}
-use Rattle.turn_lock.specs.declared.view.Phase.{Phase}
-use Rattle.turn_lock.specs.declared.view.Phase.TheVariants.{Free, Waiting, InTurn}
-use Rattle.turn_lock.specs.History.{Begins, IsRun, IsLegal, StepRelation, Permission}
-use Rattle.turn_lock.specs.Rule.{IsOneWithin, one_if_same, tickets_in, machines_in, claims, tickets, uses, machines, parts_of, Fits, FitsSlot, IsKept}
-use Rattle.turn_lock.specs.Steps.{Knows, Looks}
-use Rattle.turn_lock.proofs.Counts.{sum_set, sum_same, one_below, two_below, one_there, each_set}
+use Rattle.turn_lock.specs.History.{StepRelation, Permission}
+use Rattle.turn_lock.specs.Rule.{IsOneWithin, one_if_same, tickets, uses, machines, parts_of, Fits, FitsSlot, IsKept}
+use Rattle.turn_lock.specs.Steps.{Looks}
+use Rattle.turn_lock.proofs.Counts.{sum_same, two_below, each_set}
 use Rattle.turn_lock.proofs.Facts.{knows}
 
 pub same_is_one : (m n : ℕ) → m ≡ n → one_if_same m n ≡ 1

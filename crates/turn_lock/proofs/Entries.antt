@@ -1,5 +1,5 @@
 -- A seat with all parts knows every entry of the history: they are as many as it and the seats joined into it made.
-use Rattle.std.proofs.Common.{◌≡◌, ◌≢◌, ℕ, zero, suc, ◌+◌, ◌<◌, eqb, cond, List, [], ◌∷◌, length, map, get_or, refl, sym, ap, ◌∙◌, subst, ⊎_elim, arith, eq-eqb, ne_eqb}
+use Rattle.std.proofs.Common.{◌≡◌, ◌≢◌, ℕ, zero, suc, ◌+◌, ◌<◌, eqb, cond, List, [], ◌∷◌, length, map, get_or, refl, sym, ap, subst, arith, eq-eqb, ne_eqb}
 use Rattle.std.specs.Prelude.{sum_by, count_by, All, AllPairs, Contains}
 use Rattle.std.proofs.lemmas.List.Sums.{sum_by-cons}
 use Rattle.std.proofs.lemmas.List.Elements.{All-head, All-tail}
@@ -33,13 +33,13 @@ once_in (n ∷ ns) x differ c =
     let parted = sum_by-cons (λ n. cond {A = ℕ} (eqb x n) 1 0) n ns in
     dite (ℕ_discrete x n)
     (λ same.
-      let hit : cond {A = ℕ} (eqb x n) 1 0 ≡ 1 = rw (eq-eqb x n same) in
-      let rest = none_in ns x (subst (λ m. All (λ k. m ≢ k) ns) (sym same) (pairs_head ◌≢◌ n ns differ)) in
-      omega arith)
+    let hit : cond {A = ℕ} (eqb x n) 1 0 ≡ 1 = rw (eq-eqb x n same) in
+    let rest = none_in ns x (subst (λ m. All (λ k. m ≢ k) ns) (sym same) (pairs_head ◌≢◌ n ns differ)) in
+    omega arith)
     (λ other.
-      let miss : cond {A = ℕ} (eqb x n) 1 0 ≡ 0 = rw (ne_eqb x n other) in
-      let rest = once_in ns x (pairs_tail ◌≢◌ n ns differ) (in_tail n ns x other c.0 c.1 c.2) in
-      omega arith)
+    let miss : cond {A = ℕ} (eqb x n) 1 0 ≡ 0 = rw (ne_eqb x n other) in
+    let rest = once_in ns x (pairs_tail ◌≢◌ n ns differ) (in_tail n ns x other c.0 c.1 c.2) in
+    omega arith)
 
 sum_of_none : (ns : List ℕ) → sum_by (λ _. 0) ns ≡ 0
 sum_of_none [] = refl

@@ -1,22 +1,20 @@
 -- What follows from the rule for one view, and from that for what callers see.
-use Rattle.std.proofs.Common.{◌≡◌, ◌≢◌, ℕ, zero, suc, ◌+◌, ◌-◌, ◌^◌, ◌≤◌, ◌<◌, ◌⊎◌, eqb, cond, List, [], ◌∷◌, ◌++◌, length, map, set, get_or, refl, sym, ap, ◌∙◌, subst, inl, inr, ⊎_elim, arith, eq-eqb, ne_eqb}
+use Rattle.std.proofs.Common.{◌≡◌, ◌≢◌, ℕ, suc, ◌≤◌, ◌<◌, eqb, cond, List, [], ◌∷◌, ◌++◌, map, refl, sym, ap, ◌∙◌, subst, arith, ne_eqb}
 use Rattle.std.specs.Prelude.{sum_by, count_by, All, AllPairs, Contains, Option, Some, None, unwrap_or}
-use Rattle.std.proofs.lemmas.List.Sums.{sum_by-cons, sum_by-append}
-use Rattle.std.proofs.lemmas.List.Elements.{All-nil, All-cons, All-head, All-tail, All-append, All-weaker, All-same, All-map}
+use Rattle.std.proofs.lemmas.List.Sums.{sum_by-cons}
+use Rattle.std.proofs.lemmas.List.Elements.{All-nil, All-cons, All-head, All-tail, All-weaker, All-map}
 use mathlib.Core.Logic.{dite}
 use native.Mathlib.Decide.{ℕ_discrete, dec_lt}
-use mathlib.Core.Option.{none, some, some-injective}
+use mathlib.Core.Option.{some, some-injective}
 use lib.ListN.{get_elem?}
 use Rattle.atomic_table.specs.Table.{State, Me}
 use Rattle.atomic_table.specs.Seated.{TableId}
 use Rattle.turn_lock.specs.declared.entry.Entry.{Entry}
 use Rattle.turn_lock.specs.declared.entry.Joined.{Joined}
 use Rattle.turn_lock.specs.declared.view.View.{View}
-use Rattle.turn_lock.specs.declared.view.Phase.{Phase}
-use Rattle.turn_lock.specs.declared.view.Phase.TheVariants.{Free, Waiting, InTurn}
-use Rattle.turn_lock.specs.History.{Begins, entries_of, entry, IsRun, IsLegal, Lawful, StepRelation, Permission}
+use Rattle.turn_lock.specs.History.{Begins, entries_of, entry, IsRun, Lawful, StepRelation, Permission}
 use Rattle.turn_lock.specs.Standing.{Standing, numbers_of, IsSound, IsNew, HasCalled, all_parts}
-use Rattle.turn_lock.specs.Rule.{IsOneWithin, one_if_same, own_claim, claims, tickets, uses, machines, parts_of, Fits, IsKept, first_view}
+use Rattle.turn_lock.specs.Rule.{own_claim, claims, uses, parts_of, IsKept, first_view}
 use Rattle.turn_lock.specs.Steps.{standing, names, Knows, in_turn, with_entries, with_part_less, HasTurn, MayEnd}
 use Rattle.turn_lock.proofs.Histories.{begins_none, legal_front, run_none, begins_nil}
 use Rattle.turn_lock.proofs.Counts.{one_below, two_below, one_there, differ_from_counts}

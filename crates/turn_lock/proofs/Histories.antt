@@ -3,7 +3,7 @@ use Rattle.std.proofs.Common.{◌≡◌, ◌≢◌, ℕ, zero, suc, ◌+◌, ◌
 use Rattle.std.proofs.lemmas.List.{append-nil}
 use Rattle.std.proofs.lemmas.List.Elements.{filter-append}
 use Rattle.turn_lock.specs.declared.entry.Entry.{Entry}
-use Rattle.turn_lock.specs.History.{Begins, entries_of, entry, Leads, EachAllowed, IsRun, IsLegal, StepRelation, Permission}
+use Rattle.turn_lock.specs.History.{Begins, entries_of, Leads, EachAllowed, IsRun, IsLegal, StepRelation, Permission}
 
 module _ {X : Type 0} where
   pub begins_self : (xs : List X) → Begins xs xs

@@ -1,5 +1,5 @@
 -- Split, number and join, and the table at the start and at the end.
-use Rattle.std.proofs.Common.{◌≡◌, ◌≢◌, ℕ, zero, suc, ◌+◌, ◌-◌, ◌^◌, ◌≤◌, ◌<◌, ◌⊎◌, eqb, ltb, cond, List, [], ◌∷◌, ◌++◌, length, map, set, get_or, refl, sym, ap, ◌∙◌, subst, inl, inr, ⊎_elim, arith, append_assoc, length-append, eq-eqb, ne_eqb}
+use Rattle.std.proofs.Common.{◌≡◌, ℕ, zero, suc, ◌+◌, ◌≤◌, ◌<◌, eqb, cond, List, [], ◌∷◌, ◌++◌, length, set, get_or, refl, sym, ap, ◌∙◌, subst, inr, ⊎_elim, arith, append_assoc, length-append, eq-eqb, ne_eqb}
 use Rattle.std.specs.Prelude.{sum_by, count_by, All, Option, Some, None}
 use Rattle.std.proofs.lemmas.List.Sums.{sum_by-cons, sum_by-append, sum_by_push}
 use Rattle.std.proofs.lemmas.List.{append-nil}
@@ -7,24 +7,23 @@ use Rattle.std.proofs.lemmas.List.Elements.{All-nil, All-cons, All-append, All-w
 use Rattle.std.proofs.lemmas.Bool.{lt-ltb, le-ltb}
 use mathlib.Core.Logic.{dite}
 use native.Mathlib.Decide.{ℕ_discrete, dec_lt}
-use mathlib.Core.Option.{Option as Maybe, none, some, some-injective, some-ne-none}
+use mathlib.Core.Option.{none, some, some-injective, some-ne-none}
 use lib.ListN.{get_elem?}
 use prog.Atomic.{either}
-use Rattle.atomic_table.specs.Table.{State, Me, step, keeps, stepped, opening, Allows, Splits, Joins, Final, Seen}
-use Rattle.atomic_table.proofs.Lists.{at_set, at_snoc, at_longer, set_else}
+use Rattle.atomic_table.specs.Table.{State, Me, step, keeps, opening, Allows, Splits, Joins, Final, Seen}
+use Rattle.atomic_table.proofs.Lists.{at_snoc, at_longer, set_else}
 use Rattle.turn_lock.specs.declared.entry.Entry.{Entry}
 use Rattle.turn_lock.specs.declared.entry.Joined.{Joined}
 use Rattle.turn_lock.specs.declared.view.View.{View}
-use Rattle.turn_lock.specs.declared.view.Phase.{Phase}
-use Rattle.turn_lock.specs.declared.view.Phase.TheVariants.{Free, Waiting, InTurn}
-use Rattle.turn_lock.specs.History.{Begins, entries_of, IsRun, IsLegal, StepRelation, Permission}
+use Rattle.turn_lock.specs.declared.view.Phase.TheVariants.{Free, InTurn}
+use Rattle.turn_lock.specs.History.{Begins, entries_of, IsRun, StepRelation, Permission}
 use Rattle.turn_lock.specs.Standing.{all_parts, longer}
 use Rattle.turn_lock.specs.Rule.{IsOneWithin, one_if_same, tickets_in, machines_in, own_claim, claims, tickets, uses, machines, parts_of, Fits, FitsSlot, IsKept, first_view}
-use Rattle.turn_lock.specs.Steps.{with_name, with_part_less, unnamed, merged, shorter, spent, Numbers, Knows, IsUnnamed}
-use Rattle.turn_lock.proofs.Histories.{begins_self, begins_nil, begins_front, begins_trans, begins_longer, begins_length, nil_from_length, own_between, none_of, run_none}
-use Rattle.turn_lock.proofs.Counts.{sum_set, sum_same, one_below, two_below, one_there, each_set}
+use Rattle.turn_lock.specs.Steps.{with_name, with_part_less, unnamed, merged, shorter, spent, Numbers, IsUnnamed}
+use Rattle.turn_lock.proofs.Histories.{begins_self, begins_nil, begins_longer, begins_length, nil_from_length, own_between, none_of, run_none}
+use Rattle.turn_lock.proofs.Counts.{sum_set, sum_same, two_below, one_there, each_set}
 use Rattle.turn_lock.proofs.Facts.{claims_named, knows, sees_all}
-use Rattle.turn_lock.proofs.Changes.{same_is_one, other_is_none, one_more, set_there, unchanged, changed, fits_later}
+use Rattle.turn_lock.proofs.Changes.{one_more, set_there, unchanged, changed}
 
 module _ {C R : Type 0} where
   -- a beginning that is as long as the whole is the whole

@@ -1,23 +1,22 @@
 -- Pass on: an entry joins the history.
-use Rattle.std.proofs.Common.{◌≡◌, ◌≢◌, ℕ, zero, suc, ◌+◌, ◌-◌, ◌^◌, ◌≤◌, ◌<◌, ◌⊎◌, eqb, cond, List, [], ◌∷◌, ◌++◌, length, map, set, get_or, refl, sym, ap, ◌∙◌, subst, inl, inr, ⊎_elim, arith, eq-eqb, ne_eqb, length-append}
+use Rattle.std.proofs.Common.{◌≡◌, ◌≢◌, ℕ, ◌+◌, ◌≤◌, ◌<◌, eqb, cond, List, [], ◌∷◌, ◌++◌, length, set, get_or, refl, sym, ap, ◌∙◌, subst, inr, ⊎_elim, arith, eq-eqb, length-append}
 use Rattle.std.specs.Prelude.{sum_by, count_by, All, Option, Some, None}
-use Rattle.std.proofs.lemmas.List.Sums.{sum_by-cons, sum_by-append}
+use Rattle.std.proofs.lemmas.List.Sums.{sum_by-cons}
 use Rattle.std.proofs.lemmas.List.Elements.{All-nil, All-cons, All-tail, All-push, All-head}
 use mathlib.Core.Logic.{dite}
-use native.Mathlib.Decide.{ℕ_discrete, dec_lt}
-use mathlib.Core.Option.{Option as Maybe, none, some, some-injective, some-ne-none}
+use native.Mathlib.Decide.{dec_lt}
+use mathlib.Core.Option.{none, some}
 use lib.ListN.{get_elem?}
-use Rattle.atomic_table.specs.Table.{State, Me, step, gives, stepped, Allows}
+use Rattle.atomic_table.specs.Table.{State, Me, step, gives, Allows}
 use Rattle.turn_lock.specs.declared.entry.Entry.{Entry}
 use Rattle.turn_lock.specs.declared.entry.Joined.{Joined}
 use Rattle.turn_lock.specs.declared.view.View.{View}
-use Rattle.turn_lock.specs.declared.view.Phase.{Phase}
-use Rattle.turn_lock.specs.declared.view.Phase.TheVariants.{Free, Waiting, InTurn}
-use Rattle.turn_lock.specs.History.{Begins, entries_of, IsRun, IsLegal, StepRelation, Permission}
-use Rattle.turn_lock.specs.Rule.{IsOneWithin, one_if_same, tickets_in, machines_in, own_claim, claims, tickets, uses, machines, parts_of, Fits, FitsSlot, IsKept}
-use Rattle.turn_lock.specs.Steps.{with_entries, PassesOn, MayEnd, Knows}
+use Rattle.turn_lock.specs.declared.view.Phase.TheVariants.{InTurn}
+use Rattle.turn_lock.specs.History.{Begins, entries_of, IsRun, StepRelation, Permission}
+use Rattle.turn_lock.specs.Rule.{IsOneWithin, one_if_same, tickets_in, machines_in, claims, tickets, uses, machines, parts_of, Fits, IsKept}
+use Rattle.turn_lock.specs.Steps.{with_entries, PassesOn}
 use Rattle.turn_lock.proofs.Histories.{begins_self, begins_front, begins_trans, own_more, own_same, run_more}
-use Rattle.turn_lock.proofs.Counts.{sum_set, sum_same, one_below, two_below, one_there, each_set}
+use Rattle.turn_lock.proofs.Counts.{sum_set, sum_same, one_below, two_below, each_set}
 use Rattle.turn_lock.proofs.Facts.{claims_named, knows}
 use Rattle.turn_lock.proofs.Changes.{same_is_one, one_less, served_once, set_there}
 

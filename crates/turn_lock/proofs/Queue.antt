@@ -1,24 +1,24 @@
 -- Draw, and load served.
-use Rattle.std.proofs.Common.{◌≡◌, ◌≢◌, ℕ, zero, suc, ◌+◌, ◌-◌, ◌^◌, ◌≤◌, ◌<◌, ◌⊎◌, eqb, cond, List, [], ◌∷◌, ◌++◌, length, map, set, get_or, refl, sym, ap, ◌∙◌, subst, inl, inr, ⊎_elim, arith, eq-eqb, ne_eqb}
+use Rattle.std.proofs.Common.{◌≡◌, ℕ, ◌+◌, ◌<◌, eqb, [], ◌∷◌, length, set, refl, sym, ap, ◌∙◌, subst, inl, ⊎_elim, arith, eq-eqb, ne_eqb}
 use Rattle.std.specs.Prelude.{sum_by, All, Option, Some, None}
 use Rattle.std.proofs.lemmas.List.Elements.{All-weaker}
 use mathlib.Core.Logic.{dite}
 use native.Mathlib.Decide.{ℕ_discrete}
-use mathlib.Core.Option.{Option as Maybe, none, some, some-injective, some-ne-none}
+use mathlib.Core.Option.{none, some, some-injective}
 use lib.ListN.{get_elem?}
 use prog.Atomic.{either}
-use Rattle.atomic_table.specs.Table.{State, Me, step, keeps, takes, stepped, Allows}
+use Rattle.atomic_table.specs.Table.{State, Me, step, keeps, takes, Allows}
 use Rattle.turn_lock.specs.declared.entry.Entry.{Entry}
 use Rattle.turn_lock.specs.declared.entry.Joined.{Joined}
 use Rattle.turn_lock.specs.declared.view.View.{View}
 use Rattle.turn_lock.specs.declared.view.Phase.{Phase}
 use Rattle.turn_lock.specs.declared.view.Phase.TheVariants.{Free, Waiting, InTurn}
-use Rattle.turn_lock.specs.History.{Begins, entries_of, IsRun, IsLegal, StepRelation, Permission}
-use Rattle.turn_lock.specs.Rule.{IsOneWithin, one_if_same, tickets_in, machines_in, claims, tickets, uses, machines, parts_of, Fits, FitsSlot, IsKept}
+use Rattle.turn_lock.specs.History.{IsRun, StepRelation, Permission}
+use Rattle.turn_lock.specs.Rule.{IsOneWithin, tickets_in, machines_in, claims, tickets, uses, machines, FitsSlot, IsKept}
 use Rattle.turn_lock.specs.Steps.{in_phase, in_turn, Draws, Serves}
-use Rattle.turn_lock.proofs.Histories.{begins_self, begins_nil, begins_length}
-use Rattle.turn_lock.proofs.Counts.{sum_set, sum_same, one_below, two_below, one_there}
-use Rattle.turn_lock.proofs.Changes.{same_is_one, other_is_none, one_more, served_once, unchanged, changed}
+use Rattle.turn_lock.proofs.Histories.{begins_self, begins_nil}
+use Rattle.turn_lock.proofs.Counts.{sum_set, sum_same, one_there}
+use Rattle.turn_lock.proofs.Changes.{same_is_one, one_more, served_once, unchanged, changed}
 
 module _ {M S C R : Type 0} (state : M → S) (start : S) (steps : StepRelation S C R) (may : Permission C R) where
   abbrev Kept : State (Option M) (View C R) → Type 0

@@ -1,6 +1,5 @@
 -- A closure that takes the place of a machine's step for one call.
 use Rattle.turn_lock.specs.History.{StepRelation}
-use Rattle.std.specs.Prelude.{ℕ}
 use Rattle.std.specs.Borrow.{MutBor}
 use Rattle.std.specs.Fn.{Once}
 

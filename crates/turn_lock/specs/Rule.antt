@@ -1,7 +1,7 @@
 -- The rule between steps: what is true of the words, the slot and all views whenever no step is under way.
 -- It follows from its counts that the tickets of two views differ, that the tickets out are as many as from the one
 -- served to the last one drawn, that one view at most is in turn, and that no two views have a number in common.
-use Rattle.std.specs.Prelude.{◌≡◌, ℕ, ◌+◌, ◌^◌, ◌<◌, ◌≤◌, ◌⊎◌, ◌==◌, List, [], ◌∷◌, ◌++◌, length, All, Option, Some, None, sum_by, count_by, if◌then◌else◌}
+use Rattle.std.specs.Prelude.{◌≡◌, ℕ, ◌<◌, ◌≤◌, ◌⊎◌, ◌==◌, List, [], ◌∷◌, ◌++◌, length, All, Option, Some, None, sum_by, count_by, if◌then◌else◌}
 use mathlib.Core.Option.{Option as Maybe, none, some}
 use lib.ListN.{get_elem?}
 use Rattle.atomic_table.specs.Table.{State}

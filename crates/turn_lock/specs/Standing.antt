@@ -1,10 +1,9 @@
 -- What callers see of a seat, and how each call changes it.
-use Rattle.std.specs.Prelude.{◌≡◌, ◌≢◌, ℕ, ◌+◌, ◌-◌, ◌^◌, ◌<◌, List, [], ◌∷◌, ◌++◌, map, length, All, AllPairs, Contains, if◌then◌else◌, nat_lt}
-use Rattle.std.specs.Coded.{Coded, code_by, coded×, coded_ℕ, coded_list}
-use Rattle.atomic_table.specs.Seated.{TableId, table_id_coded}
+use Rattle.std.specs.Prelude.{◌≡◌, ◌≢◌, ℕ, ◌+◌, ◌^◌, ◌<◌, List, [], ◌∷◌, ◌++◌, map, length, All, AllPairs, Contains, if◌then◌else◌, nat_lt}
+use Rattle.atomic_table.specs.Seated.{TableId}
 use Rattle.turn_lock.specs.declared.entry.Entry.{Entry}
 use Rattle.turn_lock.specs.declared.entry.Joined.{Joined}
-use Rattle.turn_lock.specs.History.{Begins, IsLegal, entries_of, entry, StepRelation, Permission}
+use Rattle.turn_lock.specs.History.{IsLegal, entries_of, entry, StepRelation, Permission}
 
 -- a seat: whose it is, its number, the history that it has seen, its own entries, its parts of the right to know the
 -- whole, and the seats that were joined into it

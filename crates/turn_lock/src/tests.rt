@@ -1,4 +1,4 @@
-ghost use Rattle.std.specs.Prelude.{◌≡◌, ◌+◌, IfSome};
+ghost use Rattle.std.specs.Prelude.{◌≡◌, ◌+◌, IfOk, IfSome};
 ghost use Rattle.std.specs.Thread.{IsSync};
 
 use super::*;
@@ -120,18 +120,23 @@ fn work_all<R: Threads + Wait + Sync>(
     Some(left)
 }
 
-#[test]
-fn two_seats_take_three_turns(rt: HostRuntime) -> Result<(), Fail> {
-    let alloc = rt.alloc();
+// Two seats take three turns. The count is 3: the history has the three entries, and no others.
+fn three_turns<R: Wait>(rt: &R, alloc: Global) -> Result<([u64; 3], u64), NoMemory>
+    ensures { IfOk result (λ r. r.1 ≡ 3) }
+{
     let (lock, mut one) = Turn::start(alloc, Counter { count: 0 })?;
-    let mut two = lock.split(&rt, &mut one);
-    let first = lock.turn(&rt, alloc, &mut one, ());
-    let second = lock.turn(&rt, alloc, &mut two, ());
-    let third = lock.turn_by(&rt, &mut one, (), |counter, call| counter.step(alloc, call));
-    assert_eq!(rt; [first, second, third], [0, 1, 2]);
+    let mut two = lock.split(rt, &mut one);
+    let first = lock.turn(rt, alloc, &mut one, ());
+    let second = lock.turn(rt, alloc, &mut two, ());
+    let third = lock.turn_by(rt, &mut one, (), |counter, call| counter.step(alloc, call));
     lock.join(&mut one, two);
     let counter = lock.close(one);
-    assert_eq!(rt; counter.count, 3);
+    Ok(([first, second, third], counter.count))
+}
+
+#[test]
+fn two_seats_take_three_turns(rt: HostRuntime) -> Result<(), Fail> {
+    assert_eq!(rt; three_turns(&rt, rt.alloc())?, ([0, 1, 2], 3));
     Ok(())
 }
 

@@ -1,5 +1,5 @@
-use Rattle.std.proofs.Common.{rules, ◌≡◌, Some, sym, ap, ◌∙◌, subst}
-use mathlib.Core.Option.{some, some-injective}
+use Rattle.std.proofs.Common.{◌≡◌, Some, sym, ap, ◌∙◌, subst}
+use mathlib.Core.Option.{some-injective}
 use Rattle.turn_lock.specs.History.{IsRun}
 use Rattle.turn_lock.specs.Standing.{IsSound}
 use Rattle.turn_lock.proofs.Parting.{closes}

@@ -1,4 +1,4 @@
-use Rattle.std.proofs.Common.{rules, sym, ap, ◌∙◌}
+use Rattle.std.proofs.Common.{rules, ap, ◌∙◌}
 use Rattle.turn_lock.proofs.Queue.{draws}
 use Rattle.turn_lock.proofs.turn.Turn.draw.Goals as goal
 

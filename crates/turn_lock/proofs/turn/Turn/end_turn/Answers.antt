@@ -1,4 +1,4 @@
-use Rattle.std.proofs.Common.{rules, sym, ap, ◌∙◌, subst, List, ◌∷◌, [], Some}
+use Rattle.std.proofs.Common.{rules, sym, ap, ◌∙◌, subst, ◌∷◌, Some}
 use Rattle.std.specs.Prelude.{unwrap_or}
 use Rattle.atomic_table.specs.Table.{rest}
 use Rattle.turn_lock.specs.History.{IsRun}

@@ -1,5 +1,5 @@
-use Rattle.std.proofs.Common.{rules, sym, ap, ◌∙◌, subst}
-use Rattle.turn_lock.proofs.Parting.{joins, both_begin}
+use Rattle.std.proofs.Common.{rules, ap, ◌∙◌}
+use Rattle.turn_lock.proofs.Parting.{joins}
 use Rattle.turn_lock.proofs.Changes.{looks}
 use Rattle.turn_lock.proofs.Facts.{sound}
 use Rattle.turn_lock.proofs.turn.Turn.join.Goals as goal

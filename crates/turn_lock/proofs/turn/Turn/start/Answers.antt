@@ -1,7 +1,5 @@
-use Rattle.std.proofs.Common.{rules, ◌≡◌, List, [], ◌∷◌, Some, refl, sym, ap, ◌∙◌, subst}
+use Rattle.std.proofs.Common.{rules, ◌≡◌, [], ◌∷◌, Some, sym, ap, subst}
 use Rattle.turn_lock.specs.Steps.{Knows}
-use Rattle.turn_lock.specs.Rule.{IsKept, first_view}
-use Rattle.atomic_table.specs.Table.{opening}
 use Rattle.turn_lock.proofs.Parting.{starts}
 use Rattle.turn_lock.proofs.Facts.{first_knows, sound}
 use Rattle.turn_lock.proofs.turn.Turn.start.Goals as goal

@@ -1,4 +1,4 @@
-use Rattle.std.proofs.Common.{rules, sym, ap, ◌∙◌, subst}
+use Rattle.std.proofs.Common.{rules, ap, ◌∙◌}
 use Rattle.turn_lock.proofs.Queue.{serves}
 use Rattle.turn_lock.proofs.turn.Turn.wait_for.Goals as goal
 
