@@ -15,7 +15,8 @@ use Rattle.turn_lock.specs.declared.view.View.{View}
 use Rattle.turn_lock.specs.History.{Begins, entries_of, entry, IsRun, Lawful, StepRelation, Permission}
 use Rattle.turn_lock.specs.Standing.{Standing, numbers_of, IsSound, IsNew, HasCalled, all_parts}
 use Rattle.turn_lock.specs.Rule.{own_claim, claims, uses, parts_of, IsKept, first_view}
-use Rattle.turn_lock.specs.Steps.{standing, names, Knows, in_turn, with_entries, with_part_less, HasTurn, MayEnd}
+use Rattle.turn_lock.specs.Steps.{standing, names, Knows, in_turn, with_entries, with_part_less, HasTurn}
+use Rattle.turn_lock.specs.Places.{MayEnd}
 use Rattle.turn_lock.proofs.Histories.{begins_none, legal_front, run_none, begins_nil}
 use Rattle.turn_lock.proofs.Counts.{one_below, two_below, one_there, differ_from_counts}
 

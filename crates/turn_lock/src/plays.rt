@@ -37,7 +37,7 @@ impl<M: Machine> Play<Option<M>, View<M::Call, M::Reply>> for Serve<M> {
     ghost then = { Serves M.state M.start M.steps M.may };
 }
 
-/// The entries that a turn adds to the history. Each call of `pass_on` picks them.
+/// The entries that a turn adds to the history. Each call of `end_turn` picks them.
 pub trait Added<C, R> {
     ghost use Rattle.std.specs.Prelude.{List};
     ghost use Rattle.turn_lock.specs.declared.entry.Entry.{Entry};

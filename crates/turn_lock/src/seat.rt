@@ -20,7 +20,8 @@ pub struct Seat<M: Machine> {
 impl<M: Machine> Model for Seat<M> {
     ghost use Rattle.std.specs.Prelude.{◌≡◌, []};
     ghost use Rattle.turn_lock.specs.Standing.{Standing};
-    ghost use Rattle.turn_lock.specs.Steps.{standing, IsSeated};
+    ghost use Rattle.turn_lock.specs.Steps.{standing};
+    ghost use Rattle.turn_lock.specs.Places.{IsSeated};
 
     ghost Value = { Standing M.Call M.Reply };
 

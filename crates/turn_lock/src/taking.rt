@@ -3,7 +3,8 @@ ghost use Rattle.std.specs.Prelude.{◌≡◌, ℕ, ◌+◌, ◌<◌, ◌^◌, [
 ghost use Rattle.turn_lock.specs.Answering.{AnswersAs};
 ghost use Rattle.turn_lock.specs.History.{entry};
 ghost use Rattle.turn_lock.specs.Standing.{Standing, IsSound, HasCalled};
-ghost use Rattle.turn_lock.specs.Steps.{IsSamePlace, IsFree, IsWaiting, Waits, HasTurn, MayEnd, Knows, with_entries};
+ghost use Rattle.turn_lock.specs.Steps.{HasTurn, Knows, with_entries};
+ghost use Rattle.turn_lock.specs.Places.{IsSamePlace, IsFree, IsWaiting, Waits, MayEnd};
 ghost use Rattle.turn_lock.specs.declared.view.Phase.TheVariants.{Free, Waiting};
 
 use crate::machine::Machine;
