@@ -1,16 +1,18 @@
 -- Products of factors by their digits.
-use Rattle.std.proofs.Common.{◌≡◌, ℕ, zero, suc, ◌+◌, ◌-◌, ◌*◌, ◌/◌, ◌%◌, ◌^◌, ◌<◌, ◌≤◌, ◌⊎◌, ◌==◌, Bool, true, false, cond, inl, inr, refl, sym, ap, ◌∙◌, arith, rules, tests, List, [], ◌∷◌, length, get_or, drop}
-use Rattle.std.proofs.lemmas.Bool.{cases_lt}
-use Rattle.std.proofs.lemmas.Nat.{and_mask}
-use Rattle.std.specs.Prelude.{bit_and}
+use Rattle.std.proofs.Common.{◌≡◌, ℕ, zero, suc, ◌+◌, ◌*◌, ◌^◌, ◌<◌, ◌≤◌, ◌⊎◌, ◌==◌, Bool, true, false, cond, inl, inr, refl, ap, ◌∙◌, arith, rules, tests, List, [], ◌∷◌, length, get_or, drop}
+use Rattle.std.proofs.lemmas.Bool.{cases_lt, false≢true, eqb-true}
+use Rattle.std.specs.Prelude.{◌&&◌}
 use Rattle.std.proofs.Math.Seq.{drop-cons}
+use Rattle.std.proofs.Math.Nat.{mul-div_cancel}
+use Rattle.std.specs.Int.{div_ceil}
+use Rattle.enclose_exp.proofs.Scaling.{div_ceil-whole}
 use Rattle.fix_interval.specs.Roots.{one_factor, times_low, times_high, digit_at, product}
-use Rattle.enclose_exp.specs.Fits.{ProductsFit}
+use Rattle.enclose_exp.specs.Digits.{ProductsFit, IsDigitTable, factor_at}
 
 -- one more place
 pub product-suc : (times : ℕ → ℕ → ℕ) (factor : ℕ → ℕ) (start fraction place : ℕ) →
-  product times factor start fraction (suc place)
-  ≡ cond (digit_at fraction place == 1) (times (product times factor start fraction place) (factor place)) (product times factor start fraction place)
+    product times factor start fraction (suc place)
+    ≡ cond (digit_at fraction place == 1) (times (product times factor start fraction place) (factor place)) (product times factor start fraction place)
 unfolding product
 product-suc times factor start fraction place = refl
 
@@ -24,43 +26,45 @@ true_or_false true = inl refl
 true_or_false false = inr refl
 
 pub product-cases : (times : ℕ → ℕ → ℕ) (factor : ℕ → ℕ) (start fraction place : ℕ) →
-  ((digit_at fraction place ≡ 1) × (product times factor start fraction (suc place) ≡ times (product times factor start fraction place) (factor place)))
-  ⊎ ((digit_at fraction place ≡ 0) × (product times factor start fraction (suc place) ≡ product times factor start fraction place))
+    ((digit_at fraction place ≡ 1) × (product times factor start fraction (suc place) ≡ times (product times factor start fraction place) (factor place)))
+    ⊎ ((digit_at fraction place ≡ 0) × (product times factor start fraction (suc place) ≡ product times factor start fraction place))
 product-cases times factor start fraction place =
-  elim (cases_lt (digit_at fraction place) 1) [
-    inl zero_digit ↦ (let e : (digit_at fraction place == 1) ≡ false = search (rules, tests, zero_digit) in
-      inr (omega arith, product-suc times factor start fraction place ∙ rw e refl))
-  | inr one_digit ↦ (let one : digit_at fraction place ≡ 1 = omega arith in
-      let e : (digit_at fraction place == 1) ≡ true = search (rules, tests, one) in
-      inl (one, product-suc times factor start fraction place ∙ rw e refl)) ]
+    elim (cases_lt (digit_at fraction place) 1) [
+      | inl zero_digit ↦ (let e : (digit_at fraction place == 1) ≡ false = search (rules, tests, zero_digit) in
+          inr (omega arith, product-suc times factor start fraction place ∙ rw e refl))
+      | inr one_digit ↦ (let one : digit_at fraction place ≡ 1 = omega arith in
+          let e : (digit_at fraction place == 1) ≡ true = search (rules, tests, one) in
+          inl (one, product-suc times factor start fraction place ∙ rw e refl))
+    ]
 
 -- factors that agree at each place give one product
 pub product-same : (times : ℕ → ℕ → ℕ) (f g : ℕ → ℕ) (start fraction count : ℕ) → ((i : ℕ) → i < count → f i ≡ g i) →
-  product times f start fraction count ≡ product times g start fraction count
+    product times f start fraction count ≡ product times g start fraction count
 unfolding product
 product-same times f g start fraction zero same = refl
 product-same times f g start fraction (suc count) same =
-  let before = product-same times f g start fraction count (λ i h. same i (omega arith)) in
-  rw (before, same count (omega arith)) refl
+    let before = product-same times f g start fraction count (λ i h. same i (omega arith)) in
+    rw (before, same count (omega arith)) refl
 
 -- ---- factors that are at most 1: no product passes the start
 
 pub product-le_start : (times : ℕ → ℕ → ℕ) (factor : ℕ → ℕ) (start fraction count : ℕ) → ((p i : ℕ) → i < count → times p (factor i) ≤ p) →
-  product times factor start fraction count ≤ start
+    product times factor start fraction count ≤ start
 product-le_start times factor start fraction zero shrinks = rw (product-zero times factor start fraction) (omega arith)
 product-le_start times factor start fraction (suc count) shrinks =
-  let before = product-le_start times factor start fraction count (λ p i h. shrinks p i (omega arith)) in
-  let step = shrinks (product times factor start fraction count) count (omega arith) in
-  elim (product-cases times factor start fraction count) [
-    inl c ↦ omega (arith, c.1, before, step)
-  | inr c ↦ omega (arith, c.1, before) ]
+    let before = product-le_start times factor start fraction count (λ p i h. shrinks p i (omega arith)) in
+    let step = shrinks (product times factor start fraction count) count (omega arith) in
+    elim (product-cases times factor start fraction count) [
+      | inl c ↦ omega (arith, c.1, before, step)
+      | inr c ↦ omega (arith, c.1, before)
+    ]
 
 pub fits-shrinking : (times : ℕ → ℕ → ℕ) (factor : ℕ → ℕ) (start fraction : ℕ) → start < 2 ^ 64 → ((p i : ℕ) → i < 32 → times p (factor i) ≤ p) →
-  ProductsFit times factor start fraction
+    ProductsFit times factor start fraction
 fits-shrinking times factor start fraction small shrinks place within =
-  let before = product-le_start times factor start fraction place (λ p i h. shrinks p i (omega arith)) in
-  let step = shrinks (product times factor start fraction place) place within in
-  omega (arith, before, step)
+    let before = product-le_start times factor start fraction place (λ p i h. shrinks p i (omega arith)) in
+    let step = shrinks (product times factor start fraction place) place within in
+    omega (arith, before, step)
 
 -- ---- factors that are at least 1: no product passes the one of all of them
 
@@ -74,7 +78,6 @@ pub record Grows (times : ℕ → ℕ → ℕ) (least : ℕ) : Type 0 where
   pub monotone : (p q x : ℕ) → p ≤ q → times p x ≤ times q x
   pub grows : (p x : ℕ) → least ≤ x → p ≤ times p x
 
-
 monotone-all : (times : ℕ → ℕ → ℕ) (least : ℕ) → Grows times least → (xs : List ℕ) (p q : ℕ) → p ≤ q → product_of_all times xs p ≤ product_of_all times xs q
 monotone-all times least g [] p q le = le
 monotone-all times least g (x ∷ xs) p q le = monotone-all times least g xs (times p x) (times q x) (g.monotone p q x le)
@@ -82,9 +85,9 @@ monotone-all times least g (x ∷ xs) p q le = monotone-all times least g xs (ti
 grows-all : (times : ℕ → ℕ → ℕ) (least : ℕ) → Grows times least → (xs : List ℕ) (p : ℕ) → ((i : ℕ) → i < length xs → least ≤ get_or xs i 0) → p ≤ product_of_all times xs p
 grows-all times least g [] p large = omega arith
 grows-all times least g (x ∷ xs) p large =
-  let first = g.grows p x (large 0 (omega arith)) in
-  let rest = grows-all times least g xs (times p x) (λ i h. large (suc i) (omega arith)) in
-  omega (arith, first, rest)
+    let first = g.grows p x (large 0 (omega arith)) in
+    let rest = grows-all times least g xs (times p x) (λ i h. large (suc i) (omega arith)) in
+    omega (arith, first, rest)
 
 grows-drop : (times : ℕ → ℕ → ℕ) (least : ℕ) → Grows times least → (xs : List ℕ) (i p : ℕ) → ((j : ℕ) → j < length xs → least ≤ get_or xs j 0) → p ≤ product_of_all times (drop i xs) p
 grows-drop times least g xs zero p large = grows-all times least g xs p large
@@ -93,35 +96,100 @@ grows-drop times least g (x ∷ xs) (suc i) p large = grows-drop times least g x
 
 -- the product so far, times all the factors that are left, is at most the product of all
 kept-all : (times : ℕ → ℕ → ℕ) (least : ℕ) → Grows times least → (xs : List ℕ) (start fraction count : ℕ) → ((i : ℕ) → i < length xs → least ≤ get_or xs i 0) → count ≤ length xs →
-  product_of_all times (drop count xs) (product times (λ i. get_or xs i 0) start fraction count) ≤ product_of_all times xs start
+    product_of_all times (drop count xs) (product times (λ i. get_or xs i 0) start fraction count) ≤ product_of_all times xs start
 kept-all times least g xs start fraction zero large within = rw (product-zero times (λ i. get_or xs i 0) start fraction) (omega arith)
 kept-all times least g xs start fraction (suc count) large within =
-  let p = product times (λ i. get_or xs i 0) start fraction count in
-  let before = kept-all times least g xs start fraction count large (omega arith) in
-  let short : count < length xs = omega arith in
-  let split = drop-cons xs count 0 short in
-  let unfolded : product_of_all times (drop count xs) p ≡ product_of_all times (drop (suc count) xs) (times p (get_or xs count 0)) = rw split refl in
-  elim (product-cases times (λ i. get_or xs i 0) start fraction count) [
-    inl c ↦ rw c.1 (omega (arith, before, unfolded))
-  | inr c ↦ rw c.1 (let step = monotone-all times least g (drop (suc count) xs) p (times p (get_or xs count 0)) (g.grows p (get_or xs count 0) (large count short)) in omega (arith, before, unfolded, step)) ]
+    let p = product times (λ i. get_or xs i 0) start fraction count in
+    let before = kept-all times least g xs start fraction count large (omega arith) in
+    let short : count < length xs = omega arith in
+    let split = drop-cons xs count 0 short in
+    let unfolded : product_of_all times (drop count xs) p ≡ product_of_all times (drop (suc count) xs) (times p (get_or xs count 0)) = rw split refl in
+    elim (product-cases times (λ i. get_or xs i 0) start fraction count) [
+      | inl c ↦ rw c.1 (omega (arith, before, unfolded))
+      | inr c ↦ rw c.1 (let step = monotone-all times least g (drop (suc count) xs) p (times p (get_or xs count 0)) (g.grows p (get_or xs count 0) (large count short)) in omega (arith, before, unfolded, step))
+    ]
 
 pub fits-growing : (times : ℕ → ℕ → ℕ) (least : ℕ) → Grows times least → (xs : List ℕ) (start fraction : ℕ) → length xs ≡ 32 → ((i : ℕ) → i < length xs → least ≤ get_or xs i 0) → product_of_all times xs start < 2 ^ 64 →
-  ProductsFit times (λ i. get_or xs i 0) start fraction
+    ProductsFit times (λ i. get_or xs i 0) start fraction
 fits-growing times least g xs start fraction count large small place within =
-  let p = product times (λ i. get_or xs i 0) start fraction place in
-  let short : place < length xs = omega arith in
-  let before = kept-all times least g xs start fraction place large (omega arith) in
-  let split = drop-cons xs place 0 short in
-  let unfolded : product_of_all times (drop place xs) p ≡ product_of_all times (drop (suc place) xs) (times p (get_or xs place 0)) = rw split refl in
-  let step = grows-drop times least g xs (suc place) (times p (get_or xs place 0)) large in
-  omega (arith, before, unfolded, step, small)
+    let p = product times (λ i. get_or xs i 0) start fraction place in
+    let short : place < length xs = omega arith in
+    let before = kept-all times least g xs start fraction place large (omega arith) in
+    let split = drop-cons xs place 0 short in
+    let unfolded : product_of_all times (drop place xs) p ≡ product_of_all times (drop (suc place) xs) (times p (get_or xs place 0)) = rw split refl in
+    let step = grows-drop times least g xs (suc place) (times p (get_or xs place 0)) large in
+    omega (arith, before, unfolded, step, small)
 
--- one turn of the code
-pub turn-is : (times : ℕ → ℕ → ℕ) (factor : ℕ → ℕ) (start fraction place p r : ℕ) → p ≡ product times factor start fraction place →
-  r ≡ cond (bit_and (fraction / 2 ^ (31 - place)) 1 == 1) (times p (factor place)) p → r ≡ product times factor start fraction (place + 1)
-turn-is times factor start fraction place p r before made =
-  let next : place + 1 ≡ suc place = omega arith in
-  let bit : bit_and (fraction / 2 ^ (31 - place)) 1 ≡ digit_at fraction place = and_mask (fraction / 2 ^ (31 - place)) 1 in
-  made ∙ ap (λ d. cond (d == 1) (times p (factor place)) p) bit
-  ∙ ap (λ x. cond (digit_at fraction place == 1) (times x (factor place)) x) before
-  ∙ sym (product-suc times factor start fraction place) ∙ ap (λ i. product times factor start fraction i) (sym next)
+-- one turn of the code: `entry` stands in the table at the place of the digit d
+pub turn-fits : (times : ℕ → ℕ → ℕ) (table : List ℕ) (start fraction place p d : ℕ) → ((q : ℕ) → times q one_factor ≡ q) → IsDigitTable table →
+    ProductsFit times (factor_at table) start fraction → place < 32 → p < 2 ^ 64 → p ≡ product times (factor_at table) start fraction place →
+    d ≡ digit_at fraction place → times p (get_or table (2 * place + d) 0) < 2 ^ 64
+turn-fits times table start fraction place p d whole ones fit within small before digit =
+    elim (cases_lt d 1) [
+      | inl none ↦ (let zero_digit : 2 * place + d ≡ 2 * place = omega arith in
+          let entry : get_or table (2 * place + d) 0 ≡ one_factor = ap (λ i. get_or table i 0) zero_digit ∙ ones place within in
+          rw (entry, whole p) small)
+      | inr some ↦ (let one_digit : 2 * place + d ≡ 2 * place + 1 = omega (arith, digit) in
+          rw (one_digit, before) (fit place within))
+    ]
+
+pub turn-is : (times : ℕ → ℕ → ℕ) (table : List ℕ) (start fraction place p d r : ℕ) → ((q : ℕ) → times q one_factor ≡ q) → IsDigitTable table →
+    place < 32 → p ≡ product times (factor_at table) start fraction place →
+    d ≡ digit_at fraction place → r ≡ times p (get_or table (2 * place + d) 0) → r ≡ product times (factor_at table) start fraction (place + 1)
+turn-is times table start fraction place p d r whole ones within before digit made =
+    let next : place + 1 ≡ suc place = omega arith in
+    elim (product-cases times (factor_at table) start fraction place) [
+      | inl c ↦ (let one_digit : 2 * place + d ≡ 2 * place + 1 = omega (arith, digit, c.0) in
+          rw (next, c.1) (made ∙ ap (λ i. times p (get_or table i 0)) one_digit ∙ ap (λ q. times q (factor_at table place)) before))
+      | inr c ↦ (let zero_digit : 2 * place + d ≡ 2 * place = omega (arith, digit, c.0) in
+          let entry : get_or table (2 * place + d) 0 ≡ one_factor = ap (λ i. get_or table i 0) zero_digit ∙ ones place within in
+          rw (next, c.1) (made ∙ ap (λ f. times p f) entry ∙ whole p ∙ before))
+    ]
+
+-- a factor of 1 changes nothing
+pub times_low-one : (p : ℕ) → times_low p one_factor ≡ p
+times_low-one p = mul-div_cancel p (omega arith)
+
+pub times_high-one : (p : ℕ) → times_high p one_factor ≡ p
+times_high-one p = ap (λ n. div_ceil n one_factor) (omega arith) ∙ div_ceil-whole p one_factor (omega arith)
+
+-- no product passes the one of all factors
+pub product-le_all : (times : ℕ → ℕ → ℕ) (least : ℕ) → Grows times least → (xs : List ℕ) (start fraction count : ℕ) → ((i : ℕ) → i < length xs → least ≤ get_or xs i 0) → count ≤ length xs →
+    product times (λ i. get_or xs i 0) start fraction count ≤ product_of_all times xs start
+product-le_all times least g xs start fraction count large within =
+    let kept = kept-all times least g xs start fraction count large within in
+    let rest = grows-drop times least g xs count (product times (λ i. get_or xs i 0) start fraction count) large in
+    omega (arith, kept, rest)
+
+-- ---- the factors of the digit 1 of a table
+
+-- every second entry
+abbrev pub seconds : List ℕ → List ℕ
+seconds [] = []
+seconds (x ∷ []) = []
+seconds (x ∷ (y ∷ xs)) = y ∷ seconds xs
+
+pub seconds-at : (xs : List ℕ) (i : ℕ) → get_or (seconds xs) i 0 ≡ get_or xs (2 * i + 1) 0
+seconds-at [] i = refl
+seconds-at (x ∷ []) i = (let e : 2 * i + 1 ≡ suc (2 * i) = omega arith in rw e refl)
+seconds-at (x ∷ (y ∷ xs)) zero = refl
+seconds-at (x ∷ (y ∷ xs)) (suc i) = (let e : 2 * suc i + 1 ≡ suc (suc (2 * i + 1)) = omega arith in rw e (seconds-at xs i))
+
+-- the entries between them are all 1
+abbrev pub are_ones : List ℕ → Bool
+are_ones [] = true
+are_ones (x ∷ []) = x == one_factor
+are_ones (x ∷ (y ∷ xs)) = (x == one_factor) && are_ones xs
+
+both-true : (a b : Bool) → (a && b) ≡ true → (a ≡ true) × (b ≡ true)
+both-true true b h = (refl, h)
+both-true false b h = absurd (false≢true h)
+
+pub ones-at : (xs : List ℕ) (i : ℕ) → are_ones xs ≡ true → 2 * i < length xs → get_or xs (2 * i) 0 ≡ one_factor
+ones-at [] i all within = absurd (omega arith)
+ones-at (x ∷ []) zero all within = eqb-true x one_factor all
+ones-at (x ∷ []) (suc i) all within = absurd (omega arith)
+ones-at (x ∷ (y ∷ xs)) zero all within = eqb-true x one_factor (both-true (x == one_factor) (are_ones xs) all).0
+ones-at (x ∷ (y ∷ xs)) (suc i) all within =
+    let e : 2 * suc i ≡ suc (suc (2 * i)) = omega arith in
+    rw e (ones-at xs i (both-true (x == one_factor) (are_ones xs) all).1 (omega arith))

@@ -1,15 +1,15 @@
 //! e to the power of the negative of an interval.
 
-ghost use Rattle.std.specs.Prelude.{◌≡◌, ◌<◌, ◌≤◌, ◌*◌, ◌^◌, ◌≤ℤ◌, IsSomeAnd, IfSome, pos, Some, unsigned_abs};
-ghost use Rattle.std.specs.Option.{option_map, option_map_or, ForSome};
-ghost use Rattle.fix_interval.specs.ExpNeg.{exp_neg_of, exp_neg_low, exp_neg_high};
+ghost use Rattle.std.specs.Prelude.{◌≡◌, ◌<◌, ◌≤◌, ◌*◌, ◌^◌, ◌≤ℤ◌, IsSomeAnd, min, pos, Some, unsigned_abs};
+ghost use Rattle.std.specs.Option.{option_map_or, ForSome};
+ghost use Rattle.fix_interval.specs.ExpNeg.{exp_neg_of, exp_neg_low, exp_neg_high, decay_low, decay_high};
 
-use crate::product::{product_high, product_low};
+use crate::product::{Start, products, units_up};
 use crate::tables::{DECAY_HIGH, DECAY_LOW, WHOLE_HIGH, WHOLE_LOW};
 use fix_interval::Iv;
 
-/// The exponent 23, from which on the power is less than the least end above 0.
-const GREATEST: i128 = 23 << 32;
+/// The exponent 23, from which on a decay is less than the least end above 0.
+const GREATEST: u64 = 23 << 32;
 
 /// e to the power of the negative of an interval that is not below 0: the low end from the high end of the
 /// argument, rounded down, and the high end from its low end, rounded up to 2^-32. The low end is bounded and
@@ -20,53 +20,65 @@ pub fn exp_neg(a: Iv) -> Iv
     ensures low { IsSomeAnd result.lo (λ z. pos 0 ≤ℤ z) }
     ensures high { IsSomeAnd result.hi (λ z. z ≤ℤ pos (2 ^ 32)) }
 {
-    Iv::of_ends(low_decay(a.high()), high_decay(a.low()))
+    let low = exponent(a.low());
+    let high = exponent(a.high());
+    let (down, up) = decays(high, low);
+    Iv::of_ends(low_decay(high, down), high_decay(low, up))
 }
 
-/// The low end of the result, from the high end of the argument.
-fn low_decay(end: Option<i128>) -> Option<i128>
+/// The exponent of an end, kept within 23; an unbounded one is 23.
+fn exponent(end: Option<i128>) -> u64
     requires { ForSome end (λ x. pos 0 ≤ℤ x) }
-    ensures { result ≡ Some (pos (option_map_or (λ z. exp_neg_low (unsigned_abs z)) end 0)) }
+    ensures value { result ≡ option_map_or (λ z. min (unsigned_abs z) (23 * 2 ^ 32)) end (23 * 2 ^ 32) }
+    ensures bound { result ≤ 23 * 2 ^ 32 }
 {
     match end {
-        Some(exponent) if exponent < GREATEST => {
-            Some(i128::from(decay_down(exponent as u64)))
-        }
-        _ => Some(0),
+        Some(exponent) => exponent.min(i128::from(GREATEST)) as u64,
+        None => GREATEST,
     }
 }
 
-/// The high end of the result, from the low end of the argument.
-fn high_decay(end: Option<i128>) -> Option<i128>
-    requires { ForSome end (λ x. pos 0 ≤ℤ x) }
-    ensures { result ≡ option_map (λ z. pos (exp_neg_high (unsigned_abs z))) end }
+/// 1/e to the power of two numbers, in units of 2^-60, of the first rounded down and of the second rounded
+/// up.
+fn decays(low: u64, high: u64) -> (u64, u64)
+    requires low { low ≤ 23 * 2 ^ 32 }
+    requires high { high ≤ 23 * 2 ^ 32 }
+    ensures low { result.0 ≡ decay_low low }
+    ensures high { result.1 ≡ decay_high high }
 {
-    match end {
-        Some(exponent) if exponent < GREATEST => {
-            Some(i128::from(decay_up(exponent as u64)))
-        }
-        Some(_) => Some(1),
-        None => None,
+    let low = Start {
+        factor: WHOLE_LOW[(low >> 32) as usize],
+        fraction: (low % (1 << 32)) as u32,
+    };
+    let high = Start {
+        factor: WHOLE_HIGH[(high >> 32) as usize],
+        fraction: (high % (1 << 32)) as u32,
+    };
+    products(&DECAY_LOW, &DECAY_HIGH, low, high)
+}
+
+/// The low end of a decay, which is `product` in units of 2^-60.
+fn low_decay(exponent: u64, product: u64) -> Option<i128>
+    requires { product ≡ decay_low exponent }
+    ensures { result ≡ Some (pos (exp_neg_low exponent)) }
+{
+    if exponent < GREATEST {
+        Some(i128::from(product >> 28))
+    } else {
+        Some(0)
     }
 }
 
-/// 1/e to the power of a number below 23, rounded down.
-fn decay_down(exponent: u64) -> u64
-    requires { exponent < 23 * 2 ^ 32 }
-    ensures { result ≡ exp_neg_low exponent }
+/// The high end of a decay.
+fn high_decay(exponent: u64, product: u64) -> Option<i128>
+    requires { product ≡ decay_high exponent }
+    ensures { result ≡ Some (pos (exp_neg_high exponent)) }
 {
-    let start = WHOLE_LOW[(exponent >> 32) as usize];
-    product_low(&DECAY_LOW, start, (exponent & u64::from(u32::MAX)) as u32) >> 28
-}
-
-/// The same, rounded up.
-fn decay_up(exponent: u64) -> u64
-    requires { exponent < 23 * 2 ^ 32 }
-    ensures { result ≡ exp_neg_high exponent }
-{
-    let start = WHOLE_HIGH[(exponent >> 32) as usize];
-    let product = product_high(&DECAY_HIGH, start, (exponent & u64::from(u32::MAX)) as u32);
-    (product >> 28) + u64::from(product & ((1 << 28) - 1) != 0)
+    if exponent < GREATEST {
+        Some(i128::from(units_up(product)))
+    } else {
+        Some(1)
+    }
 }
 
 #[cfg(test)]

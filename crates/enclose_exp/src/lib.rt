@@ -7,6 +7,7 @@
 #![tactic(auto)]
 
 mod decay;
+pub mod laws;
 mod power;
 mod product;
 mod tables;

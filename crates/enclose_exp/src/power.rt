@@ -1,18 +1,22 @@
 //! Ten to the power of an interval.
 
-ghost use Rattle.std.specs.Prelude.{◌≡◌, ◌<◌, ◌≤◌, ◌*◌, ◌^◌, ◌≤ℤ◌, IsSomeAnd, IfSome, pos, Some, option_and_then};
+ghost use Rattle.std.specs.Prelude.{◌≡◌, ◌<◌, ◌≤◌, ◌*◌, ◌%◌, ◌^◌, ◌≤ℤ◌, IsSomeAnd, IfSome, pos, Some};
 ghost use Rattle.std.specs.Option.{option_map_or};
-ghost use Rattle.fix_interval.specs.Ten.{ten_of, ten_low, ten_high, raised_low, raised_high, fraction_low, fraction_high};
+ghost use Rattle.fix_interval.specs.Ten.{ten_of, raised_low, raised_high, fraction_low, fraction_high};
+ghost use Rattle.enclose_exp.specs.Exponent.{counted, low_value, high_value};
 
-use crate::product::{ONE, product_high, product_low};
-use crate::tables::{POWERS_OF_TEN, TEN_HIGH, TEN_LOW};
+use crate::product::{Start, products, units_up};
+use crate::tables::{ONE, POWERS_OF_TEN, TEN_HIGH, TEN_LOW};
 use fix_interval::Iv;
 
 /// The exponent 20, from which on the low end stays and the high end is unbounded.
 const GREATEST: i128 = 20 << 32;
 
-/// The exponent -19, below which a power is less than the least end above 0.
-const LEAST: i128 = -19 << 32;
+/// That exponent as it is counted, from -20 on.
+const GREATEST_COUNTED: u64 = 40 << 32;
+
+/// The exponent -19 as it is counted: below it a power is less than the least end above 0.
+const LEAST_COUNTED: u64 = 1 << 32;
 
 /// Ten to the power of an interval, end by end: the low end rounded down and the high end rounded up to
 /// 2^-32. ISO 9613-2 adds levels by it, in equations (5) and (6). The low end is bounded and not below 0;
@@ -22,82 +26,111 @@ pub fn ten(a: Iv) -> Iv
     ensures low { IsSomeAnd result.lo (λ z. pos 0 ≤ℤ z) }
     ensures high { IfSome result.hi (λ z. pos 1 ≤ℤ z) }
 {
-    Iv::of_ends(low_power(a.low()), high_power(a.high()))
+    let low = exponent(a.low(), 0);
+    let high = exponent(a.high(), GREATEST_COUNTED);
+    let (down, up) = fractions((low % (1 << 32)) as u32, (high % (1 << 32)) as u32);
+    Iv::of_ends(low_power(low, down), high_power(high, up))
 }
 
-/// Ten to the power of a low end.
-fn low_power(end: Option<i128>) -> Option<i128>
-    ensures { result ≡ Some (pos (option_map_or ten_low end 0)) }
+/// The exponent of an end as it is counted, from -20 on; `unbounded` where there is no end.
+fn exponent(end: Option<i128>, unbounded: u64) -> u64
+    requires { unbounded ≤ 40 * 2 ^ 32 }
+    ensures value { result ≡ option_map_or counted end unbounded }
+    ensures bound { result ≤ 40 * 2 ^ 32 }
 {
     match end {
-        Some(exponent) if exponent >= GREATEST => Some(100_000_000_000_000_000_000 << 32),
-        Some(exponent) if exponent >= LEAST => {
-            Some(power_down((exponent + GREATEST) as u64) as i128)
-        }
-        _ => Some(0),
+        Some(exponent) => (exponent.clamp(-GREATEST, GREATEST) + GREATEST) as u64,
+        None => unbounded,
     }
 }
 
-/// Ten to the power of a high end.
-fn high_power(end: Option<i128>) -> Option<i128>
-    ensures { result ≡ option_and_then ten_high end }
+/// Ten to the power of two fractions of 2^-32nds, in units of 2^-60, of the first rounded down and of the
+/// second rounded up.
+fn fractions(low: u32, high: u32) -> (u64, u64)
+    ensures low { result.0 ≡ fraction_low low }
+    ensures high { result.1 ≡ fraction_high high }
 {
-    match end {
-        Some(exponent) if exponent < LEAST => Some(1),
-        Some(exponent) if exponent < GREATEST => {
-            Some(power_up((exponent + GREATEST) as u64) as i128)
-        }
-        _ => None,
+    let low = Start {
+        factor: ONE,
+        fraction: low,
+    };
+    let high = Start {
+        factor: ONE,
+        fraction: high,
+    };
+    products(&TEN_LOW, &TEN_HIGH, low, high)
+}
+
+/// The low end of a power, of which `fraction` is the power of the fraction.
+fn low_power(exponent: u64, fraction: u64) -> Option<i128>
+    requires exponent { exponent ≤ 40 * 2 ^ 32 }
+    requires fraction { fraction ≡ fraction_low (exponent % 2 ^ 32) }
+    ensures { result ≡ Some (pos (low_value exponent)) }
+{
+    if exponent >= GREATEST_COUNTED {
+        Some(100_000_000_000_000_000_000 << 32)
+    } else if exponent < LEAST_COUNTED {
+        Some(0)
+    } else {
+        Some(power_down(exponent, fraction) as i128)
     }
 }
 
-/// Ten to the power of a number that counts from -20, rounded down.
-fn power_down(exponent: u64) -> u128
+/// The high end of a power.
+fn high_power(exponent: u64, fraction: u64) -> Option<i128>
+    requires exponent { exponent ≤ 40 * 2 ^ 32 }
+    requires fraction { fraction ≡ fraction_high (exponent % 2 ^ 32) }
+    ensures { result ≡ high_value exponent }
+{
+    if exponent >= GREATEST_COUNTED {
+        None
+    } else if exponent < LEAST_COUNTED {
+        Some(1)
+    } else {
+        Some(power_up(exponent, fraction) as i128)
+    }
+}
+
+/// The power of a fraction times that of the whole part, rounded down.
+fn power_down(exponent: u64, fraction: u64) -> u128
     requires above { 2 ^ 32 ≤ exponent }
     requires below { exponent < 40 * 2 ^ 32 }
+    requires fraction { fraction ≡ fraction_low (exponent % 2 ^ 32) }
     ensures value { result ≡ raised_low exponent }
     ensures bound { result < 2 ^ 100 }
 {
-    let fraction = fraction_down((exponent & u64::from(u32::MAX)) as u32);
     let whole = (exponent >> 32) as usize;
     if whole < 20 {
-        u128::from((fraction >> 28) / POWERS_OF_TEN[20 - whole])
+        u128::from((fraction >> 28) / power_of_ten(20 - whole))
     } else {
-        (u128::from(fraction) * u128::from(POWERS_OF_TEN[whole - 20])) >> 28
+        (u128::from(fraction) * u128::from(power_of_ten(whole - 20))) >> 28
     }
 }
 
 /// The same, rounded up.
-fn power_up(exponent: u64) -> u128
+fn power_up(exponent: u64, fraction: u64) -> u128
     requires above { 2 ^ 32 ≤ exponent }
     requires below { exponent < 40 * 2 ^ 32 }
+    requires fraction { fraction ≡ fraction_high (exponent % 2 ^ 32) }
     ensures value { result ≡ raised_high exponent }
-    ensures positive { 0 < result }
-    ensures bound { result < 2 ^ 100 }
+    ensures bound { result < 2 ^ 101 }
 {
-    let fraction = fraction_up((exponent & u64::from(u32::MAX)) as u32);
     let whole = (exponent >> 32) as usize;
     if whole < 20 {
-        let units = (fraction >> 28) + u64::from(fraction & ((1 << 28) - 1) != 0);
-        u128::from(units.div_ceil(POWERS_OF_TEN[20 - whole]))
+        u128::from(units_up(fraction).div_ceil(power_of_ten(20 - whole)))
     } else {
-        let product = u128::from(fraction) * u128::from(POWERS_OF_TEN[whole - 20]);
+        let product = u128::from(fraction) * u128::from(power_of_ten(whole - 20));
         (product + ((1 << 28) - 1)) >> 28
     }
 }
 
-/// Ten to the power of a fraction of 2^-32nds, in units of 2^-60, rounded down.
-fn fraction_down(fraction: u32) -> u64
-    ensures { result ≡ fraction_low fraction }
+/// 10 to a whole power below 20.
+fn power_of_ten(exponent: usize) -> u64
+    requires { exponent < 20 }
+    ensures value { result ≡ 10 ^ exponent }
+    ensures positive { 0 < result }
 {
-    product_low(&TEN_LOW, ONE, fraction)
-}
-
-/// The same, rounded up.
-fn fraction_up(fraction: u32) -> u64
-    ensures { result ≡ fraction_high fraction }
-{
-    product_high(&TEN_HIGH, ONE, fraction)
+    POWERS_OF_TEN[exponent]
 }
 
 #[cfg(test)]
@@ -129,7 +162,11 @@ mod tests {
             429_496_729_369_741_478_897_631_168_365,
             Some(429_496_729_369_741_502_478_718_757_630),
         ),
-        (85_899_345_920, 429_496_729_600_000_000_000_000_000_000, None),
+        (
+            85_899_345_920,
+            429_496_729_600_000_000_000_000_000_000,
+            None,
+        ),
     ];
 
     #[test]

@@ -1,56 +1,70 @@
 //! Products of factors, in units of 2^-60.
 
-ghost use Rattle.std.specs.Prelude.{◌≡◌, ◌<◌, ◌*◌, ◌^◌, Bool, if◌then◌else◌, slice_index};
-ghost use Rattle.fix_interval.specs.Roots.{times_low, times_high, product};
-ghost use Rattle.enclose_exp.specs.Fits.{ProductsFit};
+ghost use Rattle.std.specs.Prelude.{◌≡◌, ◌<◌, ◌*◌, ◌^◌};
+ghost use Rattle.std.specs.Int.{div_ceil};
+ghost use Rattle.fix_interval.specs.Roots.{times_low, times_high, digit_at, product};
+ghost use Rattle.enclose_exp.specs.Digits.{IsDigitTable, ProductsFit, factor_at};
 
-/// The number 1 as factors count it.
-pub(crate) const ONE: u64 = 1 << 60;
+use crate::tables::ONE;
 
-/// The start times the factor of each place whose digit in the fraction is 1, rounded down. The places are
-/// those of the 32 binary digits of a fraction of 2^-32nds, the highest first.
-pub(crate) fn product_low(factors: &[u64; 32], start: u64, fraction: u32) -> u64
-    requires { ProductsFit times_low (λ place. slice_index factors.now place) start fraction }
-    ensures { result ≡ product times_low (λ place. slice_index factors.now place) start fraction 32 }
-{
-    let mut product = start;
-    for (place, factor) in factors.iter().enumerate() {
-        let digit = (fraction >> (31 - place)) & 1 == 1;
-        product = next_low(product, *factor, digit);
-    }
-    product
+/// A product to be made: the factor that it starts from, and a fraction of 2^-32nds, whose binary digits say
+/// which factors of a table it takes.
+#[derive(Clone, Copy, Drop)]
+pub(crate) struct Start {
+    pub(crate) factor: u64,
+    pub(crate) fraction: u32,
 }
 
-/// The same product, rounded up.
-pub(crate) fn product_high(factors: &[u64; 32], start: u64, fraction: u32) -> u64
-    requires { ProductsFit times_high (λ place. slice_index factors.now place) start fraction }
-    ensures { result ≡ product times_high (λ place. slice_index factors.now place) start fraction 32 }
+/// Two products side by side: of the first the factors of the table `below`, rounded down, and of the second
+/// those of the table `above`, rounded up. A digit 0 multiplies by one, so that no branch depends on it.
+pub(crate) fn products(below: &[u64; 64], above: &[u64; 64], low: Start, high: Start) -> (u64, u64)
+    requires below { IsDigitTable below.now }
+    requires above { IsDigitTable above.now }
+    requires low_fits { ProductsFit times_low (factor_at below.now) low.factor low.fraction }
+    requires high_fits { ProductsFit times_high (factor_at above.now) high.factor high.fraction }
+    ensures low { result.0 ≡ product times_low (factor_at below.now) low.factor low.fraction 32 }
+    ensures high { result.1 ≡ product times_high (factor_at above.now) high.factor high.fraction 32 }
 {
-    let mut product = start;
-    for (place, factor) in factors.iter().enumerate() {
-        let digit = (fraction >> (31 - place)) & 1 == 1;
-        product = next_high(product, *factor, digit);
+    let mut down = low.factor;
+    let mut up = high.factor;
+    for place in 0..32usize {
+        down = times_down(down, below[2 * place + digit(low.fraction, place)]);
+        up = times_up(up, above[2 * place + digit(high.fraction, place)]);
     }
-    product
+    (down, up)
 }
 
-/// The product with one more factor, rounded down, if the digit is 1. A digit 0 multiplies by one, which
-/// changes nothing and takes no branch.
+/// The binary digit at a place of a fraction.
 #[inline(always)]
-fn next_low(product: u64, factor: u64, digit: bool) -> u64
-    requires { times_low product factor < 2 ^ 64 }
-    ensures { result ≡ (if digit then times_low product factor else product) }
+fn digit(fraction: u32, place: usize) -> usize
+    requires { place < 32 }
+    ensures value { result ≡ digit_at fraction place }
+    ensures binary { result < 2 }
 {
-    let factor = if digit { factor } else { ONE };
+    ((fraction >> (31 - place)) % 2) as usize
+}
+
+/// Two factors multiplied, rounded down.
+#[inline(always)]
+fn times_down(product: u64, factor: u64) -> u64
+    requires { times_low product factor < 2 ^ 64 }
+    ensures { result ≡ times_low product factor }
+{
     ((u128::from(product) * u128::from(factor)) >> 60) as u64
 }
 
-/// The same, rounded up.
+/// Two factors multiplied, rounded up.
 #[inline(always)]
-fn next_high(product: u64, factor: u64, digit: bool) -> u64
+fn times_up(product: u64, factor: u64) -> u64
     requires { times_high product factor < 2 ^ 64 }
-    ensures { result ≡ (if digit then times_high product factor else product) }
+    ensures { result ≡ times_high product factor }
 {
-    let factor = if digit { factor } else { ONE };
     ((u128::from(product) * u128::from(factor) + (u128::from(ONE) - 1)) >> 60) as u64
+}
+
+/// A factor in units of 2^-32, rounded up.
+pub(crate) fn units_up(factor: u64) -> u64
+    ensures { result ≡ div_ceil factor (2 ^ 28) }
+{
+    (factor >> 28) + u64::from(factor % (1 << 28) != 0)
 }

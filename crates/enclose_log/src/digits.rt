@@ -43,7 +43,7 @@ impl Turn {
         let tenth = half / 5;
         let whole = ((square >> 58) & WORD) as u64;
         let one = half >= 5 * ONE;
-        self.followed_by(one, if one { tenth } else { whole })
+        self.followed_by(one, choose(one, tenth, whole))
     }
 
     /// The next digit, rounded up.
@@ -58,7 +58,7 @@ impl Turn {
         let tenth = (half + 4) / 5;
         let whole = (((square + ((1 << 58) - 1)) >> 58) & WORD) as u64;
         let one = half > 5 * ONE;
-        self.followed_by(one, if one { tenth } else { whole })
+        self.followed_by(one, choose(one, tenth, whole))
     }
 
     /// After one more digit, with the mantissa that it leaves.
@@ -81,6 +81,15 @@ impl Turn {
     {
         self.digits + u64::from(self.mantissa != ONE)
     }
+}
+
+/// One of two numbers, without a branch: which one is as good as random here, so a branch would often be
+/// guessed wrongly.
+#[inline(always)]
+fn choose(first: bool, one: u64, other: u64) -> u64
+    ensures { result ≡ (if first then one else other) }
+{
+    other.wrapping_add(one.wrapping_sub(other).wrapping_mul(u64::from(first)))
 }
 
 /// All 32 digits of two mantissas, side by side: of the first with quotients rounded down, and of the second

@@ -1,7 +1,6 @@
 -- Lemmas on the least and the greatest quotient of ends.
-use Rattle.std.proofs.Common.{◌≡◌, ℕ, zero, suc, ◌+◌, ◌*◌, ◌<◌, ◌≤◌, ◌^◌, ℤ, pos, negsuc, ◌*ℤ◌, neg_ℤ, ◌≤ℤ◌, ◌<ℤ◌, arith, refl, sym, ap, ◌∙◌, true, false, inl, inr}
-use Rattle.std.specs.Prelude.{unsigned_abs, nat_lt, int_le, int_lt, Some, None, ◌⊎◌, Bool, ◌&&◌, ◌||◌, not, if◌then◌else◌}
-use Rattle.std.proofs.Math.Nat.{mul-pos}
+use Rattle.std.proofs.Common.{◌≡◌, ℕ, zero, suc, ◌<◌, ◌≤◌, ◌^◌, ℤ, pos, negsuc, ◌*ℤ◌, neg_ℤ, ◌≤ℤ◌, ◌<ℤ◌, arith, refl, sym, true, false, inl, inr}
+use Rattle.std.specs.Prelude.{unsigned_abs, int_le, Some, ◌⊎◌, Bool, ◌&&◌, ◌||◌, not, if◌then◌else◌}
 use Rattle.std.proofs.lemmas.Int.{ints, clamps}
 use Rattle.std.specs.Int.{int_min, int_max}
 use Rattle.fix_interval.specs.Interval.{Interval, All, IsInterval}
@@ -10,6 +9,7 @@ use Rattle.fix_interval.specs.Round.{floor_of, ceil_of, floor_quotient, ceil_quo
 use Rattle.fix_interval.specs.Values.{quotient_of_ends, least_of, greatest_of, ratio_of, holds_zero}
 use Rattle.fix_interval.proofs.Order.{unsigned_abs-neg_ℤ, int_min-keeps, int_max-keeps}
 use Rattle.fix_interval.proofs.Rounding.{floor_of-mono, ceil_of-mono, floor_of-anti, floor_of-anti_negative, neg_ℤ-*ℤ, unsigned_abs-floor_of, unsigned_abs-ceil_of, floor_of-le-ceil_of}
+use Rattle.fix_interval.proofs.Intervals.{IsInterval-All}
 use Rattle.fix_interval.proofs.Ratios.{nat_lt-yes, nat_lt-no, ratio_of-small, units-small}
 
 -- ---- tests
@@ -106,11 +106,15 @@ pub quotient_of_ends-positive : (al ah bl bh : ℤ) → pos 0 <ℤ bl → bl ≤
 quotient_of_ends-positive al ah bl bh p o h low high =
     let p' : pos 0 <ℤ bh = omega (arith, ints) in
     let u : (al *ℤ pos unit) ≤ℤ (ah *ℤ pos unit) = units-mono al ah h in
-    rw (int_le-no bl (pos 0) p, nat_lt-yes (unsigned_abs al) (2 ^ 94) low, nat_lt-yes (unsigned_abs ah) (2 ^ 94) high,
+    rw (
+      int_le-no bl (pos 0) p,
+      nat_lt-yes (unsigned_abs al) (2 ^ 94) low,
+      nat_lt-yes (unsigned_abs ah) (2 ^ 94) high,
       least_of-first (floor_quotient (al *ℤ pos unit) bl) (floor_quotient (al *ℤ pos unit) bh) (floor_quotient (ah *ℤ pos unit) bl) (floor_quotient (ah *ℤ pos unit) bh)
-        (floor_quotient-mono _ _ bl p u) (floor_quotient-mono _ _ bh p' u),
+          (floor_quotient-mono _ _ bl p u) (floor_quotient-mono _ _ bh p' u),
       greatest_of-second (ceil_quotient (al *ℤ pos unit) bl) (ceil_quotient (al *ℤ pos unit) bh) (ceil_quotient (ah *ℤ pos unit) bl) (ceil_quotient (ah *ℤ pos unit) bh)
-        (ceil_quotient-mono _ _ bl p u) (ceil_quotient-mono _ _ bh p' u))
+          (ceil_quotient-mono _ _ bl p u) (ceil_quotient-mono _ _ bh p' u),
+    )
 
 -- nothing is known where one of two tests fails, whatever the third says
 all_of : (zero low high : Bool) (i : Interval) → (low ≡ false) ⊎ (high ≡ false) → (if (zero || not (low && high)) then All else i) ≡ All
@@ -138,15 +142,27 @@ quotient_of_ends-negative al ah bl bh n o low high =
     let n' : bl <ℤ pos 0 = omega (arith, ints) in
     let low' : unsigned_abs (neg_ℤ al) < 2 ^ 94 = rw (unsigned_abs-neg_ℤ al) low in
     let high' : unsigned_abs (neg_ℤ ah) < 2 ^ 94 = rw (unsigned_abs-neg_ℤ ah) high in
-    rw (int_le-yes bl (pos 0) (omega (arith, ints)), int_le-no (pos 0) bh n, int_le-no (neg_ℤ bh) (pos 0) (omega (arith, ints)),
-      nat_lt-yes (unsigned_abs al) (2 ^ 94) low, nat_lt-yes (unsigned_abs ah) (2 ^ 94) high,
-      nat_lt-yes (unsigned_abs (neg_ℤ al)) (2 ^ 94) low', nat_lt-yes (unsigned_abs (neg_ℤ ah)) (2 ^ 94) high',
-      floor_of_corner ah bh n, floor_of_corner ah bl n', floor_of_corner al bh n, floor_of_corner al bl n',
-      ceil_of_corner ah bh n, ceil_of_corner ah bl n', ceil_of_corner al bh n, ceil_of_corner al bl n')
+    rw (
+      int_le-yes bl (pos 0) (omega (arith, ints)),
+      int_le-no (pos 0) bh n,
+      int_le-no (neg_ℤ bh) (pos 0) (omega (arith, ints)),
+      nat_lt-yes (unsigned_abs al) (2 ^ 94) low,
+      nat_lt-yes (unsigned_abs ah) (2 ^ 94) high,
+      nat_lt-yes (unsigned_abs (neg_ℤ al)) (2 ^ 94) low',
+      nat_lt-yes (unsigned_abs (neg_ℤ ah)) (2 ^ 94) high',
+      floor_of_corner ah bh n,
+      floor_of_corner ah bl n',
+      floor_of_corner al bh n,
+      floor_of_corner al bl n',
+      ceil_of_corner ah bh n,
+      ceil_of_corner ah bl n',
+      ceil_of_corner al bh n,
+      ceil_of_corner al bl n',
+    )
     (same_ends (floor_quotient (al *ℤ pos unit) bl) (floor_quotient (al *ℤ pos unit) bh) (floor_quotient (ah *ℤ pos unit) bl) (floor_quotient (ah *ℤ pos unit) bh)
-      (ceil_quotient (al *ℤ pos unit) bl) (ceil_quotient (al *ℤ pos unit) bh) (ceil_quotient (ah *ℤ pos unit) bl) (ceil_quotient (ah *ℤ pos unit) bh)) where
-  same_ends : (p q r s p' q' r' s' : ℤ) → ◌≡◌ {A = Interval} (record { lo = Some (least_of p q r s); hi = Some (greatest_of p' q' r' s') }) (record { lo = Some (least_of s r q p); hi = Some (greatest_of s' r' q' p') })
-  same_ends p q r s p' q' r' s' = rw (least_of-turned p q r s, greatest_of-turned p' q' r' s')
+    (ceil_quotient (al *ℤ pos unit) bl) (ceil_quotient (al *ℤ pos unit) bh) (ceil_quotient (ah *ℤ pos unit) bl) (ceil_quotient (ah *ℤ pos unit) bh)) where
+      same_ends : (p q r s p' q' r' s' : ℤ) → ◌≡◌ {A = Interval} (record { lo = Some (least_of p q r s); hi = Some (greatest_of p' q' r' s') }) (record { lo = Some (least_of s r q p); hi = Some (greatest_of s' r' q' p') })
+      same_ends p q r s p' q' r' s' = rw (least_of-turned p q r s, greatest_of-turned p' q' r' s')
 
 -- ---- the value is an interval
 
@@ -182,5 +198,17 @@ IsInterval-quotient_by_positive al ah bl bh p o h low high =
       low_end = int_min-keeps (λ z. unsigned_abs z < 2 ^ 126) (floor_quotient l bl) (floor_quotient l bh) down down';
       high_end = int_max-keeps (λ z. unsigned_abs z < 2 ^ 126) (ceil_quotient g bl) (ceil_quotient g bh) up up';
       ordered = least-le-greatest (floor_quotient l bl) (floor_quotient l bh) (ceil_quotient g bl) (ceil_quotient g bh)
-        (≤ℤ_trans (floor_quotient l bl) (ceil_quotient l bl) (ceil_quotient g bl) (floor_quotient-le-ceil_quotient l bl p) (ceil_quotient-mono l g bl p u));
+          (≤ℤ_trans (floor_quotient l bl) (ceil_quotient l bl) (ceil_quotient g bl) (floor_quotient-le-ceil_quotient l bl p) (ceil_quotient-mono l g bl p u));
     })
+
+pub IsInterval-quotient : (al ah bl bh : ℤ) → al ≤ℤ ah → bl ≤ℤ bh → unsigned_abs al < 2 ^ 94 → unsigned_abs ah < 2 ^ 94 → IsInterval (quotient_of_ends al ah bl bh)
+IsInterval-quotient al ah bl bh a b low high = quotient_by (int_le bl (pos 0)) (int_le (pos 0) bh) refl refl where
+  quotient_by : (x y : Bool) → int_le bl (pos 0) ≡ x → int_le (pos 0) bh ≡ y → IsInterval (quotient_of_ends al ah bl bh)
+  quotient_by false y e f = IsInterval-quotient_by_positive al ah bl bh (grind (arith, ints)) b a low high
+  quotient_by true true e f = rw (quotient_of_ends-zero al ah bl bh (grind (arith, ints)) (grind (arith, ints))) IsInterval-All
+  quotient_by true false e f =
+      let n : bh <ℤ pos 0 = grind (arith, ints) in
+      let low' : unsigned_abs (neg_ℤ al) < 2 ^ 94 = rw (unsigned_abs-neg_ℤ al) low in
+      let high' : unsigned_abs (neg_ℤ ah) < 2 ^ 94 = rw (unsigned_abs-neg_ℤ ah) high in
+      rw (quotient_of_ends-negative al ah bl bh n b low high)
+      (IsInterval-quotient_by_positive (neg_ℤ ah) (neg_ℤ al) (neg_ℤ bh) (neg_ℤ bl) (omega (arith, ints)) (omega (arith, ints)) (omega (arith, ints)) high' low')

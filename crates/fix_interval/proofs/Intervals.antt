@@ -1,8 +1,7 @@
 -- Each value of the table is an interval where its parts are.
-use Rattle.std.specs.Prelude.{◌≡◌, ℕ, ◌<◌, ◌^◌, ℤ, pos, negsuc, ◌+ℤ◌, neg_ℤ, ◌≤ℤ◌, unsigned_abs, Option, Some, None}
+use Rattle.std.specs.Prelude.{◌<◌, ◌^◌, ℤ, ◌+ℤ◌, neg_ℤ, ◌≤ℤ◌, unsigned_abs, Option, Some, None}
 use Rattle.std.specs.Option.{option_map}
-use Rattle.std.specs.Int.{int_min, int_max}
-use Rattle.std.proofs.Common.{arith, refl}
+use Rattle.std.proofs.Common.{arith}
 use Rattle.std.proofs.lemmas.Int.{ints, clamps}
 use Rattle.fix_interval.specs.declared.truth.Truth.{Truth}
 use Rattle.fix_interval.specs.declared.truth.Truth.TheVariants.{Sure, Never, Unsure}

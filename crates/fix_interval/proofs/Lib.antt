@@ -1,7 +1,12 @@
 pub mod Dividing
 pub mod Ends
+pub mod Induction
 pub mod Intervals
 pub mod Multiplying
 pub mod Order
 pub mod Ratios
+pub mod Rooting
 pub mod Rounding
+pub mod Steps
+pub mod Widening
+pub mod Spans

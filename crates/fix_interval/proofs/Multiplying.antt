@@ -1,13 +1,13 @@
 -- Lemmas on the least and the greatest product of ends.
-use Rattle.std.proofs.Common.{◌≡◌, ℕ, zero, suc, ◌+◌, ◌*◌, ◌<◌, ◌≤◌, ◌^◌, ℤ, pos, negsuc, ◌*ℤ◌, neg_ℤ, ◌≤ℤ◌, ◌<ℤ◌, arith, refl, sym, ap, ◌∙◌, true, false, inl, inr, to_z, of_z, ◌-ℤ◌}
+use Rattle.std.proofs.Common.{◌≡◌, ℕ, suc, ◌<◌, ◌≤◌, ◌^◌, ℤ, pos, negsuc, ◌*ℤ◌, neg_ℤ, ◌≤ℤ◌, ◌<ℤ◌, arith, refl, sym, ap, ◌∙◌, inl, inr, to_z, of_z, ◌-ℤ◌}
 use Rattle.std.specs.Prelude.{FitsSigned as SFits}
-use Rattle.std.specs.Prelude.{unsigned_abs, nat_lt, Some, None, ◌⊎◌, Option}
-use Rattle.std.proofs.Math.Nat.{mul-le-mul_left, mul-le-mul_right}
+use Rattle.std.specs.Prelude.{unsigned_abs, Some, None, ◌⊎◌, Option}
+use Rattle.std.proofs.Math.Nat.{mul-le-mul_right}
 use Rattle.std.proofs.Math.IntN.{*ℤ_comm}
 use Rattle.std.proofs.lemmas.Int.{ints, clamps, to_z-of_z, fits_signed_mul, fits_signed_from_abs}
 use Rattle.std.specs.Int.{w64, w128}
 use Rattle.std.specs.Int.{int_min, int_max}
-use Rattle.fix_interval.specs.Interval.{Interval, All, IsInterval, IsEnd, IsOrdered}
+use Rattle.fix_interval.specs.Interval.{All, IsInterval, IsEnd, IsOrdered}
 use Rattle.fix_interval.specs.Units.{unit, unit-is}
 use Rattle.fix_interval.specs.Round.{floor_of, ceil_of}
 use Rattle.fix_interval.specs.Values.{end_of, least_of, greatest_of, lesser_low, greater_high, least_product, greatest_product, product_of_ends, rounded_outward}
@@ -158,8 +158,14 @@ four_ends_by p q r s (inl h) (inl k) (inl l) (inl m) =
     let rs : unsigned_abs (int_min r s) < 2 ^ 126 = int_min-keeps (λ z. unsigned_abs z < 2 ^ 126) r s l m in
     let pq' : unsigned_abs (int_max p q) < 2 ^ 126 = int_max-keeps (λ z. unsigned_abs z < 2 ^ 126) p q h k in
     let rs' : unsigned_abs (int_max r s) < 2 ^ 126 = int_max-keeps (λ z. unsigned_abs z < 2 ^ 126) r s l m in
-    rw (lesser_of_ends p q h k, lesser_of_ends r s l m, lesser_of_ends (int_min p q) (int_min r s) pq rs,
-      greater_of_ends p q h k, greater_of_ends r s l m, greater_of_ends (int_max p q) (int_max r s) pq' rs')
+    rw (
+      lesser_of_ends p q h k,
+      lesser_of_ends r s l m,
+      lesser_of_ends (int_min p q) (int_min r s) pq rs,
+      greater_of_ends p q h k,
+      greater_of_ends r s l m,
+      greater_of_ends (int_max p q) (int_max r s) pq' rs',
+    )
 
 -- the lesser and the greater of the ends are the ends of the least and the greatest
 pub four_ends : (p q r s : ℤ) → rounded_outward (lesser_low (lesser_low (end_of p) (end_of q)) (lesser_low (end_of r) (end_of s))) (greater_high (greater_high (end_of p) (end_of q)) (greater_high (end_of r) (end_of s))) ≡ rounded_outward (end_of (least_of p q r s)) (end_of (greatest_of p q r s))

@@ -1,13 +1,18 @@
 -- Lemmas on the interval of a fraction.
-use Rattle.std.proofs.Common.{◌≡◌, ℕ, ◌<◌, ◌≤◌, ◌^◌, ℤ, pos, ◌*ℤ◌, arith, refl, ap, sym, ◌*◌, true, false, to_z, of_z}
+use Rattle.std.proofs.Common.{◌≡◌, ℕ, ◌<◌, ◌≤◌, ◌^◌, ℤ, pos, ◌*ℤ◌, arith, sym, ap, ◌∙◌, ◌*◌, ◌/◌, ◌%◌, true, false, to_z, of_z}
 use Rattle.std.specs.Prelude.{unsigned_abs, Some, nat_lt}
-use Rattle.std.proofs.lemmas.Int.{ints, unsigned_abs-mul, to_z-of_z, fits_signed_from_abs}
+use Rattle.std.proofs.lemmas.Int.{unsigned_abs-mul, to_z-of_z, fits_signed_from_abs}
 use Rattle.std.specs.Int.{w128}
-use Rattle.fix_interval.specs.Interval.{Interval, All, IsInterval, IsEnd, IsOrdered}
+use Rattle.std.proofs.Math.Nat.{div-add-mod'}
+use Rattle.fix_interval.specs.Interval.{All, IsInterval}
 use Rattle.fix_interval.specs.Units.{unit, unit-is}
 use Rattle.fix_interval.specs.Round.{floor_of, ceil_of}
 use Rattle.fix_interval.specs.Values.{ratio_of}
-use Rattle.fix_interval.proofs.Rounding.{floor_of-one, ceil_of-one, floor_of-le-ceil_of, unsigned_abs-floor_of, unsigned_abs-ceil_of}
+use Rattle.std.proofs.Common.{inl, inr}
+use Rattle.std.specs.Prelude.{◌⊎◌}
+use Rattle.std.proofs.lemmas.Bool.{cases_lt}
+use Rattle.fix_interval.proofs.Intervals.{IsInterval-All}
+use Rattle.fix_interval.proofs.Rounding.{floor_of-scaled, ceil_of-scaled, floor_of-one, ceil_of-one, floor_of-le-ceil_of, unsigned_abs-floor_of, unsigned_abs-ceil_of}
 
 pub nat_lt-yes : (a b : ℕ) → a < b → nat_lt a b ≡ true
 nat_lt-yes a b h = grind arith
@@ -52,3 +57,26 @@ fraction_is p q n l h small positive e low high =
 
 pub IsInterval-ratio_of : (p : ℤ) (q : ℕ) → unsigned_abs p < 2 ^ 94 → 0 < q → IsInterval (ratio_of p q)
 IsInterval-ratio_of p q small h = rw (ratio_of-small p q small) (IsInterval-fraction p q small h)
+
+pub IsInterval-Const : (p : ℤ) (q : ℕ) → 0 < q → IsInterval (ratio_of p q)
+IsInterval-Const p q h = const_by (cases_lt (unsigned_abs p) (2 ^ 94)) where
+  const_by : (unsigned_abs p < 2 ^ 94) ⊎ (2 ^ 94 ≤ unsigned_abs p) → IsInterval (ratio_of p q)
+  const_by (inl k) = IsInterval-ratio_of p q k h
+  const_by (inr k) = rw (ratio_of-large p q k) IsInterval-All
+
+-- ---- a divisor that is a whole number of units
+
+whole_divisor : (d : ℕ) → d % 2 ^ 32 ≡ 0 → d / 2 ^ 32 * 2 ^ 32 ≡ d
+whole_divisor d h = omega (arith, div-add-mod' d (2 ^ 32))
+
+pub floor_of-whole : (x y : ℤ) (d e : ℕ) → y ≡ x → e ≡ d / 2 ^ 32 → d % 2 ^ 32 ≡ 0 → 0 < d → floor_of y e ≡ floor_of (x *ℤ pos unit) d
+floor_of-whole x y d e same divisor whole h =
+    rw (same, divisor, unit-is)
+    (sym (floor_of-scaled x (d / 2 ^ 32) (2 ^ 32) (omega (arith, whole_divisor d whole)) (omega arith))
+    ∙ ap (λ (n : ℕ). floor_of (x *ℤ pos (2 ^ 32)) n) (whole_divisor d whole))
+
+pub ceil_of-whole : (x y : ℤ) (d e : ℕ) → y ≡ x → e ≡ d / 2 ^ 32 → d % 2 ^ 32 ≡ 0 → 0 < d → ceil_of y e ≡ ceil_of (x *ℤ pos unit) d
+ceil_of-whole x y d e same divisor whole h =
+    rw (same, divisor, unit-is)
+    (sym (ceil_of-scaled x (d / 2 ^ 32) (2 ^ 32) (omega (arith, whole_divisor d whole)) (omega arith))
+    ∙ ap (λ (n : ℕ). ceil_of (x *ℤ pos (2 ^ 32)) n) (whole_divisor d whole))

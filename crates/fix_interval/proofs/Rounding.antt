@@ -1,11 +1,11 @@
 -- Lemmas on quotients rounded down and up.
-use Rattle.std.proofs.Common.{◌≡◌, ℕ, zero, suc, ◌+◌, ◌-◌, ◌*◌, ◌/◌, ◌%◌, ◌<◌, ◌≤◌, ℤ, pos, negsuc, ◌*ℤ◌, neg_ℤ, ◌≤ℤ◌, ◌<ℤ◌, arith, refl, sym, ap, ◌∙◌, subst}
-use Rattle.std.proofs.Math.Nat.{div-mul-le_self, lt-div-mul-add, div-le_of_le-mul, div-one, div-le_self, mul-le-mul_left, mul-le-mul_right, zero-div, le_trans, mul-div_cancel, mul-div-mul_right, lt-mul-div-succ, div-eq_of_lt-le, pos_of_div-pos, div-add-mod', mod-lt, zero-mod}
+use Rattle.std.proofs.Common.{◌≡◌, ℕ, zero, suc, ◌+◌, ◌*◌, ◌/◌, ◌%◌, ◌<◌, ◌≤◌, ℤ, pos, negsuc, ◌*ℤ◌, neg_ℤ, ◌≤ℤ◌, ◌<ℤ◌, arith, refl, sym, ap, ◌∙◌, min}
+use Rattle.std.proofs.Math.Nat.{div-mul-le_self, lt-div-mul-add, div-le_of_le-mul, div-one, div-le_self, mul-le-mul_left, zero-div, le_trans, div-eq_of_lt-le, div-add-mod', mod-lt, zero-mod, mul-div-mul_right, mul-pos}
 use Rattle.std.proofs.lemmas.Nat.{le-div}
 use Rattle.std.specs.Prelude.{unsigned_abs}
 use Rattle.std.specs.Int.{div_ceil}
-use Rattle.std.proofs.lemmas.Int.{ints}
-use Rattle.fix_interval.specs.Round.{floor_of, ceil_of, numerator_of, floor_quotient, ceil_quotient}
+use Rattle.std.proofs.lemmas.Int.{ints, unsigned_abs-mul}
+use Rattle.fix_interval.specs.Round.{floor_of, ceil_of}
 
 -- ---- quotients of naturals
 
@@ -107,3 +107,33 @@ floor_of-one (negsuc a) = ap negsuc (div-one a)
 
 pub ceil_of-one : (x : ℤ) → ceil_of x 1 ≡ x
 ceil_of-one x = ap neg_ℤ (floor_of-one (neg_ℤ x)) ∙ omega (arith, ints)
+
+-- ---- both by a common factor
+
+div_ceil-scaled : (n m u : ℕ) → 0 < m → 0 < u → div_ceil (n * u) (m * u) ≡ div_ceil n m
+div_ceil-scaled n m u h k =
+    let quotient : n * u / (m * u) ≡ n / m = mul-div-mul_right {m = u} n m k in
+    let whole : n / m * (m * u) + n * u % (m * u) ≡ n * u =
+    ap (λ (z : ℕ). z * (m * u) + n * u % (m * u)) (sym quotient) ∙ div-add-mod' (n * u) (m * u) in
+    let part : (n / m * m + n % m) * u ≡ n * u = ap (λ (z : ℕ). z * u) (div-add-mod' n m) in
+    let rest : n * u % (m * u) ≡ n % m * u = omega (arith, whole, part) in
+    rw (quotient, rest, one_at_most (n % m) u k)
+    refl where
+      one_at_most : (r u : ℕ) → 0 < u → min 1 (r * u) ≡ min 1 r
+      one_at_most zero u k = omega arith
+      one_at_most (suc r) u k = omega (arith, mul-le-mul_left (suc r) k)
+
+pub floor_of-scaled : (x : ℤ) (m u : ℕ) → 0 < m → 0 < u → floor_of (x *ℤ pos u) (m * u) ≡ floor_of x m
+floor_of-scaled (pos a) m u h k = ap pos (mul-div-mul_right {m = u} a m k)
+floor_of-scaled (negsuc a) m u h k =
+    let scaled : 0 < m * u = mul-pos h k in
+    let size : unsigned_abs (negsuc a *ℤ pos u) ≡ suc a * u = unsigned_abs-mul (negsuc a) (pos u) in
+    let negative : (negsuc a *ℤ pos u) <ℤ pos 0 = omega (arith, ints, mul-le-mul_left (suc a) k) in
+    floor_of-negative (negsuc a *ℤ pos u) (m * u) scaled negative
+    ∙ ap (λ (n : ℕ). neg_ℤ (pos (div_ceil n (m * u)))) size
+    ∙ ap (λ (n : ℕ). neg_ℤ (pos n)) (div_ceil-scaled (suc a) m u h k)
+    ∙ sym (floor_of-negative (negsuc a) m h (omega (arith, ints)))
+
+pub ceil_of-scaled : (x : ℤ) (m u : ℕ) → 0 < m → 0 < u → ceil_of (x *ℤ pos u) (m * u) ≡ ceil_of x m
+ceil_of-scaled x m u h k =
+    ap (λ (z : ℤ). neg_ℤ (floor_of z (m * u))) (sym (neg_ℤ-*ℤ x u)) ∙ ap neg_ℤ (floor_of-scaled (neg_ℤ x) m u h k)

@@ -1,5 +1,5 @@
 -- e to the power of the negative of an interval.
-use Rattle.std.specs.Prelude.{ℕ, zero, suc, ◌*◌, ◌/◌, ◌%◌, ◌^◌, nat_le, if◌then◌else◌, ℤ, pos, unsigned_abs, Option, Some}
+use Rattle.std.specs.Prelude.{ℕ, zero, suc, ◌*◌, ◌/◌, ◌%◌, ◌^◌, nat_le, if◌then◌else◌, pos, unsigned_abs, Some}
 use Rattle.std.specs.Int.{div_ceil}
 use Rattle.std.specs.Option.{option_map, option_map_or}
 use Rattle.fix_interval.specs.Units.{unit}
@@ -48,8 +48,9 @@ exp_neg_high n = if nat_le (23 * unit) n then 1 else div_ceil (decay_high n) (2 
 -- of an interval that is not below 0; the low end of the one is the high end of the other
 unfoldable pub exp_neg_of : Interval → Interval
 exp_neg_of i =
-  if is_at_least (pos 0) i.lo
-  then record {
-    lo = Some (pos (option_map_or (λ z. exp_neg_low (unsigned_abs z)) i.hi 0));
-    hi = option_map (λ z. pos (exp_neg_high (unsigned_abs z))) i.lo }
-  else All
+    if is_at_least (pos 0) i.lo
+    then record {
+      lo = Some (pos (option_map_or (λ z. exp_neg_low (unsigned_abs z)) i.hi 0));
+      hi = option_map (λ z. pos (exp_neg_high (unsigned_abs z))) i.lo;
+    }
+    else All

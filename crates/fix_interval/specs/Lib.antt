@@ -1,6 +1,7 @@
 pub mod Encloses
 pub mod ExpNeg
 pub mod Interval
+pub mod Lawful
 pub mod Lg
 pub mod Powers
 pub mod Roots
@@ -10,3 +11,4 @@ pub mod Ten
 pub mod Tree
 pub mod Units
 pub mod Values
+pub mod Bounds

@@ -32,5 +32,5 @@ digit_at fraction place = fraction / 2 ^ (31 - place) % 2
 unfoldable pub product : (ℕ → ℕ → ℕ) → (ℕ → ℕ) → ℕ → ℕ → ℕ → ℕ
 product times factor start fraction zero = start
 product times factor start fraction (suc place) =
-  let before = product times factor start fraction place in
-  if digit_at fraction place == 1 then times before (factor place) else before
+    let before = product times factor start fraction place in
+    if digit_at fraction place == 1 then times before (factor place) else before

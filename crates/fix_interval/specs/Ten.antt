@@ -1,5 +1,5 @@
 -- Ten to the power of an interval. ISO 9613-2 adds levels by it, in equations (5) and (6).
-use Rattle.std.specs.Prelude.{ℕ, suc, ◌+◌, ◌*◌, ◌/◌, ◌%◌, ◌^◌, if◌then◌else◌, ℤ, pos, neg_ℤ, ◌+ℤ◌, int_le, int_lt, unsigned_abs, Option, Some, None, option_and_then}
+use Rattle.std.specs.Prelude.{ℕ, suc, ◌*◌, ◌/◌, ◌%◌, ◌^◌, if◌then◌else◌, ℤ, pos, neg_ℤ, ◌+ℤ◌, int_le, int_lt, unsigned_abs, Option, Some, None, option_and_then}
 use Rattle.std.specs.Int.{div_ceil}
 use Rattle.std.specs.Option.{option_map_or}
 use Rattle.fix_interval.specs.Units.{unit}
@@ -30,17 +30,18 @@ raised_high s = div_ceil (fraction_high (s % unit) * 10 ^ (s / unit)) (10 ^ 20 *
 -- 10 to the power n rounded down. From 20 on it stays at the power 20, and below -19 it is 0
 unfoldable pub ten_low : ℤ → ℕ
 ten_low n =
-  if int_le (pos (20 * unit)) n then 10 ^ 20 * unit
-  else (if int_lt n (neg_ℤ (pos (19 * unit))) then 0 else raised_low (unsigned_abs (n +ℤ pos (20 * unit))))
+    if int_le (pos (20 * unit)) n then 10 ^ 20 * unit
+    else (if int_lt n (neg_ℤ (pos (19 * unit))) then 0 else raised_low (unsigned_abs (n +ℤ pos (20 * unit))))
 
 -- 10 to the power n rounded up. From 20 on it is unbounded, and below -19 it is the least end above 0
 unfoldable pub ten_high : ℤ → Option ℤ
 ten_high n =
-  if int_le (pos (20 * unit)) n then None
-  else (if int_lt n (neg_ℤ (pos (19 * unit))) then Some (pos 1) else Some (pos (raised_high (unsigned_abs (n +ℤ pos (20 * unit))))))
+    if int_le (pos (20 * unit)) n then None
+    else (if int_lt n (neg_ℤ (pos (19 * unit))) then Some (pos 1) else Some (pos (raised_high (unsigned_abs (n +ℤ pos (20 * unit))))))
 
 -- ten to the power of an interval, end by end; no power is below 0
 unfoldable pub ten_of : Interval → Interval
 ten_of i = record {
   lo = Some (pos (option_map_or ten_low i.lo 0));
-  hi = option_and_then ten_high i.hi }
+  hi = option_and_then ten_high i.hi;
+}

@@ -2,6 +2,7 @@
 #![tactic(auto)]
 
 mod iv;
+mod laws;
 mod products;
 mod quotients;
 mod roots;
@@ -10,8 +11,12 @@ mod truth;
 mod values;
 
 pub use iv::{Iv, OPEN_HI, OPEN_LO};
+pub use laws::{formulas_are_enclosed, holding_encloses, table_encloses, table_gives_intervals};
 pub use products::mul;
 pub use quotients::{div, exact, ratio};
 pub use roots::root;
 pub use truth::Truth;
 pub use values::{add, hull, less, max, min, neg, pick, sub};
+
+#[cfg(test)]
+mod tests;

@@ -100,7 +100,10 @@ fn from_products(least: Option<i128>, greatest: Option<i128>) -> Iv
     ensures { result ≡ rounded_outward least greatest }
 {
     match (least, greatest) {
-        (Some(least), Some(greatest)) => Iv::of_ends(Some(units_below(least)), Some(units_above(greatest))),
+        (Some(least), Some(greatest)) => Iv::of_ends(
+            Some(units_below(least)),
+            Some(units_above(greatest)),
+        ),
         _ => Iv::ALL,
     }
 }

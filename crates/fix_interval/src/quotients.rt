@@ -12,6 +12,9 @@ use crate::span::{Span, bounded};
 /// How many units are one, 2^32.
 const UNIT: i128 = 1 << 32;
 
+/// The same without sign, for divisors.
+const UNITS: u128 = 1 << 32;
+
 /// Dividends and numerators stay below this absolute value, 2^94, so that they fit an end in units.
 const DIVIDEND_LIMIT: u128 = 1 << 94;
 
@@ -115,8 +118,23 @@ fn fraction(x: i128, d: u128) -> Iv
     requires divisor { 0 < d }
     ensures { result ≡ ratio_of x d }
 {
-    let (low, high) = rounded(x * UNIT, d);
+    let (low, high) = units_over(x, d);
     Iv::of_ends(Some(low), Some(high))
+}
+
+/// The quotient of `x` in units rounded down, and rounded up. Where the divisor is a whole number of units, as
+/// it mostly is, both are divided by the unit first, so that the numbers are small.
+fn units_over(x: i128, d: u128) -> (i128, i128)
+    requires small { unsigned_abs x < 2 ^ 94 }
+    requires divisor { 0 < d }
+    ensures floor { result.0 ≡ floor_of (x *ℤ pos unit) d }
+    ensures ceil { result.1 ≡ ceil_of (x *ℤ pos unit) d }
+{
+    if d % UNITS == 0 {
+        rounded(x, d / UNITS)
+    } else {
+        rounded(x * UNIT, d)
+    }
 }
 
 /// The quotient rounded down, and rounded up.

@@ -54,7 +54,9 @@ fn high_root(high: Option<i128>) -> Option<i128>
     ensures { result ≡ root_of_high high }
 {
     match high {
-        Some(end) if 0 <= end && (end as u128) < RADICAND_LIMIT => Some(rounded_up(end as u128 * UNIT) as i128),
+        Some(end) if 0 <= end && (end as u128) < RADICAND_LIMIT => Some(
+            rounded_up(end as u128 * UNIT) as i128,
+        ),
         _ => None,
     }
 }

@@ -36,21 +36,30 @@ pub fn neg(a: Iv) -> Iv
 pub fn max(a: Iv, b: Iv) -> Iv
     ensures { result ≡ max_of a b }
 {
-    Iv::of_ends(greater_of_lows(a.low(), b.low()), greater_of_highs(a.high(), b.high()))
+    Iv::of_ends(
+        greater_of_lows(a.low(), b.low()),
+        greater_of_highs(a.high(), b.high()),
+    )
 }
 
 /// The lesser of two quantities, end by end.
 pub fn min(a: Iv, b: Iv) -> Iv
     ensures { result ≡ min_of a b }
 {
-    Iv::of_ends(lesser_of_lows(a.low(), b.low()), lesser_of_highs(a.high(), b.high()))
+    Iv::of_ends(
+        lesser_of_lows(a.low(), b.low()),
+        lesser_of_highs(a.high(), b.high()),
+    )
 }
 
 /// The least interval that holds both intervals.
 pub fn hull(a: Iv, b: Iv) -> Iv
     ensures { result ≡ hull_of a b }
 {
-    Iv::of_ends(lesser_of_lows(a.low(), b.low()), greater_of_highs(a.high(), b.high()))
+    Iv::of_ends(
+        lesser_of_lows(a.low(), b.low()),
+        greater_of_highs(a.high(), b.high()),
+    )
 }
 
 /// Whether the first quantity is less than the second: `Sure` where the high end of `a` is below the low
@@ -83,7 +92,11 @@ pub fn pick(t: Truth, yes: Iv, no: Iv) -> Iv
 pub(crate) fn end(units: i128) -> Option<i128>
     ensures { result ≡ end_of units }
 {
-    if units.unsigned_abs() < END_LIMIT { Some(units) } else { None }
+    if units.unsigned_abs() < END_LIMIT {
+        Some(units)
+    } else {
+        None
+    }
 }
 
 /// The sum of two ends of one side.
@@ -136,7 +149,7 @@ pub(crate) fn greater_of_highs(x: Option<i128>, y: Option<i128>) -> Option<i128>
 {
     match (x, y) {
         (Some(x), Some(y)) => Some(x.max(y)),
-        _ => None,
+        (None, _) | (_, None) => None,
     }
 }
 

@@ -21,10 +21,10 @@ front_after before mid after whole piece more text wrote took is = record {
 pub pieces_at : {X : Type 0} (f : X → List ℕ) (xs : List X) (i : ℕ) (x : X) → i < length xs → x ≡ get_or xs i x → flat_map f xs ≡ flat_map f (take i xs) ++ (f x ++ flat_map f (drop (i + 1) xs))
 pieces_at f xs i x below is =
     ap (flat_map f) (sym (take-append-drop i xs)) ∙ flat_map-append f (take i xs) (drop i xs)
-        ∙ ap (λ ys. flat_map f (take i xs) ++ flat_map f ys) (drop-cons xs i x below)
-        ∙ ap (λ ys. flat_map f (take i xs) ++ ys) (flat_map-cons f (get_or xs i x) (drop (suc i) xs))
-        ∙ ap (λ y. flat_map f (take i xs) ++ (f y ++ flat_map f (drop (suc i) xs))) (sym is)
-        ∙ ap (λ j. flat_map f (take i xs) ++ (f x ++ flat_map f (drop j xs))) (sym (add-one i))
+    ∙ ap (λ ys. flat_map f (take i xs) ++ flat_map f ys) (drop-cons xs i x below)
+    ∙ ap (λ ys. flat_map f (take i xs) ++ ys) (flat_map-cons f (get_or xs i x) (drop (suc i) xs))
+    ∙ ap (λ y. flat_map f (take i xs) ++ (f y ++ flat_map f (drop (suc i) xs))) (sym is)
+    ∙ ap (λ j. flat_map f (take i xs) ++ (f x ++ flat_map f (drop j xs))) (sym (add-one i))
 
 -- a front of the first part
 pub front_first : (before after : Option (List ℕ)) (piece more text : List ℕ) → TakesFront before after piece → text ≡ piece ++ more → TakesFront before after text

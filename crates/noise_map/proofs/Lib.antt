@@ -1,3 +1,4 @@
 pub mod Utf8
 pub mod Fronts
 pub mod Steps
+pub mod Levels

@@ -41,7 +41,7 @@ followed-quiet first =
 followed-assoc : (first second third : Done) → followed (followed first second) third ≡ followed first (followed second third)
 followed-assoc first second third =
     with_text third.sheet _ _ ((first.refused || second.refused) || third.refused) (append_assoc first.text second.text third.text)
-        ∙ with_refused third.sheet (first.text ++ (second.text ++ third.text)) _ _ (or_assoc first.refused second.refused third.refused)
+    ∙ with_refused third.sheet (first.text ++ (second.text ++ third.text)) _ _ (or_assoc first.refused second.refused third.refused)
 
 -- one more line after others
 pub lines_done-push : (number : ℕ) (sheet : Sheet) (done : List (List ℕ)) (line : List ℕ) → lines_done number sheet (done ++ line ∷ []) ≡ followed (lines_done number sheet done) (line_done (number + length done) (lines_done number sheet done).sheet line)
@@ -52,8 +52,8 @@ lines_done-push number sheet (first ∷ more) line =
     let one = line_done number sheet first in
     let rest = lines_done (number + 1) one.sheet more in
     ap (followed one) (lines_done-push (number + 1) one.sheet more line)
-        ∙ sym (followed-assoc one rest (line_done (number + 1 + length more) rest.sheet line))
-        ∙ ap (λ n. followed (followed one rest) (line_done n rest.sheet line)) (omega arith)
+    ∙ sym (followed-assoc one rest (line_done (number + 1 + length more) rest.sheet line))
+    ∙ ap (λ n. followed (followed one rest) (line_done n rest.sheet line)) (omega arith)
 
 pub run_of-push : (done : List (List ℕ)) (line : List ℕ) → run_of (done ++ line ∷ []) ≡ followed (run_of done) (line_done (length done + 1) (run_of done).sheet line)
 run_of-push done line = lines_done-push 1 empty_sheet done line ∙ ap (λ n. followed (run_of done) (line_done n (run_of done).sheet line)) (omega arith)
@@ -103,15 +103,17 @@ all_lines done line bytes plain line_plain some is =
 
 pub more_handed_out : (stop : Stop) (r r' : Reading) (before now after : Option (List ℕ)) (done : List (List ℕ)) (line : List ℕ) → All IsPlain done → IsPlain line → HandedOut Going r before now done → r'.passed ≤ input_limit → PassesLine stop r r' now after line → HandedOut stop r' before after (done ++ line ∷ [])
 more_handed_out Going r r' before now after done line plain line_plain handed within passes =
-    let whole = laws.ended-push done line in
-    (subst (Consumes before (ahead r' after)) (sym whole) (Consumes-trans before (ahead r now) (ahead r' after) (ended done) (line ++ 10 ∷ []) handed.0 passes.taken),
-     passes.counted ∙ ap (λ n. n + length (line ++ 10 ∷ [])) handed.1 ∙ sym (length-append (ended done) (line ++ 10 ∷ [])) ∙ ap length (sym whole))
+    let whole = laws.ended-push done line in (
+      subst (Consumes before (ahead r' after)) (sym whole) (Consumes-trans before (ahead r now) (ahead r' after) (ended done) (line ++ 10 ∷ []) handed.0 passes.taken),
+      passes.counted ∙ ap (λ n. n + length (line ++ 10 ∷ [])) handed.1 ∙ sym (length-append (ended done) (line ++ 10 ∷ [])) ∙ ap length (sym whole),
+    )
 more_handed_out AtEnd r r' before now after done line plain line_plain handed within passes =
     let consumed = Consumes-trans before (ahead r now) (ahead r' after) (ended done) line handed.0 passes.1.taken in
-    let count : length (ended done ++ line) ≤ input_limit = omega (arith, length-append (ended done) line, handed.1, passes.1.counted) in
-    (Consumes-whole before (ahead r' after) (ended done ++ line) (λ bytes. (lines bytes ≡ done ++ line ∷ []) × (length bytes ≤ input_limit)) consumed (nothing_ahead r' after passes.2)
-        (all_lines done line (ended done ++ line) plain line_plain passes.0 refl, count),
-     passes.2)
+    let count : length (ended done ++ line) ≤ input_limit = omega (arith, length-append (ended done) line, handed.1, passes.1.counted) in (
+      Consumes-whole before (ahead r' after) (ended done ++ line) (λ bytes. (lines bytes ≡ done ++ line ∷ []) × (length bytes ≤ input_limit)) consumed (nothing_ahead r' after passes.2)
+          (all_lines done line (ended done ++ line) plain line_plain passes.0 refl, count),
+      passes.2,
+    )
 more_handed_out AfterFault r r' before now after done line plain line_plain handed within passes = passes
 more_handed_out AtLimit r r' before now after done line plain line_plain handed within passes = passes
 
@@ -165,8 +167,8 @@ ended_now r r' sheet count refused left now after taken_before taken_now p hande
     let few : length (ended p.done ++ []) ≤ input_limit = omega (arith, length-append (ended p.done) [], handed.1, ends.passes.counted) in
     let consumed = Consumes-trans left (ahead r now) (ahead r' after) (ended p.done) [] handed.0 ends.passes.taken in
     at_end refused count left after taken_before taken_now p.done p.counted
-        (record { ended = ends.nothing.left; all = Consumes-whole left (ahead r' after) (ended p.done ++ []) (AllDone p.done) consumed (nothing_ahead r' after ends.nothing) (all, few) })
-        p.refused_is p.written
+    (record { ended = ends.nothing.left; all = Consumes-whole left (ahead r' after) (ended p.done ++ []) (AllDone p.done) consumed (nothing_ahead r' after ends.nothing) (all, few) })
+    p.refused_is p.written
 
 pub ended_before : (r : Reading) (sheet : Sheet) (count : ℕ) (refused : Bool) (left now taken_before taken_now : Option (List ℕ))
     → (p : Progress r sheet count refused left now taken_before taken_now) → HandedOut AtEnd r left now p.done
@@ -205,8 +207,8 @@ reached_limit r r' sheet count refused left now after taken_before taken_now p h
     more = reaches.more;
     consumed =
         only_left r' left after _ reaches.held
-            (subst (Consumes left (ahead r' after)) (sym (append_assoc (ended p.done) reaches.rest (reaches.more ∷ [])))
-                (Consumes-trans left (ahead r now) (ahead r' after) (ended p.done) (reaches.rest ++ reaches.more ∷ []) handed.0 reaches.taken));
+        (subst (Consumes left (ahead r' after)) (sym (append_assoc (ended p.done) reaches.rest (reaches.more ∷ [])))
+        (Consumes-trans left (ahead r now) (ahead r' after) (ended p.done) (reaches.rest ++ reaches.more ∷ []) handed.0 reaches.taken));
     full = length-append (ended p.done) reaches.rest ∙ ap (λ n. n + length reaches.rest) (sym handed.1) ∙ sym reaches.counted ∙ reaches.full;
     all = whole p.done reaches.rest p.plain reaches.plain;
   };
@@ -232,7 +234,7 @@ broken_front : (r r' : Reading) (sheet : Sheet) (count : ℕ) (refused : Bool) (
     → CoversFront left (p.done ++ line ∷ [])
 broken_front r r' sheet count refused left now after taken_before taken_now line p handed line_plain passes within =
     first_lines r'.stop r' left after (p.done ++ line ∷ []) (All-push IsPlain p.done line p.plain line_plain)
-        (more_handed_out r'.stop r r' left now after p.done line p.plain line_plain handed within passes)
+    (more_handed_out r'.stop r r' left now after p.done line p.plain line_plain handed within passes)
 
 broken_text : (r : Reading) (sheet : Sheet) (count : ℕ) (refused : Bool) (left now taken_before taken_now taken_after : Option (List ℕ)) (line : List ℕ)
     → (p : Progress r sheet count refused left now taken_before taken_now) → TakesFront taken_now taken_after (line_done (count + 1) sheet line).text
@@ -318,7 +320,7 @@ ended_by AtEnd answer status r r' sheet count refused left now after taken_befor
     let kept = stays (λ going. let clash : AtEnd ≡ Going = sym is ∙ going in cc) in
     let end : status_at_end refused ≡ status = some_injective (sym (ap (λ a. ending_of a refused) (kept.0 ∙ ap answer_of is)) ∙ ends) in
     subst (λ (o : Option (List ℕ)). Outcome status count left o taken_before taken_now) (sym kept.2)
-        (subst (λ (s : Status). Outcome s count left now taken_before taken_now) end (ended_before r sheet count refused left now taken_before taken_now p handed))
+    (subst (λ (s : Status). Outcome s count left now taken_before taken_now) end (ended_before r sheet count refused left now taken_before taken_now p handed))
 ended_by AfterFault answer status r r' sheet count refused left now after taken_before taken_now is p handed within ends gives stays = absurd handed
 ended_by AtLimit answer status r r' sheet count refused left now after taken_before taken_now is p handed within ends gives stays = absurd handed
 
@@ -372,7 +374,7 @@ pub turned : (answer : Next) (held : List ℕ) (r r' : Reading) (sheet sheet' : 
 turned answer held r r' sheet sheet' count refused was left now after taken_before taken_now taken_after p goes gives stays within is does =
     let h = line_handed answer r r' sheet count refused left now after taken_before taken_now p goes gives stays in
     went_on r r' sheet sheet' count refused was left now after taken_before taken_now taken_after h.line p h.so_far h.plain h.passes (omega arith)
-        (does h.line (text_held answer r r' left now after p.done held is h))
+    (does h.line (text_held answer r r' left now after p.done held is h))
 
 pub turned_off : (stopped : Stopped) (answer : Next) (held : List ℕ) (r r' : Reading) (sheet sheet' : Sheet) (count : ℕ) (refused : Bool) (left now after taken_before taken_now taken_after : Option (List ℕ))
     → Progress r sheet count refused left now taken_before taken_now → ending_of answer refused ≡ None → (r.stop ≡ Going → NextGives answer r r' now after) → StaysStopped answer r r' now after
@@ -381,7 +383,7 @@ pub turned_off : (stopped : Stopped) (answer : Next) (held : List ℕ) (r r' : R
 turned_off stopped answer held r r' sheet sheet' count refused left now after taken_before taken_now taken_after p goes gives stays within is does =
     let h = line_handed answer r r' sheet count refused left now after taken_before taken_now p goes gives stays in
     broken_off stopped r r' sheet sheet' count refused left now after taken_before taken_now taken_after h.line p h.so_far h.plain h.passes (omega arith)
-        (does h.line (text_held answer r r' left now after p.done held is h))
+    (does h.line (text_held answer r r' left now after p.done held is h))
 
 pub passes_on : (answer : Next) (r r' : Reading) (sheet : Sheet) (count : ℕ) (refused : Bool) (left now after taken_before taken_now : Option (List ℕ))
     → Progress r sheet count refused left now taken_before taken_now → ending_of answer refused ≡ None → (r.stop ≡ Going → NextGives answer r r' now after) → StaysStopped answer r r' now after

@@ -225,7 +225,6 @@ fn source(alloc: Global, line: &Value) -> Result<PointSource, LineError>
     })
 }
 
-
 fn source_command(alloc: Global, line: &Value) -> Result<Command, LineError>
     ensures { Gives result (option_map Command.Source (source_of (view line.now))) }
 {

@@ -2,12 +2,15 @@
 #![tactic(auto)]
 
 mod command;
+mod level;
 mod parts;
 mod rows;
 mod run;
 mod scene;
 mod status;
 mod step;
+#[cfg(test)]
+mod tests;
 
 use map_io::{OpenGate, StdSink, StdSource};
 use std::env::{self, Env};
@@ -26,7 +29,13 @@ fn main(rt: HostRuntime) -> ExitCode {
     let words = words_of(&rt);
     let mut input = StdSource::new(rt.reader());
     let mut out = StdSink::new(io::writer(&rt));
-    let report = run::run(rt.alloc(), words.as_slice(), &mut input, &mut out, &OpenGate);
+    let report = run::run(
+        rt.alloc(),
+        words.as_slice(),
+        &mut input,
+        &mut out,
+        &OpenGate,
+    );
     if let Some(fault) = report.status.fault() {
         let _ = eprintln!(rt; "noisemap: {fault}");
     }

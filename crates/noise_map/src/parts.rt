@@ -68,6 +68,20 @@ impl Model for PointSource {
     ghost invariant = { λ s. IsSource s.power s.directivity };
 }
 
+impl PointSource {
+    ghost use Rattle.noise_map.specs.Level.{at_1000, IsSound};
+    ghost use Rattle.std.specs.Prelude.{◌≡◌, IfSome};
+
+    /// The sound power level at 1000 Hz in 0.01 dB, if the source has power there.
+    pub fn power_at_1000(&self) -> Option<i32>
+        ensures value { result ≡ at_1000 self.now.power }
+        ensures power { IfSome result IsSound }
+        ensures directivity { IsSound self.now.directivity }
+    {
+        self.power[4]
+    }
+}
+
 /// A receiver: a point at a height above ground, in mm.
 #[derive(Drop)]
 pub struct Receiver {

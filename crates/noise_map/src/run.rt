@@ -38,7 +38,14 @@ fn status_when(stopped: Stopped) -> Status
 }
 
 /// Does the line that the reader has handed out, or refuses the long one that it has passed over.
-fn do_next<K: Sink>(alloc: Global, scene: &mut Scene, number: u64, next: Next, line: &[u8], out: &mut K) -> Result<bool, Stopped>
+fn do_next<K: Sink>(
+    alloc: Global,
+    scene: &mut Scene,
+    number: u64,
+    next: Next,
+    line: &[u8],
+    out: &mut K,
+) -> Result<bool, Stopped>
     requires { IsLineOf next line.now }
     ensures done { (text : List ℕ) → IsTextOf next line.now text → Does result (line_done number scene.old text) scene.old scene.new (K.taken out.old) (K.taken out.new) }
     ensures cause { Stops result (K.faults out.old) (K.faults out.new) }
@@ -85,7 +92,13 @@ fn run_lines<S: Source, K: Sink>(alloc: Global, input: &mut S, out: &mut K) -> R
 
 /// All that the program does: it reads the words of the command line, then line after line of the input, and writes the
 /// rows of each line before the next is read.
-pub fn run<S: Source + Send, K: Sink + Send, G: Gate + Sync>(alloc: Global, words: &[String], input: &mut S, out: &mut K, _gate: &G) -> Report
+pub fn run<S: Source + Send, K: Sink + Send, G: Gate + Sync>(
+    alloc: Global,
+    words: &[String],
+    input: &mut S,
+    out: &mut K,
+    _gate: &G,
+) -> Report
     // The words are no command line: nothing is read or written.
     ensures usage { (result.status ≡ Status.Usage) ↔ (is_command_line (map string_bytes words.now) ≡ false) }
     ensures untouched { result.status ≡ Status.Usage → (input.new ≡ input.old) × (out.new ≡ out.old) × (result.lines ≡ 0) }

@@ -62,7 +62,8 @@ impl Scene {
     pub fn holds(&self, name: &Name) -> bool
         ensures { result ≡ is_held name.now self.now }
     {
-        source_has_name(self.sources.as_slice(), name) || receiver_has_name(self.receivers.as_slice(), name)
+        source_has_name(self.sources.as_slice(), name)
+            || receiver_has_name(self.receivers.as_slice(), name)
     }
 
     /// Puts a source at the end.
@@ -97,7 +98,9 @@ fn source_has_name(sources: &[PointSource], name: &Name) -> bool
 fn receiver_has_name(receivers: &[Receiver], name: &Name) -> bool
     ensures { result ≡ list_any (λ r. bytes_eq r.name name.now) receivers.now }
 {
-    receivers.iter().any(|receiver| same_name(&receiver.name, name))
+    receivers
+        .iter()
+        .any(|receiver| same_name(&receiver.name, name))
 }
 
 fn same_name(one: &Name, other: &Name) -> bool

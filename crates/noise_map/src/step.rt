@@ -46,7 +46,13 @@ fn write_row<K: Sink>(out: &mut K, row: &[u8]) -> Result<(), Stopped>
 }
 
 /// Refuses a line: its row names the fault, and the scene stays.
-fn refuse<K: Sink>(alloc: Global, scene: &Scene, number: u64, fault: Fault, out: &mut K) -> Result<bool, Stopped>
+fn refuse<K: Sink>(
+    alloc: Global,
+    scene: &Scene,
+    number: u64,
+    fault: Fault,
+    out: &mut K,
+) -> Result<bool, Stopped>
     ensures done { Does result (refusal number scene.now fault) scene.now scene.now (K.taken out.old) (K.taken out.new) }
     ensures cause { Stops result (K.faults out.old) (K.faults out.new) }
 {
@@ -55,7 +61,12 @@ fn refuse<K: Sink>(alloc: Global, scene: &Scene, number: u64, fault: Fault, out:
     Ok(true)
 }
 
-fn write_receiver<K: Sink>(alloc: Global, scene: &Scene, receiver: &Receiver, out: &mut K) -> Result<(), Stopped>
+fn write_receiver<K: Sink>(
+    alloc: Global,
+    scene: &Scene,
+    receiver: &Receiver,
+    out: &mut K,
+) -> Result<(), Stopped>
     ensures taken { Takes result (K.taken out.old) (K.taken out.new) (receiver_row scene.now receiver.now) }
     ensures cause { Stops result (K.faults out.old) (K.faults out.new) }
 {
@@ -115,7 +126,13 @@ fn may_put_receiver(scene: &Scene, receiver: &Receiver) -> bool
 }
 
 #[tactic(auto, unfolding(crate::specs::Run::obeyed))]
-fn put_source<K: Sink>(alloc: Global, scene: &mut Scene, number: u64, source: PointSource, out: &mut K) -> Result<bool, Stopped>
+fn put_source<K: Sink>(
+    alloc: Global,
+    scene: &mut Scene,
+    number: u64,
+    source: PointSource,
+    out: &mut K,
+) -> Result<bool, Stopped>
     ensures done { Does result (obeyed number scene.old (Command.Source source)) scene.old scene.new (K.taken out.old) (K.taken out.new) }
     ensures cause { Stops result (K.faults out.old) (K.faults out.new) }
 {
@@ -127,7 +144,13 @@ fn put_source<K: Sink>(alloc: Global, scene: &mut Scene, number: u64, source: Po
 }
 
 #[tactic(auto, unfolding(crate::specs::Run::obeyed))]
-fn put_receiver<K: Sink>(alloc: Global, scene: &mut Scene, number: u64, receiver: Receiver, out: &mut K) -> Result<bool, Stopped>
+fn put_receiver<K: Sink>(
+    alloc: Global,
+    scene: &mut Scene,
+    number: u64,
+    receiver: Receiver,
+    out: &mut K,
+) -> Result<bool, Stopped>
     ensures done { Does result (obeyed number scene.old (Command.Receiver receiver)) scene.old scene.new (K.taken out.old) (K.taken out.new) }
     ensures cause { Stops result (K.faults out.old) (K.faults out.new) }
 {
@@ -139,7 +162,12 @@ fn put_receiver<K: Sink>(alloc: Global, scene: &mut Scene, number: u64, receiver
 }
 
 #[tactic(auto, unfolding(crate::specs::Run::obeyed))]
-fn obey_settle<K: Sink>(alloc: Global, scene: &Scene, number: u64, out: &mut K) -> Result<bool, Stopped>
+fn obey_settle<K: Sink>(
+    alloc: Global,
+    scene: &Scene,
+    number: u64,
+    out: &mut K,
+) -> Result<bool, Stopped>
     ensures done { Does result (obeyed number scene.now Command.Settle) scene.now scene.now (K.taken out.old) (K.taken out.new) }
     ensures cause { Stops result (K.faults out.old) (K.faults out.new) }
 {
@@ -147,7 +175,13 @@ fn obey_settle<K: Sink>(alloc: Global, scene: &Scene, number: u64, out: &mut K) 
     Ok(false)
 }
 
-fn obey<K: Sink>(alloc: Global, scene: &mut Scene, number: u64, command: Command, out: &mut K) -> Result<bool, Stopped>
+fn obey<K: Sink>(
+    alloc: Global,
+    scene: &mut Scene,
+    number: u64,
+    command: Command,
+    out: &mut K,
+) -> Result<bool, Stopped>
     ensures done { Does result (obeyed number scene.old command) scene.old scene.new (K.taken out.old) (K.taken out.new) }
     ensures cause { Stops result (K.faults out.old) (K.faults out.new) }
 {
@@ -171,7 +205,13 @@ fn is_blank_char(byte: u8) -> bool
 }
 
 #[tactic(auto, unfolding(crate::specs::Run::obeyed_or_refused))]
-fn read_and_obey<K: Sink>(alloc: Global, scene: &mut Scene, number: u64, line: &[u8], out: &mut K) -> Result<bool, Stopped>
+fn read_and_obey<K: Sink>(
+    alloc: Global,
+    scene: &mut Scene,
+    number: u64,
+    line: &[u8],
+    out: &mut K,
+) -> Result<bool, Stopped>
     ensures done { Does result (obeyed_or_refused number scene.old (command_of line.now)) scene.old scene.new (K.taken out.old) (K.taken out.new) }
     ensures cause { Stops result (K.faults out.old) (K.faults out.new) }
 {
@@ -184,7 +224,13 @@ fn read_and_obey<K: Sink>(alloc: Global, scene: &mut Scene, number: u64, line: &
 
 /// Does a line of at most 65,536 bytes, by its number from 1, and answers whether it was refused.
 #[tactic(auto, unfolding(crate::specs::Run::line_done))]
-pub fn do_line<K: Sink>(alloc: Global, scene: &mut Scene, number: u64, line: &[u8], out: &mut K) -> Result<bool, Stopped>
+pub fn do_line<K: Sink>(
+    alloc: Global,
+    scene: &mut Scene,
+    number: u64,
+    line: &[u8],
+    out: &mut K,
+) -> Result<bool, Stopped>
     requires { length line.now ≤ 65536 }
     ensures done { Does result (line_done number scene.old line.now) scene.old scene.new (K.taken out.old) (K.taken out.new) }
     ensures cause { Stops result (K.faults out.old) (K.faults out.new) }
@@ -198,7 +244,12 @@ pub fn do_line<K: Sink>(alloc: Global, scene: &mut Scene, number: u64, line: &[u
 
 /// Refuses a line of more than 65,536 bytes.
 #[tactic(auto, unfolding(crate::specs::Run::line_done))]
-pub fn refuse_long<K: Sink>(alloc: Global, scene: &Scene, number: u64, out: &mut K) -> Result<bool, Stopped>
+pub fn refuse_long<K: Sink>(
+    alloc: Global,
+    scene: &Scene,
+    number: u64,
+    out: &mut K,
+) -> Result<bool, Stopped>
     ensures done { (line : List ℕ) → 65536 < length line → Does result (line_done number scene.now line) scene.now scene.now (K.taken out.old) (K.taken out.new) }
     ensures cause { Stops result (K.faults out.old) (K.faults out.new) }
 {

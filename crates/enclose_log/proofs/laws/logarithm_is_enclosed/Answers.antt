@@ -1,8 +1,9 @@
-use Rattle.enclose_log.proofs.LgInterval.{lg_of-interval, lg_of-holds}
+use Rattle.enclose_log.proofs.LgInterval.{lg_of-holds}
+use Rattle.enclose_log.proofs.LogarithmNode.{Lg-lawful}
 use Rattle.enclose_log.proofs.laws.logarithm_is_enclosed.Goals as goal
 
-pub returns-clause-interval : goal.returns-clause-interval
-returns-clause-interval c = lg_of-interval
+pub returns-clause-ends : goal.returns-clause-ends
+returns-clause-ends c = lg_of-holds
 
-pub returns-clause-encloses : goal.returns-clause-encloses
-returns-clause-encloses c = lg_of-holds
+pub returns-clause-lawful : goal.returns-clause-lawful
+returns-clause-lawful c = Lg-lawful

@@ -1,8 +1,8 @@
 use Rattle.std.proofs.Common.{◌≡◌, ◌∙◌, ℤ, ◌*ℤ◌, refl, ◌<◌, ◌^◌, to_z, of_z}
 use Rattle.std.specs.Prelude.{Option, unsigned_abs}
 use Rattle.std.specs.Int.{w128}
-use Rattle.fix_interval.specs.Interval.{Interval, IsEnd, IsOrdered}
-use Rattle.fix_interval.specs.Values.{end_of, lesser_low, greater_high, rounded_outward, product_of_ends}
+use Rattle.fix_interval.specs.Interval.{IsEnd, IsOrdered}
+use Rattle.fix_interval.specs.Values.{end_of, lesser_low, greater_high, rounded_outward}
 use Rattle.fix_interval.proofs.Multiplying.{product_passed, four_ends, IsEnd-end_of, IsEnd-lesser, IsEnd-greater, IsOrdered-four}
 use Rattle.fix_interval.proofs.products.product_of_mixed.Goals as goal
 
@@ -49,15 +49,15 @@ from_products-requires-clause-ordered c =
 pub returns : goal.returns
 returns c =
     let p : c.product-p.result ≡ end_of (c.args.a.lo *ℤ c.args.b.lo) =
-      c.product-p.ensures ∙ product_passed c.args.a.lo c.args.b.lo _ c.args.a.low_end c.args.b.low_end refl in
+    c.product-p.ensures ∙ product_passed c.args.a.lo c.args.b.lo _ c.args.a.low_end c.args.b.low_end refl in
     let q : c.product-q.result ≡ end_of (c.args.a.lo *ℤ c.args.b.hi) =
-      c.product-q.ensures ∙ product_passed c.args.a.lo c.args.b.hi _ c.args.a.low_end c.args.b.high_end refl in
+    c.product-q.ensures ∙ product_passed c.args.a.lo c.args.b.hi _ c.args.a.low_end c.args.b.high_end refl in
     let r : c.product-r.result ≡ end_of (c.args.a.hi *ℤ c.args.b.lo) =
-      c.product-r.ensures ∙ product_passed c.args.a.hi c.args.b.lo _ c.args.a.high_end c.args.b.low_end refl in
+    c.product-r.ensures ∙ product_passed c.args.a.hi c.args.b.lo _ c.args.a.high_end c.args.b.low_end refl in
     let s : c.product-s.result ≡ end_of (c.args.a.hi *ℤ c.args.b.hi) =
-      c.product-s.ensures ∙ product_passed c.args.a.hi c.args.b.hi _ c.args.a.high_end c.args.b.high_end refl in
+    c.product-s.ensures ∙ product_passed c.args.a.hi c.args.b.hi _ c.args.a.high_end c.args.b.high_end refl in
     c.from_products.ensures
     ∙ found (c.args.a.lo *ℤ c.args.b.lo) (c.args.a.lo *ℤ c.args.b.hi) (c.args.a.hi *ℤ c.args.b.lo) (c.args.a.hi *ℤ c.args.b.hi) _ _ _ _ _ _ _ _ _ _ p q r s
-      c.lesser_of_lows.ensures c.lesser_of_lows-2.ensures c.lesser_of_lows-3.ensures
-      c.greater_of_highs.ensures c.greater_of_highs-2.ensures c.greater_of_highs-3.ensures
+    c.lesser_of_lows.ensures c.lesser_of_lows-2.ensures c.lesser_of_lows-3.ensures
+    c.greater_of_highs.ensures c.greater_of_highs-2.ensures c.greater_of_highs-3.ensures
     ∙ four_ends (c.args.a.lo *ℤ c.args.b.lo) (c.args.a.lo *ℤ c.args.b.hi) (c.args.a.hi *ℤ c.args.b.lo) (c.args.a.hi *ℤ c.args.b.hi)

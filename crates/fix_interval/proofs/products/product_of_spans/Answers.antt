@@ -1,5 +1,4 @@
-use Rattle.std.proofs.Common.{◌≡◌, ◌∙◌}
-use Rattle.fix_interval.specs.Values.{product_of_ends}
+use Rattle.std.proofs.Common.{◌∙◌}
 use Rattle.fix_interval.proofs.Multiplying.{product_of_ends_comm}
 use Rattle.fix_interval.proofs.products.product_of_spans.Goals as goal
 

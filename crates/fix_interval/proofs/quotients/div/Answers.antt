@@ -1,5 +1,4 @@
-use Rattle.std.proofs.Common.{◌≡◌, ◌∙◌, sym}
-use Rattle.fix_interval.specs.Interval.{Interval}
+use Rattle.std.proofs.Common.{◌∙◌, sym}
 use Rattle.fix_interval.specs.Values.{div_of, quotient_of_ends}
 use Rattle.fix_interval.proofs.Ends.{on_ends-first, on_ends-second, on_ends-bounded}
 use Rattle.fix_interval.proofs.quotients.div.Goals as goal
@@ -19,4 +18,4 @@ unfolding div_of
 returns c =
     c.quotient_of_spans.ensures
     ∙ sym (on_ends-bounded quotient_of_ends c.args.a c.args.b c.in-Some.first.lo c.in-Some.first.hi c.in-Some-bounded.second.lo c.in-Some-bounded.second.hi
-      (c.in-Some.ensures).both (c.in-Some-bounded.ensures).both)
+    (c.in-Some.ensures).both (c.in-Some-bounded.ensures).both)

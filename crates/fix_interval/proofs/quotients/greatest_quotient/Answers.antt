@@ -1,4 +1,4 @@
-use Rattle.std.proofs.Common.{◌≡◌, ℤ, pos, ◌*ℤ◌, ap, sym, ◌∙◌, arith}
+use Rattle.std.proofs.Common.{pos, ◌*ℤ◌, ap, sym, ◌∙◌, arith}
 use Rattle.std.specs.Prelude.{unsigned_abs, Some}
 use Rattle.std.proofs.lemmas.Int.{ints}
 use Rattle.fix_interval.specs.Units.{unit}
@@ -10,14 +10,14 @@ pub returns-then-a-ge0 : goal.returns-then-a-ge0
 returns-then-a-ge0 c =
     c.high.ensures.end
     ∙ hi-ratio_of c.args.a.hi _ (unsigned_abs c.args.by.lo) _ c.fraction.result c.requires.small (passed c.args.a.hi c.args.a.high_end)
-      (c.unsigned_abs.ensures.value ∙ ap unsigned_abs (passed c.args.by.lo c.args.by.low_end)) c.fraction.ensures
+    (c.unsigned_abs.ensures.value ∙ ap unsigned_abs (passed c.args.by.lo c.args.by.low_end)) c.fraction.ensures
     ∙ ap Some (sym (greatest_by_positive (c.args.a.hi *ℤ pos unit) c.args.by.lo c.args.by.hi c.requires.positive c.args.by.ordered
-      (units-not_negative c.args.a.hi (omega (arith, ints)))))
+    (units-not_negative c.args.a.hi (omega (arith, ints)))))
 
 pub returns-else-a-ge0 : goal.returns-else-a-ge0
 returns-else-a-ge0 c =
     c.high-else-a-ge0.ensures.end
     ∙ hi-ratio_of c.args.a.hi _ (unsigned_abs c.args.by.hi) _ c.fraction-else-a-ge0.result c.requires.small (passed c.args.a.hi c.args.a.high_end)
-      (c.unsigned_abs-else-a-ge0.ensures.value ∙ ap unsigned_abs (passed c.args.by.hi c.args.by.high_end)) c.fraction-else-a-ge0.ensures
+    (c.unsigned_abs-else-a-ge0.ensures.value ∙ ap unsigned_abs (passed c.args.by.hi c.args.by.high_end)) c.fraction-else-a-ge0.ensures
     ∙ ap Some (sym (greatest_by_positive_negative (c.args.a.hi *ℤ pos unit) c.args.by.lo c.args.by.hi c.requires.positive c.args.by.ordered
-      (units-negative c.args.a.hi (omega (arith, ints)))))
+    (units-negative c.args.a.hi (omega (arith, ints)))))

@@ -1,7 +1,6 @@
-use Rattle.std.proofs.Common.{◌≡◌, ◌∙◌, ◌<◌, ◌^◌, pos, ◌<ℤ◌, sym, arith, rules}
+use Rattle.std.proofs.Common.{◌<◌, ◌^◌, pos, ◌<ℤ◌, sym, arith, rules}
 use Rattle.std.specs.Prelude.{unsigned_abs}
 use Rattle.std.proofs.lemmas.Int.{ints}
-use Rattle.fix_interval.specs.Values.{quotient_of_ends}
 use Rattle.fix_interval.proofs.Dividing.{quotient_of_ends-negative}
 use Rattle.fix_interval.proofs.quotients.quotient_of_spans.Goals as goal
 

@@ -1,5 +1,3 @@
-use Rattle.std.proofs.Common.{◌≡◌}
-use Rattle.fix_interval.specs.Interval.{Interval}
 use Rattle.fix_interval.proofs.Intervals.{IsInterval-add_of}
 use Rattle.fix_interval.specs.Values.{add_of}
 use Rattle.fix_interval.proofs.values.add.Goals as goal

@@ -16,21 +16,21 @@ loop-status-init g c = record {
 pub returns-in-Some-clause-outcome : goal.returns-in-Some-clause-outcome
 returns-in-Some-clause-outcome g c =
     run_ended c.next-next.result _ c.loop-status.reader c.next-next.new.self c.loop-status.scene _ c.loop-status.refused _ _ _ _ _ c.loop-status.invariant.progress c.next-next.ensures.within.1
-        (sym c.ending.ensures ∙ c.in-Some.is) c.next-next.ensures.going
-        (λ h. let kept = c.next-next.ensures.stopped h in (kept.0, kept.1, ap g.S.Source.left kept.2))
+    (sym c.ending.ensures ∙ c.in-Some.is) c.next-next.ensures.going
+    (λ h. let kept = c.next-next.ensures.stopped h in (kept.0, kept.1, ap g.S.Source.left kept.2))
 
 pub loop-status-smaller : goal.loop-status-smaller
 loop-status-smaller g c =
     passes_on c.next-next.result c.loop-status.reader c.next-next.new.self c.loop-status.scene _ c.loop-status.refused _ _ _ _ _ c.loop-status.invariant.progress
-        (sym c.ending.ensures ∙ c.in_default-ending.is) c.next-next.ensures.going
-        (λ h. let kept = c.next-next.ensures.stopped h in (kept.0, kept.1, ap g.S.Source.left kept.2)) c.next-next.ensures.within.1
+    (sym c.ending.ensures ∙ c.in_default-ending.is) c.next-next.ensures.going
+    (λ h. let kept = c.next-next.ensures.stopped h in (kept.0, kept.1, ap g.S.Source.left kept.2)) c.next-next.ensures.within.1
 
 pub loop-status-preserved : goal.loop-status-preserved
 loop-status-preserved g c = record {
   progress =
       turned c.next-next.result c.line.result.now c.loop-status.reader c.next-next.new.self c.loop-status.scene c.do_next.new.scene _ c.loop-status.refused c.in-Ok-do_next.was_refused _ _ _ _ _ _ c.loop-status.invariant.progress
-          (sym c.ending.ensures ∙ c.in_default-ending.is) c.next-next.ensures.going
-          (λ h. let kept = c.next-next.ensures.stopped h in (kept.0, kept.1, ap g.S.Source.left kept.2)) c.next-next.ensures.within.1 c.line.ensures c.in-Ok-do_next.ensures.done;
+      (sym c.ending.ensures ∙ c.in_default-ending.is) c.next-next.ensures.going
+      (λ h. let kept = c.next-next.ensures.stopped h in (kept.0, kept.1, ap g.S.Source.left kept.2)) c.next-next.ensures.within.1 c.line.ensures c.in-Ok-do_next.ensures.done;
   within = c.next-next.ensures.within.1;
   reads = omega (arith, c.loop-status.invariant.reads, c.next-next.ensures.later);
   writes = omega (arith, c.loop-status.invariant.writes, c.in-Ok-do_next.ensures.cause.later);
@@ -39,6 +39,6 @@ loop-status-preserved g c = record {
 pub returns-in-Err-clause-outcome : goal.returns-in-Err-clause-outcome
 returns-in-Err-clause-outcome g c =
     rw c.status_when.ensures
-        (turned_off c.in-Err.stopped c.next-next.result c.line.result.now c.loop-status.reader c.next-next.new.self c.loop-status.scene c.do_next.new.scene _ c.loop-status.refused _ _ _ _ _ _ c.loop-status.invariant.progress
-            (sym c.ending.ensures ∙ c.in_default-ending.is) c.next-next.ensures.going
-            (λ h. let kept = c.next-next.ensures.stopped h in (kept.0, kept.1, ap g.S.Source.left kept.2)) c.next-next.ensures.within.1 c.line.ensures c.in-Err.ensures.done)
+    (turned_off c.in-Err.stopped c.next-next.result c.line.result.now c.loop-status.reader c.next-next.new.self c.loop-status.scene c.do_next.new.scene _ c.loop-status.refused _ _ _ _ _ _ c.loop-status.invariant.progress
+    (sym c.ending.ensures ∙ c.in_default-ending.is) c.next-next.ensures.going
+    (λ h. let kept = c.next-next.ensures.stopped h in (kept.0, kept.1, ap g.S.Source.left kept.2)) c.next-next.ensures.within.1 c.line.ensures c.in-Err.ensures.done)

@@ -7,4 +7,4 @@ use Rattle.noise_map.proofs.step.write_receivers.Given as goal
 abbrev pub invariant-loop-receiver : goal.invariant-loop-receiver
 invariant-loop-receiver g l =
     Appends (g.K.Sink.taken l.initial.out) (g.K.Sink.taken l.out) (flat_map (receiver_row l.scene) (take l.receiver-index l.receiver-items))
-        × (g.K.Sink.faults l.initial.out ≤ g.K.Sink.faults l.out)
+    × (g.K.Sink.faults l.initial.out ≤ g.K.Sink.faults l.out)

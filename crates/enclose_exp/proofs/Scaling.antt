@@ -1,0 +1,82 @@
+-- Scaling a factor by a power of ten, rounded down and rounded up.
+use Rattle.std.proofs.Common.{◌≡◌, ℕ, ◌+◌, ◌-◌, ◌*◌, ◌/◌, ◌^◌, ◌<◌, ◌≤◌, sym, ap, ◌∙◌, arith}
+use Rattle.std.proofs.Math.Nat.{div-div-eq-div-mul, mul-div-mul_left, mul-div-mul_right, mul-le-mul_left, mul-le-mul_right, mul-lt-mul_of_pos_left, lt_of_mul-lt-mul_right, one-le-pow, lt-div-mul-add, div-mul-le_self}
+use Rattle.std.proofs.lemmas.Nat.{pow-add}
+use Rattle.std.proofs.lemmas.Grind.{div_ceil_times}
+use Rattle.std.specs.Int.{div_ceil}
+
+-- the quotient rounded up is the only number in its place
+pub div_ceil-is : (a b r : ℕ) → 0 < b → a ≤ r * b → r * b < a + b → div_ceil a b ≡ r
+div_ceil-is a b r positive above below =
+    let d = div_ceil_times a b positive in
+    let first : div_ceil a b < r + 1 = lt_of_mul-lt-mul_right b (omega (arith, d.0, d.1)) in
+    let second : r < div_ceil a b + 1 = lt_of_mul-lt-mul_right b (omega (arith, d.0, d.1)) in
+    omega (arith, first, second)
+
+-- a common factor changes neither quotient
+pub div_ceil-scaled : (c m n : ℕ) → 0 < c → 0 < n → div_ceil (c * m) (c * n) ≡ div_ceil m n
+div_ceil-scaled c m n positive above =
+    let d = div_ceil_times m n above in
+    div_ceil-is (c * m) (c * n) (div_ceil m n) (omega (arith, mul-lt-mul_of_pos_left {k = c} above positive))
+    (omega (arith, mul-le-mul_left c d.0))
+    (omega (arith, mul-lt-mul_of_pos_left {k = c} d.1 positive))
+
+-- a quotient without remainder
+pub div_ceil-whole : (r b : ℕ) → 0 < b → div_ceil (b * r) b ≡ r
+div_ceil-whole r b positive = div_ceil-is (b * r) b r positive (omega arith) (omega arith)
+
+-- rounded up twice is rounded up once
+pub div_ceil-nested : (n a b : ℕ) → 0 < a → 0 < b → div_ceil (div_ceil n a) b ≡ div_ceil n (a * b)
+div_ceil-nested n a b pa pb =
+    let first = div_ceil_times n a pa in
+    let second = div_ceil_times (div_ceil n a) b pb in
+    let r = div_ceil (div_ceil n a) b in
+    let upper = mul-le-mul_right a second.0 in
+    let room : r * b + 1 ≤ div_ceil n a + b = omega (arith, second.1) in
+    let lower = mul-le-mul_right a room in
+    sym (div_ceil-is n (a * b) r (omega (arith, mul-lt-mul_of_pos_left {k = a} pb pa))
+    (omega (arith, first.0, upper))
+    (omega (arith, first.1, lower)))
+
+-- the two ways in which the code rounds up
+pub div_ceil-added : (n d : ℕ) → 0 < d → (n + (d - 1)) / d ≡ div_ceil n d
+div_ceil-added n d positive =
+    let over = lt-div-mul-add {a = n + (d - 1)} {b = d} positive in
+    let under = div-mul-le_self (n + (d - 1)) d in
+    sym (div_ceil-is n d ((n + (d - 1)) / d) positive (omega (arith, over)) (omega (arith, under)))
+
+-- below the power 20, t is what is divided by
+pub scaled_low-below : (p k t : ℕ) → k < 20 → t ≡ 10 ^ (20 - k) → p / 2 ^ 28 / t ≡ p * 10 ^ k / (10 ^ 20 * 2 ^ 28)
+scaled_low-below p k t below e =
+    let above : 0 < 10 ^ k = one-le-pow k 10 (omega arith) in
+    let shift : 20 ≡ (20 - k) + k = omega arith in
+    let power : 10 ^ 20 ≡ t * 10 ^ k = ap (λ i. 10 ^ i) shift ∙ pow-add 10 (20 - k) k ∙ ap (λ x. x * 10 ^ k) (sym e) in
+    let whole : 10 ^ 20 * 2 ^ 28 ≡ 2 ^ 28 * t * 10 ^ k = omega (arith, power) in
+    div-div-eq-div-mul p (2 ^ 28) t ∙ sym (mul-div-mul_right {m = 10 ^ k} p (2 ^ 28 * t) above) ∙ ap (λ d. p * 10 ^ k / d) (sym whole)
+
+pub scaled_high-below : (p k t : ℕ) → k < 20 → t ≡ 10 ^ (20 - k) → div_ceil (div_ceil p (2 ^ 28)) t ≡ div_ceil (p * 10 ^ k) (10 ^ 20 * 2 ^ 28)
+scaled_high-below p k t below e =
+    let above : 0 < 10 ^ k = one-le-pow k 10 (omega arith) in
+    let divisor : 0 < t = rw e (one-le-pow (20 - k) 10 (omega arith)) in
+    let shift : 20 ≡ (20 - k) + k = omega arith in
+    let power : 10 ^ 20 ≡ t * 10 ^ k = ap (λ i. 10 ^ i) shift ∙ pow-add 10 (20 - k) k ∙ ap (λ x. x * 10 ^ k) (sym e) in
+    let whole : 10 ^ 20 * 2 ^ 28 ≡ 10 ^ k * (2 ^ 28 * t) = omega (arith, power) in
+    let numerator : p * 10 ^ k ≡ 10 ^ k * p = omega arith in
+    let some : 0 < 2 ^ 28 * t = omega (arith, divisor) in
+    div_ceil-nested p (2 ^ 28) t (omega arith) divisor ∙ sym (div_ceil-scaled (10 ^ k) p (2 ^ 28 * t) above some)
+    ∙ ap (λ n. div_ceil n (10 ^ k * (2 ^ 28 * t))) (sym numerator) ∙ ap (λ d. div_ceil (p * 10 ^ k) d) (sym whole)
+
+-- from the power 20 on, t is what is multiplied by
+pub scaled_low-above : (p k t : ℕ) → 20 ≤ k → t ≡ 10 ^ (k - 20) → p * t / 2 ^ 28 ≡ p * 10 ^ k / (10 ^ 20 * 2 ^ 28)
+scaled_low-above p k t from e =
+    let shift : k ≡ 20 + (k - 20) = omega arith in
+    let power : 10 ^ k ≡ 10 ^ 20 * t = ap (λ i. 10 ^ i) shift ∙ pow-add 10 20 (k - 20) ∙ ap (λ x. 10 ^ 20 * x) (sym e) in
+    let whole : p * 10 ^ k ≡ 10 ^ 20 * (p * t) = (let f = ap (λ x. p * x) power in omega (arith, f)) in
+    sym (mul-div-mul_left {m = 10 ^ 20} (p * t) (2 ^ 28) (omega arith)) ∙ ap (λ n. n / (10 ^ 20 * 2 ^ 28)) (sym whole)
+
+pub scaled_high-above : (p k t : ℕ) → 20 ≤ k → t ≡ 10 ^ (k - 20) → div_ceil (p * t) (2 ^ 28) ≡ div_ceil (p * 10 ^ k) (10 ^ 20 * 2 ^ 28)
+scaled_high-above p k t from e =
+    let shift : k ≡ 20 + (k - 20) = omega arith in
+    let power : 10 ^ k ≡ 10 ^ 20 * t = ap (λ i. 10 ^ i) shift ∙ pow-add 10 20 (k - 20) ∙ ap (λ x. 10 ^ 20 * x) (sym e) in
+    let whole : p * 10 ^ k ≡ 10 ^ 20 * (p * t) = (let f = ap (λ x. p * x) power in omega (arith, f)) in
+    sym (div_ceil-scaled (10 ^ 20) (p * t) (2 ^ 28) (omega arith) (omega arith)) ∙ ap (λ n. div_ceil n (10 ^ 20 * 2 ^ 28)) (sym whole)

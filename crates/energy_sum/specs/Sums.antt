@@ -1,0 +1,13 @@
+-- What a sum of energies keeps.
+use Rattle.std.specs.Prelude.{ℕ, ◌^◌, ◌≤◌, ◌<◌, ◌+ℤ◌, ◌<ℤ◌, pos, ℤ, Option, Some, None, IsSomeAnd, unsigned_abs}
+use Rattle.fix_interval.specs.Interval.{Interval}
+
+-- the ends of a sum, in units of 2^-32
+pub record IsSum (lo hi : ℕ) : Type 0 where
+  pub ordered : lo ≤ hi
+  pub bounded : hi < 2 ^ 126
+
+-- the high end of a sum, which is bounded and not below 0
+abbrev pub units_of : Option ℤ → ℕ
+units_of None = 0
+units_of (Some z) = unsigned_abs z

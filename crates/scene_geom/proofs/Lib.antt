@@ -1,0 +1,9 @@
+pub mod Whole
+pub mod Vectors
+pub mod Crossings
+pub mod OutlineLemmas
+pub mod Windings
+pub mod Blocking
+pub mod Reversing
+pub mod Turning
+pub mod CommonPoint

@@ -1,0 +1,11 @@
+pub mod Plan
+pub mod Vector
+pub mod Positive
+pub mod Point
+pub mod Step
+pub mod Fraction
+pub mod Direction
+pub mod Crossing
+pub mod Outline
+pub mod ClearWinding
+pub mod Laws

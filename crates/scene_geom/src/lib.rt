@@ -1,0 +1,28 @@
+//! Exact plan geometry over whole millimetres: the predicates by which ISO 9613-2's paths are found.
+//! Each is exactly its definition in `specs/`, without rounding, within 64 bits and, along the legs of
+//! reflections, within 128. No call takes memory.
+#![tactic(auto)]
+
+mod aims;
+mod crossing;
+mod direction;
+mod fraction;
+pub mod laws;
+mod meeting;
+mod outline;
+mod places;
+mod plan;
+mod step;
+#[cfg(test)]
+mod tests;
+mod turns;
+
+pub use aims::dir_of;
+pub use crossing::{Passage, blocks, crosses, hits, passes};
+pub use direction::Dir;
+pub use fraction::Frac;
+pub use meeting::meets;
+pub use outline::{area2, extent};
+pub use places::lies_inside;
+pub use plan::{Pt, Side};
+pub use turns::orient;

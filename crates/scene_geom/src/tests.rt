@@ -1,0 +1,276 @@
+//! Values from outside, calculated by an independent program over fractions without rounding.
+
+use super::{
+    Dir, Frac, Pt, Side, area2, blocks, crosses, dir_of, extent, hits, lies_inside, meets, orient,
+    passes,
+};
+use std::alloc::{AllocError, Global};
+use std::test::Fail;
+
+/// The greatest coordinate.
+const M: i64 = 4_000_000;
+
+fn at((x, y): (i64, i64)) -> Pt {
+    Pt::new(x.clamp(-M, M), y.clamp(-M, M))
+}
+
+fn side((from, to): ((i64, i64), (i64, i64))) -> Side {
+    Side {
+        from: at(from),
+        to: at(to),
+    }
+}
+
+fn corners(alloc: Global, places: &[(i64, i64)]) -> Result<Vec<Pt>, AllocError> {
+    let mut points = Vec::new(alloc);
+    for place in places {
+        points.push(at(*place))?;
+    }
+    Ok(points)
+}
+
+fn parts(place: Frac) -> (i128, i128) {
+    (place.n, place.d)
+}
+
+#[test]
+fn sides_cross_and_block(rt: HostRuntime) {
+    let ahead = ((0, 0), (1000, 0));
+    let across = ((-M, -M), (M, M));
+    let askew = ((-M, -M + 1), (M, M - 1));
+    // The side, the way, the crossing, whether the side blocks, and the hit with the whole line.
+    let rows = [
+        (
+            ((500, -100), (500, 300)),
+            ahead,
+            Some((200_000, 400_000)),
+            true,
+            Some((200_000, 400_000)),
+        ),
+        (
+            ((500, 300), (500, -100)),
+            ahead,
+            Some((200_000, 400_000)),
+            true,
+            Some((200_000, 400_000)),
+        ),
+        // A corner on the line: with the side on the left it crosses, on the right it doesn't.
+        (
+            ((500, 0), (500, 300)),
+            ahead,
+            Some((150_000, 300_000)),
+            false,
+            Some((150_000, 300_000)),
+        ),
+        (((500, 0), (500, -300)), ahead, None, false, None),
+        // At the start, at the end, behind and beyond.
+        (
+            ((0, -300), (0, 300)),
+            ahead,
+            None,
+            false,
+            Some((0, 600_000)),
+        ),
+        (
+            ((1000, -300), (1000, 300)),
+            ahead,
+            None,
+            false,
+            Some((600_000, 600_000)),
+        ),
+        (
+            ((-1, -300), (-1, 300)),
+            ahead,
+            None,
+            false,
+            Some((-600, 600_000)),
+        ),
+        (
+            ((1001, -300), (1001, 300)),
+            ahead,
+            None,
+            false,
+            Some((600_600, 600_000)),
+        ),
+        // Along the line, beside it, and a way of no length.
+        (((100, 0), (900, 0)), ahead, None, false, None),
+        (((100, 5), (900, 5)), ahead, None, false, None),
+        (((-5, -5), (5, 5)), ((0, 0), (0, 0)), None, false, None),
+        // A fraction that isn't reduced, and the greatest coordinates.
+        (
+            ((3, -7), (11, 13)),
+            ((-20, -2), (30, 9)),
+            Some((500, 912)),
+            true,
+            Some((500, 912)),
+        ),
+        (
+            ((-M, M), (M, -M)),
+            across,
+            Some((64_000_000_000_000, 128_000_000_000_000)),
+            true,
+            Some((64_000_000_000_000, 128_000_000_000_000)),
+        ),
+        (
+            ((M, -M), (-M, M)),
+            askew,
+            Some((63_999_992_000_000, 127_999_984_000_000)),
+            true,
+            Some((63_999_992_000_000, 127_999_984_000_000)),
+        ),
+    ];
+    for (ends, way, crossing, blocked, hit) in rows {
+        let wall = side(ends);
+        let line = side(way);
+        assert_eq!(rt;
+            crosses(wall, line.from, line.to).map(parts),
+            crossing,
+            "{wall:?}"
+        );
+        assert_eq!(rt; blocks(wall, line.from, line.to), blocked, "{wall:?}");
+        assert_eq!(rt;
+            hits(wall, line.from, dir_of(line.from, line.to)).map(parts),
+            hit,
+            "{wall:?}"
+        );
+    }
+    assert_eq!(rt;
+        orient(at((-M, M)), at((M, M)), at((M, -M))),
+        -64_000_000_000_000
+    );
+}
+
+#[test]
+fn outlines_have_areas_extents_and_meet(rt: HostRuntime) -> Result<(), Fail> {
+    let square: &[(i64, i64)] = &[(100, -50), (300, -50), (300, 50), (100, 50)];
+    let turned: &[(i64, i64)] = &[(100, 50), (300, 50), (300, -50), (100, -50)];
+    let below: &[(i64, i64)] = &[(100, 0), (300, 0), (300, -50), (100, -50)];
+    let above: &[(i64, i64)] = &[(100, 0), (300, 0), (300, 50), (100, 50)];
+    let bow: &[(i64, i64)] = &[(100, -50), (300, 50), (300, -50), (100, 50)];
+    let repeated: &[(i64, i64)] = &[(100, -50), (300, -50), (300, 50), (100, 50), (100, -50)];
+    let there_and_back: &[(i64, i64)] = &[
+        (100, -50),
+        (300, -50),
+        (300, 50),
+        (100, 50),
+        (100, -50),
+        (100, 50),
+        (300, 50),
+        (300, -50),
+    ];
+    let all: &[(i64, i64)] = &[(-M, -M), (M, -M), (M, M), (-M, M)];
+    // The outline, the way, twice the area, the extent, and whether the outline meets the way.
+    let rows = [
+        (square, ((0, 0), (1000, 0)), 40_000, 100_000, true),
+        (turned, ((0, 0), (1000, 0)), -40_000, 100_000, true),
+        (square, ((400, 0), (1000, 0)), 40_000, 60_000, false),
+        (square, ((0, 0), (50, 0)), 40_000, 5_000, false),
+        (square, ((0, 0), (200, 0)), 40_000, 20_000, true),
+        (square, ((200, 0), (1000, 0)), 40_000, 80_000, true),
+        (square, ((200, 0), (250, 0)), 40_000, 5_000, true),
+        (turned, ((200, 0), (250, 0)), -40_000, 5_000, true),
+        (square, ((200, 0), (200, 0)), 40_000, 0, false),
+        // A side on the line, seen from both hands.
+        (below, ((0, 0), (1000, 0)), -20_000, 50_000, false),
+        (above, ((0, 0), (1000, 0)), 20_000, 50_000, true),
+        // Outlines that cross themselves, repeat their first corner, or wind there and back.
+        (bow, ((0, 0), (1000, 0)), 0, 100_000, true),
+        (bow, ((150, 0), (180, 0)), 0, 3_000, true),
+        (repeated, ((200, 0), (250, 0)), 40_000, 5_000, true),
+        (there_and_back, ((200, 0), (250, 0)), 0, 5_000, false),
+        (
+            all,
+            ((-M, -M), (M, M)),
+            128_000_000_000_000,
+            128_000_000_000_000,
+            true,
+        ),
+        (all, ((0, 0), (1, 0)), 128_000_000_000_000, 8_000_000, true),
+        (&[], ((0, 0), (1, 0)), 0, 0, false),
+        (&[(5, 5)], ((0, 0), (10, 0)), 0, 0, false),
+    ];
+    let whole = Frac { n: 1, d: 1 };
+    for (places, way, area, across, met) in rows {
+        let outline = corners(rt.alloc(), places)?;
+        let line = side(way);
+        assert_eq!(rt; area2(&outline), area, "{places:?}");
+        assert_eq!(rt; extent(&outline, line.from, line.to), across, "{places:?}");
+        assert_eq!(rt;
+            meets(&outline, line.from, dir_of(line.from, line.to), whole),
+            met,
+            "{places:?}"
+        );
+    }
+    Ok(())
+}
+
+#[test]
+fn legs_are_hit(rt: HostRuntime) -> Result<(), Fail> {
+    // The legs of a reflection from (0, 0) to (100000, 0) in a wall at y = 60000.
+    let end = Frac {
+        n: 9_600_000_000,
+        d: 19_200_000_000,
+    };
+    let first = Dir {
+        x: 2_560_000_000_000_000,
+        y: 3_072_000_000_000_000,
+        w: 25_600_000_000,
+    };
+    let second = Dir {
+        x: -2_560_000_000_000_000,
+        y: 3_072_000_000_000_000,
+        w: 25_600_000_000,
+    };
+    let source = at((0, 0));
+    let receiver = at((100_000, 0));
+    let wall = side(((20_000, 30_000), (20_000, 10_000)));
+    let hit = Frac {
+        n: 10_240_000_000_000_000_000,
+        d: 51_200_000_000_000_000_000,
+    };
+    assert_eq!(rt; hits(wall, source, first), Some(hit));
+    assert_eq!(rt;
+        passes(wall, source, first).map(|passage| passage.to_left),
+        Some(false)
+    );
+    assert_eq!(rt; hits(wall, receiver, second), None);
+    assert!(rt; lies_inside(hit, end));
+    assert!(rt; !lies_inside(hit, Frac { n: 1, d: 5 }));
+    let house = corners(
+        rt.alloc(),
+        &[
+            (20_000, 20_000),
+            (40_000, 20_000),
+            (40_000, 40_000),
+            (20_000, 40_000),
+        ],
+    )?;
+    assert!(rt; meets(&house, source, first, end));
+    assert!(rt; !meets(&house, receiver, second, end));
+    // The greatest direction, place and end.
+    let greatest = Dir {
+        x: 2_110_000_000_000_000_000,
+        y: -2_110_000_000_000_000_000,
+        w: 68_718_952_449,
+    };
+    let diagonal = side(((-M, -M), (M, M)));
+    let far = Frac {
+        n: 4_398_012_956_736_000_000_000_000,
+        d: 33_760_000_000_000_000_000_000_000,
+    };
+    assert_eq!(rt; hits(diagonal, at((-M, M)), greatest), Some(far));
+    assert_eq!(rt;
+        hits(diagonal, at((M, -M)), greatest).map(parts),
+        Some((-far.n, far.d))
+    );
+    assert!(rt;
+        lies_inside(
+            far,
+            Frac {
+                n: 2_970_000_000_000,
+                d: 5_940_000_000_000
+            }
+        )
+    );
+    Ok(())
+}
