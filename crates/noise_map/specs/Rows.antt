@@ -23,6 +23,13 @@ current_row_fields version name low high = codes "row" ∷ version ∷ name ∷ 
 unfoldable pub current_row : ℕ → List ℕ → ℕ → ℕ → List ℕ
 current_row version name low high = row (current_row_fields (decimal version) name (hundredths_text low) (hundredths_text high))
 
+abbrev pub band_row_fields : List ℕ → List ℕ → List ℕ → List ℕ → List ℕ → List (List ℕ)
+band_row_fields version name frequency low high = codes "band" ∷ version ∷ name ∷ frequency ∷ [] ∷ low ∷ high ∷ []
+
+-- a band of a receiver, by its frequency in Hz, with its level between two bounds in 0.01 dB
+unfoldable pub band_level_row : ℕ → List ℕ → ℕ → ℕ → ℕ → List ℕ
+band_level_row version name frequency low high = row (band_row_fields (decimal version) name (decimal frequency) (hundredths_text low) (hundredths_text high))
+
 abbrev pub fault_name : Fault → List ℕ
 fault_name LongLine = codes "LongLine"
 fault_name NotBuilt = codes "NotBuilt"
