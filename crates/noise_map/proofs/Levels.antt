@@ -1,6 +1,12 @@
 -- The ends of a level are bounded.
 use Rattle.std.proofs.Common.{◌≡◌, ℕ, ◌+◌, ◌*◌, ◌<◌, ◌≤◌, ◌^◌, ℤ, pos, negsuc, neg_ℤ, ◌+ℤ◌, ◌*ℤ◌, ◌≤ℤ◌, ◌<ℤ◌, unsigned_abs, Option, refl, sym, ap, ◌∙◌, subst, arith, lit<}
-use Rattle.std.specs.Prelude.{Some, None, IsSomeAnd, IfSome, IsTrue, List, length, get_or, Bool, true, false}
+use Rattle.std.specs.Prelude.{◌⊎◌, Some, None, IsSomeAnd, IfSome, IsTrue, List, length, get_or, Bool, true, false}
+use Rattle.std.proofs.Common.{inl, inr}
+use Rattle.std.proofs.lemmas.Bool.{cases_lt}
+use Rattle.std.proofs.lemmas.Nat.{mul-le}
+use Rattle.fix_interval.specs.Round.{floor_root}
+use Rattle.fix_interval.specs.Units.{unit-is}
+use Rattle.fix_interval.proofs.Rooting.{floor_root-below, ceil_root-le}
 use Rattle.std.specs.List.{list_all}
 use Rattle.std.proofs.lemmas.List.Folds.{list_all_at}
 use Rattle.std.proofs.lemmas.Bool.{false≢true}

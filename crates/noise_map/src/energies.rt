@@ -70,6 +70,7 @@ impl Model for Tally {
 
 impl Tally {
     /// The sum of no energies.
+    #[tactic(auto, unfolding(crate::specs::Tallies::sum_of))]
     pub fn empty() -> Tally
         ensures { result ≡ tally_of [] 0 }
     {

@@ -49,12 +49,20 @@ fn space_square(source: &PointSource, receiver: &Receiver) -> u128
     plan_square(source, receiver) + square(source.height.abs_diff(receiver.height))
 }
 
-/// The distance d in metres.
+/// The distance in metres, as the root of its square.
+fn root_of_square(source: &PointSource, receiver: &Receiver) -> Iv
+    ensures value { result ≡ enc (distance source.now receiver.now) }
+    ensures small { space_squared source.now receiver.now < 2 ^ 66 }
+{
+    root(ratio(space_square(source, receiver) as i128, 1_000_000))
+}
+
+/// The distance d in metres, at most 2^28 m.
 fn distance_of(source: &PointSource, receiver: &Receiver) -> Iv
     ensures value { result ≡ enc (distance source.now receiver.now) }
     ensures bound { IsSomeAnd result.hi (λ z. z ≤ℤ pos (2 ^ 60)) }
 {
-    root(ratio(space_square(source, receiver) as i128, 1_000_000))
+    root_of_square(source, receiver)
 }
 
 fn within(source: &PointSource, receiver: &Receiver) -> bool
@@ -70,12 +78,19 @@ fn hundredths(level: i32) -> Iv
     ratio(level.into(), 100)
 }
 
+/// Tenths of a decibel, in dB.
+fn tenths(level: i32) -> Iv
+    ensures { result ≡ enc (Const level 10) }
+{
+    ratio(level.into(), 10)
+}
+
 /// The A-weight of a band in dB.
 fn weight_of(band: Band) -> Iv
     ensures value { result ≡ enc (Const (weight_in band) 10) }
     ensures bounds { AreBetween (neg_ℤ (pos (30 * 2 ^ 32))) (pos (2 * 2 ^ 32)) result }
 {
-    ratio(band.weight().into(), 10)
+    tenths(band.weight())
 }
 
 /// The sound that power and directivity, in 0.01 dB, make in the receiver's direction, in dB.

@@ -60,12 +60,7 @@ fn do_next<K: Sink>(
 }
 
 /// Reads line after line and does each, until the input ends or something stops it.
-fn run_lines<S: Source, K: Sink>(
-    alloc: Global,
-    bands: bool,
-    input: &mut S,
-    out: &mut K,
-) -> Report
+fn run_lines<S: Source, K: Sink>(alloc: Global, bands: bool, input: &mut S, out: &mut K) -> Report
     ensures outcome { Outcome bands result.status result.lines (S.left input.old) (S.left input.new) (K.taken out.old) (K.taken out.new) }
     ensures read_fault { result.status ≡ Status.ReadFault → Rose (S.faults input.old) (S.faults input.new) }
     ensures write_fault { result.status ≡ Status.WriteFault → Rose (K.faults out.old) (K.faults out.new) }

@@ -6,7 +6,7 @@ ghost use Rattle.noise_map.specs.Bands.{all_bands};
 ghost use Rattle.noise_map.specs.Sums.{sums_of};
 ghost use Rattle.noise_map.specs.Rows.{settle_row};
 ghost use Rattle.noise_map.specs.Reading.{command_of};
-ghost use Rattle.noise_map.specs.Run.{quiet, refusal, receiver_row, band_row, receiver_rows, settle_rows, may_put_source, may_put_receiver, obeyed, is_blank, is_blank_byte, obeyed_or_refused, line_done};
+ghost use Rattle.noise_map.specs.Run.{quiet, refusal, receiver_row, band_row, band_rows, receiver_rows, settle_rows, may_put_source, may_put_receiver, obeyed, is_blank, is_blank_byte, obeyed_or_refused, line_done};
 ghost use Rattle.noise_map.specs.declared.step.Stopped.TheVariants.{NoMemory, WriteFault};
 
 use crate::band::Band;
@@ -113,8 +113,27 @@ fn write_bands<K: Sink>(
     Ok(())
 }
 
+/// Writes the rows of the bands of a receiver, where they are asked for.
+fn write_bands_asked<K: Sink>(
+    alloc: Global,
+    bands: bool,
+    scene: &Scene,
+    receiver: &Receiver,
+    sums: &Sums,
+    out: &mut K,
+) -> Result<(), Stopped>
+    requires { sums.now ≡ sums_of scene.now.sources receiver.now }
+    ensures taken { Takes result (K.taken out.old) (K.taken out.new) (band_rows bands scene.now receiver.now) }
+    ensures cause { Stops result (K.faults out.old) (K.faults out.new) }
+{
+    if bands {
+        write_bands(alloc, scene, receiver, sums, out)
+    } else {
+        Ok(())
+    }
+}
+
 /// Writes the row of a receiver, and those of its bands where they are asked for.
-#[tactic(auto, unfolding(crate::specs::Run::receiver_rows))]
 fn write_receiver<K: Sink>(
     alloc: Global,
     bands: bool,
@@ -127,10 +146,7 @@ fn write_receiver<K: Sink>(
 {
     let sums = sums_at(scene, receiver);
     write_total(alloc, scene, receiver, &sums, out)?;
-    if bands {
-        write_bands(alloc, scene, receiver, &sums, out)?;
-    }
-    Ok(())
+    write_bands_asked(alloc, bands, scene, receiver, &sums, out)
 }
 
 fn write_receivers<K: Sink>(
@@ -157,12 +173,7 @@ fn write_head<K: Sink>(alloc: Global, scene: &Scene, out: &mut K) -> Result<(), 
 }
 
 /// Writes the rows of a settle, each as soon as it is there.
-fn settle<K: Sink>(
-    alloc: Global,
-    bands: bool,
-    scene: &Scene,
-    out: &mut K,
-) -> Result<(), Stopped>
+fn settle<K: Sink>(alloc: Global, bands: bool, scene: &Scene, out: &mut K) -> Result<(), Stopped>
     ensures taken { Takes result (K.taken out.old) (K.taken out.new) (settle_rows bands scene.now) }
     ensures cause { Stops result (K.faults out.old) (K.faults out.new) }
 {

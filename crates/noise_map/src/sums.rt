@@ -1,9 +1,8 @@
 //! The sums of the energies that a receiver has from all sources.
-ghost use Rattle.std.specs.Prelude.{◌≡◌, [], flat_map, slice_index};
-ghost use Rattle.noise_map.specs.Bands.{place_of};
+ghost use Rattle.std.specs.Prelude.{◌≡◌, [], flat_map};
 ghost use Rattle.noise_map.specs.Energies.{long_energy};
 ghost use Rattle.noise_map.specs.Tallies.{and_also};
-ghost use Rattle.noise_map.specs.Sums.{HasRoom, and_heard, sums_of};
+ghost use Rattle.noise_map.specs.Sums.{band_sum, HasRoom, and_heard, sums_of};
 ghost use Rattle.noise_map.specs.Level.{level_of};
 
 use crate::band::Band;
@@ -21,6 +20,7 @@ pub struct Sums {
 }
 
 impl Sums {
+    #[tactic(auto, unfolding(crate::specs::Energies::energies_in, crate::specs::Energies::long_energies))]
     fn empty(receiver: &Receiver) -> Sums
         ensures { result ≡ sums_of [] receiver.now }
     {
@@ -84,7 +84,7 @@ impl Sums {
 
     /// The level of a band, not weighted.
     pub fn band_level(&self, band: Band) -> Level
-        ensures { result ≡ level_of (slice_index self.now.bands (place_of band)).sum }
+        ensures { result ≡ level_of (band_sum self.now band).sum }
     {
         self.bands[band.place()].level()
     }
