@@ -101,16 +101,32 @@ fn write_bands<K: Sink>(
     scene: &Scene,
     receiver: &Receiver,
     sums: &Sums,
+    bands: &[Band],
+    out: &mut K,
+) -> Result<(), Stopped>
+    requires { sums.now ≡ sums_of scene.now.sources receiver.now }
+    ensures taken { Takes result (K.taken out.old) (K.taken out.new) (flat_map (band_row scene.now receiver.now) bands.now) }
+    ensures cause { Stops result (K.faults out.old) (K.faults out.new) }
+{
+    for band in bands {
+        write_band(alloc, scene, receiver, sums, *band, out)?;
+    }
+    Ok(())
+}
+
+fn write_all_bands<K: Sink>(
+    alloc: Global,
+    scene: &Scene,
+    receiver: &Receiver,
+    sums: &Sums,
     out: &mut K,
 ) -> Result<(), Stopped>
     requires { sums.now ≡ sums_of scene.now.sources receiver.now }
     ensures taken { Takes result (K.taken out.old) (K.taken out.new) (flat_map (band_row scene.now receiver.now) all_bands) }
     ensures cause { Stops result (K.faults out.old) (K.faults out.new) }
 {
-    for band in Band::all() {
-        write_band(alloc, scene, receiver, sums, band, out)?;
-    }
-    Ok(())
+    let bands = Band::all();
+    write_bands(alloc, scene, receiver, sums, bands.as_slice(), out)
 }
 
 /// Writes the rows of the bands of a receiver, where they are asked for.
@@ -127,7 +143,7 @@ fn write_bands_asked<K: Sink>(
     ensures cause { Stops result (K.faults out.old) (K.faults out.new) }
 {
     if bands {
-        write_bands(alloc, scene, receiver, sums, out)
+        write_all_bands(alloc, scene, receiver, sums, out)
     } else {
         Ok(())
     }

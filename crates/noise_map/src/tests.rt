@@ -52,11 +52,7 @@ fn writes(
 #[test]
 fn runs_write_these_rows(rt: HostRuntime) -> Result<(), Fail> {
     let table = [
-        (
-            "",
-            "",
-            Status::Done,
-        ),
+        ("", "", Status::Done),
         (
             "{\"do\":\"source\",\"name\":\"s\",\"kind\":\"industry\",\"x\":0,\"y\":0,\"h\":2000,\"lw\":[null,null,null,null,10000,null,null,null]}\n{\"do\":\"receiver\",\"name\":\"r\",\"x\":100000,\"y\":0,\"h\":2000}\n{\"do\":\"settle\"}\n",
             "settle,2,1,,,,\nrow,2,r,current,,48.62,48.64\n",
@@ -134,7 +130,14 @@ fn runs_write_these_rows(rt: HostRuntime) -> Result<(), Fail> {
         ),
     ];
     for (input, rows, status) in table {
-        writes(&rt, rt.alloc(), false, input.as_bytes(), rows.as_bytes(), status)?;
+        writes(
+            &rt,
+            rt.alloc(),
+            false,
+            input.as_bytes(),
+            rows.as_bytes(),
+            status,
+        )?;
     }
     Ok(())
 }
@@ -152,7 +155,14 @@ fn bands_are_written_where_they_are_asked_for(rt: HostRuntime) -> Result<(), Fai
         ),
     ];
     for (input, rows) in table {
-        writes(&rt, rt.alloc(), true, input.as_bytes(), rows.as_bytes(), Status::Done)?;
+        writes(
+            &rt,
+            rt.alloc(),
+            true,
+            input.as_bytes(),
+            rows.as_bytes(),
+            Status::Done,
+        )?;
     }
     Ok(())
 }

@@ -6,5 +6,5 @@ use Rattle.noise_map.proofs.step.write_bands.Given as goal
 
 abbrev pub invariant-loop-band : goal.invariant-loop-band
 invariant-loop-band g l =
-    Appends (g.K.Sink.taken l.initial.out) (g.K.Sink.taken l.out) (flat_map (band_row l.scene l.receiver) (take l.band-index l.band-items))
+    Appends (g.K.Sink.taken l.initial.out) (g.K.Sink.taken l.out) (flat_map (band_row l.scene l.receiver) (take l.band-index l.bands))
     × (g.K.Sink.faults l.initial.out ≤ g.K.Sink.faults l.out)
