@@ -1,5 +1,5 @@
 -- The ends of a level are bounded.
-use Rattle.std.proofs.Common.{◌≡◌, ℕ, ◌+◌, ◌*◌, ◌<◌, ◌≤◌, ◌^◌, ℤ, pos, negsuc, neg_ℤ, ◌+ℤ◌, ◌*ℤ◌, ◌≤ℤ◌, ◌<ℤ◌, unsigned_abs, Option, refl, sym, ap, ◌∙◌, subst, arith, lit<}
+use Rattle.std.proofs.Common.{◌≡◌, ℕ, ◌+◌, ◌*◌, ◌<◌, ◌≤◌, ◌^◌, ℤ, pos, negsuc, neg_ℤ, ◌+ℤ◌, ◌*ℤ◌, ◌≤ℤ◌, ◌<ℤ◌, unsigned_abs, Option, refl, sym, ◌∙◌, arith, lit<}
 use Rattle.std.specs.Prelude.{◌⊎◌, Some, None, IsSomeAnd, IfSome, IsTrue, List, length, get_or, Bool, true, false}
 use Rattle.std.proofs.Common.{inl, inr}
 use Rattle.std.proofs.lemmas.Bool.{cases_lt}
@@ -12,15 +12,13 @@ use Rattle.std.proofs.lemmas.List.Folds.{list_all_at}
 use Rattle.std.proofs.lemmas.Bool.{false≢true}
 use Rattle.noise_map.specs.Parts.{is_power, IsPower, IsDirectivity}
 use Rattle.std.specs.Option.{option_map}
-use Rattle.std.proofs.Math.IntN.{zero-*ℤ}
-use Rattle.std.specs.Int.{int_max}
-use Rattle.std.proofs.lemmas.Int.{ints, clamps}
+use Rattle.std.proofs.lemmas.Int.{ints}
 use Rattle.fix_interval.specs.Units.{unit}
 use Rattle.fix_interval.specs.Interval.{Interval}
 use Rattle.fix_interval.specs.Bounds.{IsBetween, AreBetween}
 use Rattle.fix_interval.specs.Round.{floor_of, ceil_of}
-use Rattle.fix_interval.specs.Values.{ratio_of, add_of, sub_of, neg_of, max_of, sum_of_ends, end_of, greater_low, greater_high, root_of, root_of_high, is_below_zero}
-use Rattle.fix_interval.proofs.Ratios.{ratio_of-small, ratio_of-one, nat_lt-yes, nat_lt-no}
+use Rattle.fix_interval.specs.Values.{ratio_of, add_of, neg_of, sum_of_ends, root_of, root_of_high, is_below_zero}
+use Rattle.fix_interval.proofs.Ratios.{ratio_of-small, nat_lt-yes, nat_lt-no}
 use Rattle.fix_interval.proofs.Rounding.{floor_of-mono, ceil_of-mono}
 use Rattle.fix_interval.proofs.Multiplying.{end_of-small}
 use Rattle.fix_interval.proofs.Dividing.{units-mono, units-not_negative}

@@ -1,19 +1,19 @@
 -- A run goes on line by line, and ends.
-use Rattle.std.proofs.Common.{◌≡◌, ◌≢◌, ℕ, ◌+◌, ◌-◌, ◌<◌, ◌≤◌, Bool, true, false, ◌||◌, cond, List, [], ◌∷◌, ◌++◌, length, take, Option, refl, sym, ap, ◌∙◌, subst, append_assoc, add-one, add-zero, zero-add, append-nil, lit≤, arith}
+use Rattle.std.proofs.Common.{◌≡◌, ◌≢◌, ℕ, ◌+◌, ◌-◌, ◌<◌, ◌≤◌, Bool, true, false, ◌||◌, List, [], ◌∷◌, ◌++◌, length, take, Option, refl, sym, ap, ◌∙◌, subst, append_assoc, add-zero, append-nil, lit≤, arith}
 use Rattle.std.proofs.Math.Bool.{or-false, or_assoc}
 use Rattle.std.proofs.lemmas.List.{length-append}
 use Rattle.std.proofs.Math.Seq.{take-append_seam, take-length}
 use Rattle.std.proofs.lemmas.List.Elements.{All-nil, All-push}
-use Rattle.std.specs.Prelude.{Some, None, Result, Ok, Err, All, IfSome}
+use Rattle.std.specs.Prelude.{Some, None, Result, Ok, Err, All}
 use Rattle.std.specs.Io.KnownBytes.{Consumes, Appends, IsAtEnd, prepend_known}
-use Rattle.std.proofs.KnownBytes.{Appends-trans, Appends-nil, Consumes-trans, Consumes-nil, Consumes-whole, prepend_known-nil}
+use Rattle.std.proofs.KnownBytes.{Appends-trans, Appends-nil, Consumes-trans, Consumes-whole, prepend_known-nil}
 use Rattle.map_io.specs.declared.reader.Stop.{Stop}
 use Rattle.map_io.specs.declared.reader.Stop.TheVariants.{Going, AtEnd, AfterFault, AtLimit}
 use Rattle.map_io.specs.declared.reader.Next.{Next}
 use Rattle.map_io.specs.declared.reader.Next.TheVariants as next
 use Rattle.map_io.specs.Lines.{IsPlain, lines, whole_lines, ended, all_but_last}
 use Rattle.map_io.specs.LineLaws as laws
-use Rattle.map_io.specs.Reading.{Reading, fresh, ahead, Passes, PassesLine, NothingAhead, HandsOut, PassesOver, Ends, BreaksOff, ReachesLimit, NextGives, answer_of, bytes_read, input_limit}
+use Rattle.map_io.specs.Reading.{Reading, fresh, ahead, PassesLine, NothingAhead, Ends, BreaksOff, ReachesLimit, NextGives, answer_of, bytes_read, input_limit}
 use Rattle.noise_map.specs.declared.step.Stopped.{Stopped}
 use Rattle.noise_map.specs.declared.step.Stopped.TheVariants as stops
 use Rattle.noise_map.specs.declared.status.Status.{Status}
@@ -21,7 +21,7 @@ use Rattle.noise_map.specs.declared.status.Status.TheVariants as status
 use Rattle.noise_map.specs.Sheet.{Sheet, empty_sheet}
 use Rattle.noise_map.specs.Run.{Done, quiet, line_done, lines_done, followed}
 use Rattle.noise_map.specs.Taking.{TakesFront, Does}
-use Rattle.noise_map.specs.Outcome.{run_of, CoversAll, CoversRead, CoversLimit, CoversFront, TakesPartOf, Outcome}
+use Rattle.noise_map.specs.Outcome.{run_of, CoversAll, CoversFront, TakesPartOf, Outcome}
 use Rattle.noise_map.specs.Progress.{status_at_end, status_of, ending_of, IsTextOf, HandedOut, Progress}
 
 abbrev done_with : Sheet → List ℕ → Bool → Done

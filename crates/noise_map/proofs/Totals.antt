@@ -1,6 +1,6 @@
 -- Sums over the bands and the sources.
-use Rattle.std.proofs.Common.{◌≡◌, ℕ, ◌+◌, ◌*◌, ◌<◌, ◌≤◌, ◌^◌, ℤ, pos, negsuc, ◌+ℤ◌, ◌≤ℤ◌, unsigned_abs, Bool, true, false, List, [], ◌∷◌, ◌++◌, length, get_or, take, map, flat_map, Option, refl, sym, ap, ◌∙◌, subst, suc, add-zero, add-one, append-nil, arith, lit<}
-use Rattle.std.specs.Prelude.{Some, None, fold, All, IsSomeAnd, if◌then◌else◌, option_map}
+use Rattle.std.proofs.Common.{◌≡◌, ℕ, ◌+◌, ◌*◌, ◌<◌, ◌≤◌, ℤ, pos, negsuc, ◌+ℤ◌, unsigned_abs, Bool, true, false, List, [], ◌∷◌, ◌++◌, length, get_or, take, map, flat_map, Option, refl, sym, ap, ◌∙◌, subst, add-zero, append-nil, arith, lit<}
+use Rattle.std.specs.Prelude.{Some, None, fold, if◌then◌else◌, option_map}
 use Rattle.std.proofs.lemmas.Int.{ints}
 use Rattle.std.proofs.lemmas.List.{length-append}
 use Rattle.std.proofs.lemmas.List.Sums.{fold-append}
@@ -11,7 +11,7 @@ use Rattle.fix_interval.specs.Interval.{Interval}
 use Rattle.fix_interval.specs.Bounds.{IsBetween}
 use Rattle.fix_interval.specs.Tree.{Tree, Known, enc}
 use Rattle.fix_interval.specs.Units.{unit}
-use Rattle.fix_interval.specs.Values.{ratio_of, add_of, end_of, is_small, sum_of_ends}
+use Rattle.fix_interval.specs.Values.{ratio_of, add_of, is_small, sum_of_ends}
 use Rattle.fix_interval.proofs.Ratios.{ratio_of-one}
 use Rattle.energy_sum.specs.Sums.{units_of}
 use Rattle.noise_map.specs.declared.parts.Receiver.{Receiver}
@@ -19,11 +19,11 @@ use Rattle.noise_map.specs.declared.path.Heard.{Heard}
 use Rattle.noise_map.specs.declared.band.Band.{Band}
 use Rattle.noise_map.specs.declared.band.Band.TheVariants.{Hz63, Hz125, Hz250, Hz500, Hz1000, Hz2000, Hz4000, Hz8000}
 use Rattle.noise_map.specs.declared.sums.Sums.{Sums}
-use Rattle.noise_map.specs.Bands.{all_bands, place_of}
+use Rattle.noise_map.specs.Bands.{all_bands}
 use Rattle.noise_map.specs.Parts.{Source}
 use Rattle.noise_map.specs.Tallies.{Tally, IsTally, energy_limit, sum_of, and_also, tally_of}
 use Rattle.noise_map.specs.Energies.{energies_at, heard, band_energy, long_energy, energies_in, long_energies}
-use Rattle.noise_map.specs.Sums.{sums_of, and_each, and_heard, band_sum, HasRoom}
+use Rattle.noise_map.specs.Sums.{sums_of, and_each, and_heard, band_sum}
 
 -- ---- one energy more
 

@@ -1,11 +1,11 @@
 -- What a run promises for each of its statuses.
-use Rattle.std.specs.Prelude.{◌≡◌, ℕ, ◌+◌, ◌≤◌, Bool, true, false, List, [], ◌∷◌, ◌++◌, length, take, Option, IfSome}
+use Rattle.std.specs.Prelude.{◌≡◌, ℕ, ◌≤◌, Bool, true, false, List, [], ◌∷◌, ◌++◌, length, take, Option, IfSome}
 use Rattle.std.specs.Io.KnownBytes.{Consumes, Appends, IsAtEnd}
 use Rattle.map_io.specs.Lines.{lines, whole_lines, all_but_last}
 use Rattle.map_io.specs.Reading.{input_limit}
 use Rattle.noise_map.specs.declared.status.Status.{Status}
 use Rattle.noise_map.specs.declared.status.Status.TheVariants.{Done, SomeRefused, Usage, ReadFault, WriteFault, NoMemory, InputLimit}
-use Rattle.noise_map.specs.Sheet.{Sheet, empty_sheet}
+use Rattle.noise_map.specs.Sheet.{empty_sheet}
 use Rattle.noise_map.specs.Run as run
 
 -- what these lines do, from an empty scene on, where the rows of bands are asked for or not

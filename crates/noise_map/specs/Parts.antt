@@ -1,5 +1,5 @@
 -- The parts of a scene, as contracts see them.
-use Rattle.std.specs.Prelude.{◌≡◌, ℕ, ◌+◌, ◌≤◌, ℤ, pos, neg_ℤ, ◌≤ℤ◌, List, length, Bool, true, Option, Some, None, ◌&&◌, int_le, IsTrue}
+use Rattle.std.specs.Prelude.{◌≡◌, ℕ, ℤ, pos, neg_ℤ, ◌≤ℤ◌, List, length, Bool, true, Option, Some, None, ◌&&◌, int_le, IsTrue}
 use Rattle.std.specs.List.{list_all}
 use Rattle.noise_map.specs.declared.parts.Kind.{Kind}
 

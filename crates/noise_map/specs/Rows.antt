@@ -1,5 +1,5 @@
 -- The rows that go out (RFC 4180): seven fields each, and a line feed.
-use Rattle.std.specs.Prelude.{◌≡◌, ℕ, ◌+◌, ◌*◌, ◌/◌, ◌%◌, ◌<◌, ◌^◌, List, [], ◌∷◌, ◌++◌, length, decimal, codes}
+use Rattle.std.specs.Prelude.{ℕ, ◌/◌, ◌%◌, List, [], ◌∷◌, ◌++◌, decimal, codes}
 use Rattle.csv.specs.Writing.{row_text, default_writer}
 use Rattle.noise_map.specs.declared.rows.Fault.{Fault}
 use Rattle.noise_map.specs.declared.rows.Fault.TheVariants.{LongLine, NotBuilt}

@@ -1,5 +1,5 @@
 -- The sums that a receiver has from the sources of a scene.
-use Rattle.std.specs.Prelude.{◌≡◌, ℕ, ◌+◌, ◌*◌, ◌<◌, ◌≤◌, List, [], ◌∷◌, length, map, flat_map, Option, All, slice_index_or}
+use Rattle.std.specs.Prelude.{◌+◌, ◌*◌, ◌<◌, ◌≤◌, List, [], ◌∷◌, length, map, flat_map, Option, All, slice_index_or}
 use Rattle.noise_map.specs.declared.parts.Receiver.{Receiver}
 use Rattle.noise_map.specs.declared.path.Heard.{Heard}
 use Rattle.noise_map.specs.declared.sums.Sums.{Sums}
