@@ -1,5 +1,5 @@
 -- Fronts of texts that a sink has taken.
-use Rattle.std.proofs.Common.{◌≡◌, ℕ, ◌+◌, ◌<◌, List, [], ◌∷◌, ◌++◌, length, take, drop, get_or, Option, flat_map, refl, sym, ap, ◌∙◌, append_assoc, add-one, drop-cons, suc, subst}
+use Rattle.std.proofs.Common.{◌≡◌, ℕ, ◌+◌, ◌<◌, List, ◌++◌, length, take, drop, get_or, Option, flat_map, sym, ap, ◌∙◌, append_assoc, add-one, drop-cons, suc, subst}
 use Rattle.std.specs.Io.KnownBytes.{Appends}
 use Rattle.std.proofs.KnownBytes.{Appends-trans}
 use Rattle.std.proofs.lemmas.List.{take-append-drop}
@@ -44,3 +44,11 @@ takes_after (Err stopped) before mid after whole piece text wrote took is = reco
   parts = is ∙ ap (λ p. whole ++ p) took.parts ∙ sym (append_assoc whole took.front took.rest);
   taken = Appends-trans before mid after whole took.front wrote took.taken;
 }
+
+-- the same of the item that a list has at that place
+pub pieces_of : {X : Type 0} (f : X → List ℕ) (xs : List X) (i : ℕ) (d : X) → i < length xs → flat_map f xs ≡ flat_map f (take i xs) ++ (f (get_or xs i d) ++ flat_map f (drop (i + 1) xs))
+pieces_of f xs i d below =
+    ap (flat_map f) (sym (take-append-drop i xs)) ∙ flat_map-append f (take i xs) (drop i xs)
+    ∙ ap (λ ys. flat_map f (take i xs) ++ flat_map f ys) (drop-cons xs i d below)
+    ∙ ap (λ ys. flat_map f (take i xs) ++ ys) (flat_map-cons f (get_or xs i d) (drop (suc i) xs))
+    ∙ ap (λ j. flat_map f (take i xs) ++ (f (get_or xs i d) ++ flat_map f (drop j xs))) (sym (add-one i))

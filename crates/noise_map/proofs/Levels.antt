@@ -1,57 +1,66 @@
 -- The ends of a level are bounded.
-use Rattle.std.proofs.Common.{◌≡◌, ℕ, ◌+◌, ◌*◌, ◌<◌, ◌≤◌, ◌^◌, ℤ, pos, negsuc, neg_ℤ, ◌+ℤ◌, ◌*ℤ◌, ◌≤ℤ◌, ◌<ℤ◌, unsigned_abs, Option, refl, sym, ap, ◌∙◌, subst, arith, lit<}
-use Rattle.std.specs.Prelude.{Some, None, IsSomeAnd, IfSome, IsTrue, List, length, get_or, Bool, true, false}
+use Rattle.std.proofs.Common.{◌≡◌, ℕ, ◌+◌, ◌*◌, ◌<◌, ◌≤◌, ◌^◌, ℤ, pos, negsuc, neg_ℤ, ◌+ℤ◌, ◌*ℤ◌, ◌≤ℤ◌, ◌<ℤ◌, unsigned_abs, Option, refl, sym, ◌∙◌, arith, lit<}
+use Rattle.std.specs.Prelude.{◌⊎◌, Some, None, IsSomeAnd, IfSome, IsTrue, List, length, get_or, Bool, true, false}
+use Rattle.std.proofs.Common.{inl, inr}
+use Rattle.std.proofs.lemmas.Bool.{cases_lt}
+use Rattle.std.proofs.lemmas.Nat.{mul-le}
+use Rattle.fix_interval.specs.Round.{floor_root}
+use Rattle.fix_interval.specs.Units.{unit-is}
+use Rattle.fix_interval.proofs.Rooting.{floor_root-below, ceil_root-le}
 use Rattle.std.specs.List.{list_all}
 use Rattle.std.proofs.lemmas.List.Folds.{list_all_at}
 use Rattle.std.proofs.lemmas.Bool.{false≢true}
-use Rattle.noise_map.specs.Parts.{is_power}
+use Rattle.noise_map.specs.Parts.{is_power, IsPower, IsDirectivity}
 use Rattle.std.specs.Option.{option_map}
-use Rattle.std.proofs.Math.IntN.{zero-*ℤ}
-use Rattle.std.specs.Int.{int_max}
-use Rattle.std.proofs.lemmas.Int.{ints, clamps}
+use Rattle.std.proofs.lemmas.Int.{ints}
 use Rattle.fix_interval.specs.Units.{unit}
 use Rattle.fix_interval.specs.Interval.{Interval}
 use Rattle.fix_interval.specs.Bounds.{IsBetween, AreBetween}
 use Rattle.fix_interval.specs.Round.{floor_of, ceil_of}
-use Rattle.fix_interval.specs.Values.{ratio_of, add_of, sub_of, neg_of, max_of, sum_of_ends, end_of, greater_low, greater_high, root_of, root_of_high, is_below_zero}
-use Rattle.fix_interval.proofs.Ratios.{ratio_of-small, ratio_of-one, nat_lt-yes, nat_lt-no}
+use Rattle.fix_interval.specs.Values.{ratio_of, add_of, neg_of, sum_of_ends, root_of, root_of_high, is_below_zero}
+use Rattle.fix_interval.proofs.Ratios.{ratio_of-small, nat_lt-yes, nat_lt-no}
 use Rattle.fix_interval.proofs.Rounding.{floor_of-mono, ceil_of-mono}
 use Rattle.fix_interval.proofs.Multiplying.{end_of-small}
 use Rattle.fix_interval.proofs.Dividing.{units-mono, units-not_negative}
-use Rattle.noise_map.specs.Level.{IsLevel, IsLevelEnd, IsSound}
+use Rattle.noise_map.specs.Level.{IsLevel, IsLevelEnd}
 
--- hundredths of a decibel within 200 dB
-floor-least : floor_of (neg_ℤ (pos 20000) *ℤ pos unit) 100 ≡ neg_ℤ (pos (200 * 2 ^ 32))
-unfolding unit
-floor-least = refl
+-- ---- constants
 
-floor-most : floor_of (pos 20000 *ℤ pos unit) 100 ≡ pos (200 * 2 ^ 32)
-unfolding unit
-floor-most = refl
+abs-sound : (z : ℤ) → neg_ℤ (pos 20000) ≤ℤ z → z ≤ℤ pos 20000 → unsigned_abs z < 2 ^ 94
+abs-sound (pos n) low high = omega (arith, ints, high)
+abs-sound (negsuc n) low high = omega (arith, ints, low)
 
-ceil-least : ceil_of (neg_ℤ (pos 20000) *ℤ pos unit) 100 ≡ neg_ℤ (pos (200 * 2 ^ 32))
-unfolding unit
-ceil-least = refl
-
-ceil-most : ceil_of (pos 20000 *ℤ pos unit) 100 ≡ pos (200 * 2 ^ 32)
-unfolding unit
-ceil-most = refl
-
-abs-sound : (z : ℤ) → IsSound z → unsigned_abs z < 2 ^ 94
-abs-sound (pos n) s = omega (arith, ints, s.high)
-abs-sound (negsuc n) s = omega (arith, ints, s.low)
-
-pub sound-within : (z : ℤ) → IsSound z → AreBetween (neg_ℤ (pos (200 * 2 ^ 32))) (pos (200 * 2 ^ 32)) (ratio_of z 100)
-sound-within z s = rw (ratio_of-small z 100 (abs-sound z s)) (record {
+-- a fraction lies between the ends of the bounds of its numerator
+ratio-between : (l h z lo hi : ℤ) (q : ℕ) → 0 < q → neg_ℤ (pos 20000) ≤ℤ z → z ≤ℤ pos 20000 → l ≤ℤ z → z ≤ℤ h
+    → floor_of (l *ℤ pos unit) q ≡ lo → ceil_of (l *ℤ pos unit) q ≡ lo → floor_of (h *ℤ pos unit) q ≡ hi → ceil_of (h *ℤ pos unit) q ≡ hi
+    → AreBetween lo hi (ratio_of z q)
+ratio-between l h z lo hi q positive least most low high floor-low ceil-low floor-high ceil-high = rw (ratio_of-small z q (abs-sound z least most)) (record {
   lo = (
-    rw floor-least at (floor_of-mono (neg_ℤ (pos 20000) *ℤ pos unit) (z *ℤ pos unit) 100 (lit< tt) (units-mono (neg_ℤ (pos 20000)) z s.low)),
-    rw floor-most at (floor_of-mono (z *ℤ pos unit) (pos 20000 *ℤ pos unit) 100 (lit< tt) (units-mono z (pos 20000) s.high)),
+    rw floor-low at (floor_of-mono (l *ℤ pos unit) (z *ℤ pos unit) q positive (units-mono l z low)),
+    rw floor-high at (floor_of-mono (z *ℤ pos unit) (h *ℤ pos unit) q positive (units-mono z h high)),
   );
   hi = (
-    rw ceil-least at (ceil_of-mono (neg_ℤ (pos 20000) *ℤ pos unit) (z *ℤ pos unit) 100 (lit< tt) (units-mono (neg_ℤ (pos 20000)) z s.low)),
-    rw ceil-most at (ceil_of-mono (z *ℤ pos unit) (pos 20000 *ℤ pos unit) 100 (lit< tt) (units-mono z (pos 20000) s.high)),
+    rw ceil-low at (ceil_of-mono (l *ℤ pos unit) (z *ℤ pos unit) q positive (units-mono l z low)),
+    rw ceil-high at (ceil_of-mono (z *ℤ pos unit) (h *ℤ pos unit) q positive (units-mono z h high)),
   );
 })
+
+power-within : (z : ℤ) → IsPower z → AreBetween (neg_ℤ (pos (20 * 2 ^ 32))) (pos (160 * 2 ^ 32)) (ratio_of z 100)
+unfolding unit
+power-within z p =
+    ratio-between (neg_ℤ (pos 2000)) (pos 16000) z (neg_ℤ (pos (20 * 2 ^ 32))) (pos (160 * 2 ^ 32)) 100 (lit< tt) (omega (arith, ints, p.low)) (omega (arith, ints, p.high)) p.low p.high refl refl refl refl
+
+directivity-within : (z : ℤ) → IsDirectivity z → AreBetween (neg_ℤ (pos (30 * 2 ^ 32))) (pos (20 * 2 ^ 32)) (ratio_of z 100)
+unfolding unit
+directivity-within z p =
+    ratio-between (neg_ℤ (pos 3000)) (pos 2000) z (neg_ℤ (pos (30 * 2 ^ 32))) (pos (20 * 2 ^ 32)) 100 (lit< tt) (omega (arith, ints, p.low)) (omega (arith, ints, p.high)) p.low p.high refl refl refl refl
+
+pub weight-within : (z : ℤ) → neg_ℤ (pos 300) ≤ℤ z → z ≤ℤ pos 20 → AreBetween (neg_ℤ (pos (30 * 2 ^ 32))) (pos (2 * 2 ^ 32)) (ratio_of z 10)
+unfolding unit
+weight-within z low high =
+    ratio-between (neg_ℤ (pos 300)) (pos 20) z (neg_ℤ (pos (30 * 2 ^ 32))) (pos (2 * 2 ^ 32)) 10 (lit< tt) (omega (arith, ints, low)) (omega (arith, ints, high)) low high refl refl refl refl
+
+-- ---- sums and differences
 
 abs-small : (z : ℤ) → neg_ℤ (pos (2 ^ 62)) ≤ℤ z → z ≤ℤ pos (2 ^ 62) → unsigned_abs z < 2 ^ 126
 abs-small (pos n) low high = omega (arith, ints, high)
@@ -79,29 +88,43 @@ pub neg-between : (l h : ℤ) (a : Interval) → AreBetween l h a → AreBetween
 unfolding neg_of
 neg-between l h a p = record { lo = neg-end l h a.hi p.hi; hi = neg-end l h a.lo p.lo }
 
--- what counts as 0 dB at least is a level
-low-level : (z : ℤ) (end : Option ℤ) → z ≡ pos 0 → IsBetween (neg_ℤ (pos (1000 * 2 ^ 32))) (pos (389 * 2 ^ 32)) end → IsLevelEnd (greater_low (Some z) end)
-low-level z None is p = absurd p
-low-level z (Some x) is p = (omega (arith, ints, clamps, is, p.0, p.1), omega (arith, ints, clamps, is, p.0, p.1))
+pub sound-within : (p d : ℤ) → IsPower p → IsDirectivity d → AreBetween (neg_ℤ (pos (50 * 2 ^ 32))) (pos (180 * 2 ^ 32)) (add_of (ratio_of p 100) (ratio_of d 100))
+sound-within p d hp hd =
+    add-between (neg_ℤ (pos (20 * 2 ^ 32))) (pos (160 * 2 ^ 32)) (neg_ℤ (pos (30 * 2 ^ 32))) (pos (20 * 2 ^ 32)) (neg_ℤ (pos (50 * 2 ^ 32))) (pos (180 * 2 ^ 32)) (ratio_of p 100) (ratio_of d 100)
+    (power-within p hp) (directivity-within d hd) (omega (arith, ints)) (omega (arith, ints)) (omega (arith, ints)) (omega (arith, ints))
 
-high-level : (z : ℤ) (end : Option ℤ) → z ≡ pos 0 → IsBetween (neg_ℤ (pos (1000 * 2 ^ 32))) (pos (389 * 2 ^ 32)) end → IsLevelEnd (greater_high (Some z) end)
-high-level z None is p = absurd p
-high-level z (Some x) is p = (omega (arith, ints, clamps, is, p.0, p.1), omega (arith, ints, clamps, is, p.0, p.1))
+pub level-within : (sound divergence absorption : Interval) → AreBetween (neg_ℤ (pos (50 * 2 ^ 32))) (pos (180 * 2 ^ 32)) sound → AreBetween (pos (11 * 2 ^ 32)) (pos (600 * 2 ^ 32)) divergence → AreBetween (pos 0) (pos (2 ^ 60)) absorption
+    → AreBetween (neg_ℤ (pos (650 * 2 ^ 32 + 2 ^ 60))) (pos (169 * 2 ^ 32)) (add_of (add_of sound (neg_of divergence)) (neg_of absorption))
+level-within sound divergence absorption hs hd ha =
+    let behind = add-between (neg_ℤ (pos (50 * 2 ^ 32))) (pos (180 * 2 ^ 32)) (neg_ℤ (pos (600 * 2 ^ 32))) (neg_ℤ (pos (11 * 2 ^ 32))) (neg_ℤ (pos (650 * 2 ^ 32))) (pos (169 * 2 ^ 32)) sound (neg_of divergence)
+    hs (neg-between (pos (11 * 2 ^ 32)) (pos (600 * 2 ^ 32)) divergence hd) (omega (arith, ints)) (omega (arith, ints)) (omega (arith, ints)) (omega (arith, ints)) in
+    add-between (neg_ℤ (pos (650 * 2 ^ 32))) (pos (169 * 2 ^ 32)) (neg_ℤ (pos (2 ^ 60))) (neg_ℤ (pos 0)) (neg_ℤ (pos (650 * 2 ^ 32 + 2 ^ 60))) (pos (169 * 2 ^ 32)) (add_of sound (neg_of divergence)) (neg_of absorption)
+    behind (neg-between (pos 0) (pos (2 ^ 60)) absorption ha) (omega (arith, ints)) (omega (arith, ints)) (omega (arith, ints)) (omega (arith, ints))
 
-zero-is : (pos 0 *ℤ pos unit) ≡ pos 0
-zero-is = zero-*ℤ (pos unit)
+widened : (al ah bl bh : ℤ) (x : Option ℤ) → IsBetween al ah x → bl ≤ℤ al → ah ≤ℤ bh → IsBetween bl bh x
+widened al ah bl bh None p low high = absurd p
+widened al ah bl bh (Some x) p low high = (omega (arith, ints, p.0, low), omega (arith, ints, p.1, high))
 
-pub from-zero : (i : Interval) → AreBetween (neg_ℤ (pos (1000 * 2 ^ 32))) (pos (389 * 2 ^ 32)) i → IsLevel (max_of (ratio_of (pos 0) 1) i)
-unfolding max_of
-from-zero i p = rw (ratio_of-one (pos 0) (lit< tt)) (record { low = low-level (pos 0 *ℤ pos unit) i.lo zero-is p.lo; high = high-level (pos 0 *ℤ pos unit) i.hi zero-is p.hi })
+-- a level, with the A-weight or without, has an energy
+pub plain-level : (level : Interval) → AreBetween (neg_ℤ (pos (650 * 2 ^ 32 + 2 ^ 60))) (pos (169 * 2 ^ 32)) level → AreBetween (neg_ℤ (pos (2 ^ 61))) (pos (199 * 2 ^ 32)) level
+plain-level level p = record {
+  lo = widened (neg_ℤ (pos (650 * 2 ^ 32 + 2 ^ 60))) (pos (169 * 2 ^ 32)) (neg_ℤ (pos (2 ^ 61))) (pos (199 * 2 ^ 32)) level.lo p.lo (omega (arith, ints)) (omega (arith, ints));
+  hi = widened (neg_ℤ (pos (650 * 2 ^ 32 + 2 ^ 60))) (pos (169 * 2 ^ 32)) (neg_ℤ (pos (2 ^ 61))) (pos (199 * 2 ^ 32)) level.hi p.hi (omega (arith, ints)) (omega (arith, ints));
+}
 
-pub level-within : (p d : ℤ) (a : Interval) → IsSound p → IsSound d → AreBetween (pos (11 * 2 ^ 32)) (pos (600 * 2 ^ 32)) a → IsLevel (max_of (ratio_of (pos 0) 1) (add_of (add_of (ratio_of p 100) (ratio_of d 100)) (neg_of a)))
-level-within p d a hp hd ha =
-    let sound = add-between (neg_ℤ (pos (200 * 2 ^ 32))) (pos (200 * 2 ^ 32)) (neg_ℤ (pos (200 * 2 ^ 32))) (pos (200 * 2 ^ 32)) (neg_ℤ (pos (400 * 2 ^ 32))) (pos (400 * 2 ^ 32)) (ratio_of p 100) (ratio_of d 100)
-    (sound-within p hp) (sound-within d hd) (omega (arith, ints)) (omega (arith, ints)) (omega (arith, ints)) (omega (arith, ints)) in
-    let behind = add-between (neg_ℤ (pos (400 * 2 ^ 32))) (pos (400 * 2 ^ 32)) (neg_ℤ (pos (600 * 2 ^ 32))) (neg_ℤ (pos (11 * 2 ^ 32))) (neg_ℤ (pos (1000 * 2 ^ 32))) (pos (389 * 2 ^ 32)) (add_of (ratio_of p 100) (ratio_of d 100)) (neg_of a)
-    sound (neg-between (pos (11 * 2 ^ 32)) (pos (600 * 2 ^ 32)) a ha) (omega (arith, ints)) (omega (arith, ints)) (omega (arith, ints)) (omega (arith, ints)) in
-    from-zero _ behind
+pub weighted-level : (level weight : Interval) → AreBetween (neg_ℤ (pos (650 * 2 ^ 32 + 2 ^ 60))) (pos (169 * 2 ^ 32)) level → AreBetween (neg_ℤ (pos (30 * 2 ^ 32))) (pos (2 * 2 ^ 32)) weight → AreBetween (neg_ℤ (pos (2 ^ 61))) (pos (199 * 2 ^ 32)) (add_of level weight)
+weighted-level level weight p q =
+    add-between (neg_ℤ (pos (650 * 2 ^ 32 + 2 ^ 60))) (pos (169 * 2 ^ 32)) (neg_ℤ (pos (30 * 2 ^ 32))) (pos (2 * 2 ^ 32)) (neg_ℤ (pos (2 ^ 61))) (pos (199 * 2 ^ 32)) level weight
+    p q (omega (arith, ints)) (omega (arith, ints)) (omega (arith, ints)) (omega (arith, ints))
+
+-- ---- the level of a sum
+
+level-end : (end : Option ℤ) → IsBetween (pos 0) (pos (290 * 2 ^ 32)) end → IsLevelEnd end
+level-end None p = absurd p
+level-end (Some z) p = (p.0, omega (arith, ints, p.1))
+
+pub is-level : (i : Interval) → AreBetween (pos 0) (pos (290 * 2 ^ 32)) i → IsLevel i
+is-level i p = record { low = level-end i.lo p.lo; high = level-end i.hi p.hi }
 
 -- ---- what every source keeps of its powers
 
@@ -109,30 +132,36 @@ passes : {X : Type 0} (p : X → Bool) (xs : List X) (i : ℕ) (d : X) (told : B
 passes p xs i d true is below all = refl
 passes p xs i d false is below all = absurd (false≢true (sym (list_all_at p xs i d below is) ∙ all))
 
-sound-power : (power : Option ℤ) → is_power power ≡ true → IfSome power IsSound
-sound-power None is = tt
-sound-power (Some z) is = record { low = grind (arith, ints); high = grind (arith, ints) }
+power-known : (power : Option ℤ) → is_power power ≡ true → IfSome power IsPower
+power-known None is = tt
+power-known (Some z) is = record { low = grind (arith, ints); high = grind (arith, ints) }
 
-pub power-sound : (powers : List (Option ℤ)) → length powers ≡ 8 → IsTrue (list_all is_power powers) → IfSome (get_or powers 4 None) IsSound
-power-sound powers eight all = sound-power (get_or powers 4 None) (passes is_power powers 4 None (is_power (get_or powers 4 None)) refl (omega arith) all)
-
-pub silent : (i : Interval) → i ≡ ratio_of (pos 0) 1 → IsLevel i
-silent i is = rw (is, ratio_of-one (pos 0) (lit< tt), zero-is) (record { low = (omega (arith, ints), omega (arith, ints)); high = (omega (arith, ints), omega (arith, ints)) })
+pub power-in-range : (powers : List (Option ℤ)) (i : ℕ) → i < 8 → length powers ≡ 8 → IsTrue (list_all is_power powers) → IfSome (get_or powers i None) IsPower
+power-in-range powers i below eight all = power-known (get_or powers i None) (passes is_power powers i None (is_power (get_or powers i None)) refl (omega (arith, below, eight)) all)
 
 -- ---- distances
 
-square-limit : ceil_of (pos (2 ^ 66) *ℤ pos unit) 1000000 <ℤ pos (2 ^ 95)
+square-limit : ceil_of (pos (2 ^ 66) *ℤ pos unit) 1000000 <ℤ pos (2 ^ 79)
 unfolding unit
 square-limit = omega (arith, ints)
 
 square-zero : ceil_of (pos 0) 1000000 ≡ pos 0
 square-zero = refl
 
-root-high : (z : ℤ) → pos 0 ≤ℤ z → z <ℤ pos (2 ^ 95) → (is_below_zero (Some z) ≡ false) × IsSomeAnd (root_of_high (Some z)) (λ _. Unit {0})
-root-high (pos n) low high = (nat_lt-no n 0 (omega arith), rw (nat_lt-yes n (2 ^ 95) (omega (arith, ints, high))) tt)
+square-below : (r : ℕ) (n : ℕ) → r * r ≤ n → n < 2 ^ 112 → r < 2 ^ 56
+square-below r n h small = below_by (cases_lt r (2 ^ 56)) where
+  below_by : (r < 2 ^ 56) ⊎ (2 ^ 56 ≤ r) → r < 2 ^ 56
+  below_by (inl is) = is
+  below_by (inr is) = absurd (omega (arith, h, small, mul-le (2 ^ 56) (2 ^ 56) r r is is))
+
+root-high : (z : ℤ) → pos 0 ≤ℤ z → z <ℤ pos (2 ^ 79) → (is_below_zero (Some z) ≡ false) × IsSomeAnd (root_of_high (Some z)) (λ r. r ≤ℤ pos (2 ^ 60))
+root-high (pos n) low high =
+    let small : n < 2 ^ 79 = omega (arith, ints, high) in
+    let below = square-below (floor_root (n * unit)) (n * unit) (floor_root-below (n * unit)) (rw unit-is (omega (arith, small))) in
+    (nat_lt-no n 0 (omega arith), rw (nat_lt-yes n (2 ^ 95) (omega (arith, small))) (omega (arith, ints, ceil_root-le (n * unit), below)))
 root-high (negsuc n) low high = absurd (omega (arith, ints))
 
-pub distance-bounded : (n : ℕ) → n < 2 ^ 66 → IsSomeAnd (root_of (ratio_of (pos n) 1000000)).hi (λ _. Unit {0})
+pub distance-bounded : (n : ℕ) → n < 2 ^ 66 → IsSomeAnd (root_of (ratio_of (pos n) 1000000)).hi (λ r. r ≤ℤ pos (2 ^ 60))
 unfolding root_of
 distance-bounded n small =
     let z = ceil_of (pos n *ℤ pos unit) 1000000 in

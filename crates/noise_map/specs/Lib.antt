@@ -2,6 +2,10 @@ pub mod Parts
 pub mod Reading
 pub mod Sheet
 pub mod Rows
+pub mod Bands
+pub mod Tallies
+pub mod Energies
+pub mod Sums
 pub mod Level
 pub mod Run
 pub mod Outcome

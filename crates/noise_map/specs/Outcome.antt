@@ -1,16 +1,16 @@
 -- What a run promises for each of its statuses.
-use Rattle.std.specs.Prelude.{◌≡◌, ℕ, ◌+◌, ◌≤◌, Bool, true, false, List, [], ◌∷◌, ◌++◌, length, take, Option, IfSome}
+use Rattle.std.specs.Prelude.{◌≡◌, ℕ, ◌≤◌, Bool, true, false, List, [], ◌∷◌, ◌++◌, length, take, Option, IfSome}
 use Rattle.std.specs.Io.KnownBytes.{Consumes, Appends, IsAtEnd}
 use Rattle.map_io.specs.Lines.{lines, whole_lines, all_but_last}
 use Rattle.map_io.specs.Reading.{input_limit}
 use Rattle.noise_map.specs.declared.status.Status.{Status}
 use Rattle.noise_map.specs.declared.status.Status.TheVariants.{Done, SomeRefused, Usage, ReadFault, WriteFault, NoMemory, InputLimit}
-use Rattle.noise_map.specs.Sheet.{Sheet, empty_sheet}
+use Rattle.noise_map.specs.Sheet.{empty_sheet}
 use Rattle.noise_map.specs.Run as run
 
--- what these lines do, from an empty scene on
-abbrev pub run_of : List (List ℕ) → run.Done
-run_of done = run.lines_done 1 empty_sheet done
+-- what these lines do, from an empty scene on, where the rows of bands are asked for or not
+abbrev pub run_of : Bool → List (List ℕ) → run.Done
+run_of bands done = run.lines_done bands 1 empty_sheet done
 
 -- the input was read to its end, and these are all its lines
 pub record CoversAll (before after : Option (List ℕ)) (done : List (List ℕ)) : Type 0 where
@@ -47,23 +47,23 @@ Covers NoMemory before after done = CoversFront before done
 Covers InputLimit before after done = CoversLimit before after done
 
 -- The sink has taken a part of the text of these lines, which holds the whole text of all but the last.
-pub record TakesPartOf (before after : Option (List ℕ)) (done : List (List ℕ)) : Type 0 where
+pub record TakesPartOf (bands : Bool) (before after : Option (List ℕ)) (done : List (List ℕ)) : Type 0 where
   pub part : List ℕ
   pub rest : List ℕ
-  pub front : (run_of done).text ≡ part ++ rest
+  pub front : (run_of bands done).text ≡ part ++ rest
   pub last : List ℕ
-  pub others : part ≡ (run_of (all_but_last done)).text ++ last
+  pub others : part ≡ (run_of bands (all_but_last done)).text ++ last
   pub taken : Appends before after part
 
 -- what the sink has taken
-abbrev pub Writes : Status → Option (List ℕ) → Option (List ℕ) → List (List ℕ) → Type 0
-Writes Done before after done = Appends before after (run_of done).text
-Writes SomeRefused before after done = Appends before after (run_of done).text
-Writes Usage before after done = ⊥
-Writes ReadFault before after done = Appends before after (run_of done).text
-Writes WriteFault before after done = TakesPartOf before after done
-Writes NoMemory before after done = TakesPartOf before after done
-Writes InputLimit before after done = Appends before after (run_of done).text
+abbrev pub Writes : Bool → Status → Option (List ℕ) → Option (List ℕ) → List (List ℕ) → Type 0
+Writes bands Done before after done = Appends before after (run_of bands done).text
+Writes bands SomeRefused before after done = Appends before after (run_of bands done).text
+Writes bands Usage before after done = ⊥
+Writes bands ReadFault before after done = Appends before after (run_of bands done).text
+Writes bands WriteFault before after done = TakesPartOf bands before after done
+Writes bands NoMemory before after done = TakesPartOf bands before after done
+Writes bands InputLimit before after done = Appends before after (run_of bands done).text
 
 -- whether a line was refused, where the status tells it
 abbrev pub TellsRefused : Status → Bool → Type 0
@@ -76,9 +76,9 @@ TellsRefused NoMemory refused = Unit {0}
 TellsRefused InputLimit refused = Unit {0}
 
 -- A run over the words of a command line: it did some lines of the input, and wrote their rows.
-pub record Outcome (status : Status) (count : ℕ) (left_before left_after taken_before taken_after : Option (List ℕ)) : Type 0 where
+pub record Outcome (bands : Bool) (status : Status) (count : ℕ) (left_before left_after taken_before taken_after : Option (List ℕ)) : Type 0 where
   pub done : List (List ℕ)
   pub counted : length done ≡ count
   pub covers : Covers status left_before left_after done
-  pub refused : TellsRefused status (run_of done).refused
-  pub writes : Writes status taken_before taken_after done
+  pub refused : TellsRefused status (run_of bands done).refused
+  pub writes : Writes bands status taken_before taken_after done

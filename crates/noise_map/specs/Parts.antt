@@ -1,5 +1,5 @@
 -- The parts of a scene, as contracts see them.
-use Rattle.std.specs.Prelude.{◌≡◌, ℕ, ◌+◌, ◌≤◌, ℤ, pos, neg_ℤ, ◌≤ℤ◌, List, length, Bool, true, Option, Some, None, ◌&&◌, int_le, IsTrue}
+use Rattle.std.specs.Prelude.{◌≡◌, ℕ, ℤ, pos, neg_ℤ, ◌≤ℤ◌, List, length, Bool, true, Option, Some, None, ◌&&◌, int_le, IsTrue}
 use Rattle.std.specs.List.{list_all}
 use Rattle.noise_map.specs.declared.parts.Kind.{Kind}
 
@@ -25,3 +25,12 @@ pub record IsSource (powers : List (Option ℤ)) (directivity : ℤ) : Type 0 wh
   pub powers_in_range : IsTrue (list_all is_power powers)
   pub directivity_low : neg_ℤ (pos 3000) ≤ℤ directivity
   pub directivity_high : directivity ≤ℤ pos 2000
+
+-- a sound power level and a directivity correction in range, in 0.01 dB
+pub record IsPower (z : ℤ) : Type 0 where
+  pub low : neg_ℤ (pos 2000) ≤ℤ z
+  pub high : z ≤ℤ pos 16000
+
+pub record IsDirectivity (z : ℤ) : Type 0 where
+  pub low : neg_ℤ (pos 3000) ≤ℤ z
+  pub high : z ≤ℤ pos 2000

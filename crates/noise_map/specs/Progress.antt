@@ -1,5 +1,5 @@
 -- How far a run has come.
-use Rattle.std.specs.Prelude.{◌≡◌, ℕ, ◌<◌, ◌≤◌, Bool, true, false, List, length, Option, Some, None, if◌then◌else◌, All, IfSome}
+use Rattle.std.specs.Prelude.{◌≡◌, ℕ, ◌<◌, ◌≤◌, Bool, List, length, Option, Some, None, if◌then◌else◌, All, IfSome}
 use Rattle.std.specs.Io.KnownBytes.{Consumes, Appends}
 use Rattle.map_io.specs.declared.reader.Stop.{Stop}
 use Rattle.map_io.specs.declared.reader.Stop.TheVariants.{Going, AtEnd, AfterFault, AtLimit}
@@ -34,14 +34,14 @@ HandedOut AfterFault reader before now done = ⊥
 HandedOut AtLimit reader before now done = ⊥
 
 -- These lines were done, and the run may go on.
-pub record Progress (reader : Reading) (sheet : Sheet) (count : ℕ) (refused : Bool) (left_before left_now taken_before taken_now : Option (List ℕ)) : Type 0 where
+pub record Progress (bands : Bool) (reader : Reading) (sheet : Sheet) (count : ℕ) (refused : Bool) (left_before left_now taken_before taken_now : Option (List ℕ)) : Type 0 where
   pub done : List (List ℕ)
   pub plain : All IsPlain done
   pub counted : length done ≡ count
   pub few : count ≤ reader.passed
-  pub sheet_is : (run_of done).sheet ≡ sheet
-  pub refused_is : (run_of done).refused ≡ refused
-  pub written : Appends taken_before taken_now (run_of done).text
+  pub sheet_is : (run_of bands done).sheet ≡ sheet
+  pub refused_is : (run_of bands done).refused ≡ refused
+  pub written : Appends taken_before taken_now (run_of bands done).text
   pub handed_out : HandedOut reader.stop reader left_before left_now done
 
 -- the status of a run whose line could not be done to its end

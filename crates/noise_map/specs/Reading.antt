@@ -1,9 +1,9 @@
 -- What one line of the input says (RFC 8259): a source, a receiver or a settle, where it is one.
-use Rattle.std.specs.Prelude.{◌≡◌, ℕ, ◌+◌, ◌<◌, ◌≤◌, ℤ, pos, neg_ℤ, List, [], ◌∷◌, length, Bool, true, false, not, Option, Some, None, Result, Ok, Err, ◌&&◌, ◌||◌, ◌==◌, nat_lt, nat_le, int_le, is_none, is_some, if◌then◌else◌, option_and_then, option_map, codes, bytes_eq, unsigned_abs}
+use Rattle.std.specs.Prelude.{◌≡◌, ℕ, ℤ, pos, neg_ℤ, List, [], ◌∷◌, length, Bool, Option, Some, None, Result, Ok, Err, ◌&&◌, ◌||◌, ◌==◌, nat_lt, nat_le, int_le, is_some, if◌then◌else◌, option_and_then, option_map, codes, bytes_eq, unsigned_abs}
 use Rattle.std.specs.List.{list_all}
 use Rattle.std.specs.Char.{is_ascii_alphanumeric}
 use Rattle.std.specs.Str.{is_utf8}
-use Rattle.serde_json.specs.Data.{Data, null, boolean, number, string, array, object, Items, no_items, item}
+use Rattle.serde_json.specs.Data.{Data, null, boolean, number, string, array, object}
 use Rattle.serde_json.specs.View.{view}
 use Rattle.serde_json.specs.declared.value.Value.{Value}
 use Rattle.serde_json.specs.Read.{read}

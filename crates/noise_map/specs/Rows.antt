@@ -1,5 +1,5 @@
 -- The rows that go out (RFC 4180): seven fields each, and a line feed.
-use Rattle.std.specs.Prelude.{◌≡◌, ℕ, ◌+◌, ◌*◌, ◌/◌, ◌%◌, ◌<◌, ◌^◌, List, [], ◌∷◌, ◌++◌, length, decimal, codes}
+use Rattle.std.specs.Prelude.{ℕ, ◌/◌, ◌%◌, List, [], ◌∷◌, ◌++◌, decimal, codes}
 use Rattle.csv.specs.Writing.{row_text, default_writer}
 use Rattle.noise_map.specs.declared.rows.Fault.{Fault}
 use Rattle.noise_map.specs.declared.rows.Fault.TheVariants.{LongLine, NotBuilt}
@@ -22,6 +22,13 @@ current_row_fields version name low high = codes "row" ∷ version ∷ name ∷ 
 -- a receiver that is current, with its level between two bounds in 0.01 dB
 unfoldable pub current_row : ℕ → List ℕ → ℕ → ℕ → List ℕ
 current_row version name low high = row (current_row_fields (decimal version) name (hundredths_text low) (hundredths_text high))
+
+abbrev pub band_row_fields : List ℕ → List ℕ → List ℕ → List ℕ → List ℕ → List (List ℕ)
+band_row_fields version name frequency low high = codes "band" ∷ version ∷ name ∷ frequency ∷ [] ∷ low ∷ high ∷ []
+
+-- a band of a receiver, by its frequency in Hz, with its level between two bounds in 0.01 dB
+unfoldable pub band_level_row : ℕ → List ℕ → ℕ → ℕ → ℕ → List ℕ
+band_level_row version name frequency low high = row (band_row_fields (decimal version) name (decimal frequency) (hundredths_text low) (hundredths_text high))
 
 abbrev pub fault_name : Fault → List ℕ
 fault_name LongLine = codes "LongLine"

@@ -1,5 +1,5 @@
 -- The scene that a run holds.
-use Rattle.std.specs.Prelude.{◌≡◌, ℕ, ◌+◌, ◌≤◌, List, [], ◌∷◌, ◌++◌, length, Bool, false, not, ◌||◌, ◌&&◌, bytes_eq, nat_lt}
+use Rattle.std.specs.Prelude.{◌≡◌, ℕ, ◌+◌, ◌≤◌, List, [], ◌∷◌, ◌++◌, length, Bool, ◌||◌, bytes_eq}
 use Rattle.std.specs.List.{list_any}
 use Rattle.noise_map.specs.declared.parts.Receiver.{Receiver}
 use Rattle.noise_map.specs.Parts.{Source}

@@ -1,16 +1,21 @@
 //! `noisemap`: a noise mapper by ISO 9613-2, from JSON lines to CSV rows.
 #![tactic(auto)]
 
+mod band;
 mod command;
+mod energies;
 mod level;
 mod parts;
+mod path;
 mod rows;
 mod run;
 mod scene;
 mod status;
 mod step;
+mod sums;
 #[cfg(test)]
 mod tests;
+mod words;
 
 use map_io::{OpenGate, StdSink, StdSource};
 use std::env::{self, Env};

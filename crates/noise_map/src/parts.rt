@@ -1,6 +1,7 @@
 //! The parts that a line can put: point sources and receivers.
 ghost use Rattle.std.specs.Prelude.{◌≡◌, IfOk};
 
+use crate::band::Band;
 use std::alloc::{AllocError, Global};
 use std::marker::Model;
 
@@ -69,16 +70,17 @@ impl Model for PointSource {
 }
 
 impl PointSource {
-    ghost use Rattle.noise_map.specs.Level.{at_1000, IsSound};
+    ghost use Rattle.noise_map.specs.Energies.{power_in};
+    ghost use Rattle.noise_map.specs.Parts.{IsPower, IsDirectivity};
     ghost use Rattle.std.specs.Prelude.{◌≡◌, IfSome};
 
-    /// The sound power level at 1000 Hz in 0.01 dB, if the source has power there.
-    pub fn power_at_1000(&self) -> Option<i32>
-        ensures value { result ≡ at_1000 self.now.power }
-        ensures power { IfSome result IsSound }
-        ensures directivity { IsSound self.now.directivity }
+    /// The sound power level in a band in 0.01 dB, if the source has power there.
+    pub fn power_in(&self, band: Band) -> Option<i32>
+        ensures value { result ≡ power_in band self.now }
+        ensures power { IfSome result IsPower }
+        ensures directivity { IsDirectivity self.now.directivity }
     {
-        self.power[4]
+        self.power[band.place()]
     }
 }
 

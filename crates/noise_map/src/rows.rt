@@ -1,18 +1,15 @@
 //! The rows that go out, as CSV.
-ghost use Rattle.std.specs.Prelude.{◌≡◌, ◌<◌, ◌^◌, IfOk, map, string_bytes};
-ghost use Rattle.noise_map.specs.Level.{IsLevel, IsLevelEnd, units_of, low_hundredths, high_hundredths};
-ghost use Rattle.noise_map.specs.Run.{receiver_row};
-ghost use Rattle.noise_map.specs.Rows.{row, settle_row, current_row, current_row_fields, refused_row, hundredths_text, fault_name};
+ghost use Rattle.std.specs.Prelude.{◌≡◌, IfOk, map, string_bytes};
+ghost use Rattle.noise_map.specs.Sums.{sums_of};
+ghost use Rattle.noise_map.specs.Run.{receiver_row, band_row};
+ghost use Rattle.noise_map.specs.Rows.{band_level_row, band_row_fields, row, settle_row, current_row, current_row_fields, refused_row, hundredths_text, fault_name};
 
-use crate::level::level_at;
+use crate::band::Band;
 use crate::parts::Receiver;
 use crate::scene::Scene;
+use crate::sums::Sums;
 use csv::WriterBuilder;
-use fix_interval::Iv;
 use std::alloc::{AllocError, Global};
-
-/// How many units make 1 dB.
-const UNIT: u64 = 1 << 32;
 
 /// Why a line is refused.
 #[derive(Clone, Copy, Debug, PartialEq, Eq)]
@@ -91,6 +88,45 @@ fn current_fields(
     row_text(alloc, &[b"row", version, name, b"current", b"", low, high])
 }
 
+/// The row of a band of a receiver, by its frequency in Hz, with its level between two bounds in 0.01 dB.
+#[tactic(auto, unfolding(crate::specs::Rows::band_level_row))]
+pub fn band_level_text(
+    alloc: Global,
+    version: u64,
+    name: &[u8],
+    frequency: u32,
+    low: u64,
+    high: u64,
+) -> Result<Vec<u8>, AllocError>
+    ensures { IfOk result (λ text. text.items ≡ band_level_row version name.now frequency low high) }
+{
+    let version = format!(in alloc; "{version}")?;
+    let frequency = format!(in alloc; "{frequency}")?;
+    let low = decibels(alloc, low)?;
+    let high = decibels(alloc, high)?;
+    band_fields(
+        alloc,
+        version.as_bytes(),
+        name,
+        frequency.as_bytes(),
+        low.as_bytes(),
+        high.as_bytes(),
+    )
+}
+
+fn band_fields(
+    alloc: Global,
+    version: &[u8],
+    name: &[u8],
+    frequency: &[u8],
+    low: &[u8],
+    high: &[u8],
+) -> Result<Vec<u8>, AllocError>
+    ensures { IfOk result (λ text. text.items ≡ row (band_row_fields version.now name.now frequency.now low.now high.now)) }
+{
+    row_text(alloc, &[b"band", version, name, frequency, b"", low, high])
+}
+
 /// The row of a refused line, by its number from 1.
 #[tactic(auto, unfolding(crate::specs::Rows::refused_row))]
 pub fn refused_text(
@@ -138,46 +174,46 @@ fn row_text(alloc: Global, fields: &[&[u8]]) -> Result<Vec<u8>, AllocError>
     writer.into_inner().map_err(|_| AllocError)
 }
 
-/// The row of a receiver of the scene, with its level there.
+/// The row of a receiver of the scene, with its A-weighted level there.
 #[tactic(auto, unfolding(crate::specs::Run::receiver_row))]
-pub fn receiver_text(
+pub fn total_text(
     alloc: Global,
     scene: &Scene,
     receiver: &Receiver,
+    sums: &Sums,
 ) -> Result<Vec<u8>, AllocError>
+    requires { sums.now ≡ sums_of scene.now.sources receiver.now }
     ensures { IfOk result (λ text. text.items ≡ receiver_row scene.now receiver.now) }
 {
-    let level = level_at(scene, receiver);
+    let level = sums.total_level();
     current_text(
         alloc,
         scene.version(),
         receiver.name.as_bytes(),
-        low_in_hundredths(level),
-        high_in_hundredths(level),
+        level.low_in_hundredths(),
+        level.high_in_hundredths(),
     )
 }
 
-/// The units of 2^-32 dB of an end of a level.
-fn units(end: Option<i128>) -> u64
-    requires { IsLevelEnd end }
-    ensures value { result ≡ units_of end }
-    ensures bound { result < 2 ^ 41 }
+/// The row of a band of a receiver of the scene, with its level there.
+#[tactic(auto, unfolding(crate::specs::Run::band_row))]
+pub fn band_text(
+    alloc: Global,
+    scene: &Scene,
+    receiver: &Receiver,
+    sums: &Sums,
+    band: Band,
+) -> Result<Vec<u8>, AllocError>
+    requires { sums.now ≡ sums_of scene.now.sources receiver.now }
+    ensures { IfOk result (λ text. text.items ≡ band_row scene.now receiver.now band) }
 {
-    end.unwrap() as u64
-}
-
-/// The low end of a level in 0.01 dB, rounded down.
-fn low_in_hundredths(level: Iv) -> u64
-    requires { IsLevel level }
-    ensures { result ≡ low_hundredths level }
-{
-    100 * units(level.low()) / UNIT
-}
-
-/// The high end of a level in 0.01 dB, rounded up.
-fn high_in_hundredths(level: Iv) -> u64
-    requires { IsLevel level }
-    ensures { result ≡ high_hundredths level }
-{
-    (100 * units(level.high())).div_ceil(UNIT)
+    let level = sums.band_level(band);
+    band_level_text(
+        alloc,
+        scene.version(),
+        receiver.name.as_bytes(),
+        band.frequency(),
+        level.low_in_hundredths(),
+        level.high_in_hundredths(),
+    )
 }

@@ -1,8 +1,8 @@
 //! The top call: all that the program does.
-ghost use Rattle.std.specs.Prelude.{◌≡◌, ◌↔◌, ◌≤◌, ℕ, Bool, true, false, List, length, map, string_bytes};
+ghost use Rattle.std.specs.Prelude.{◌≡◌, ◌↔◌, ◌≤◌, ℕ, List, length, map, string_bytes, None, IfSome};
 ghost use Rattle.map_io.specs.Causes.{Rose};
 ghost use Rattle.map_io.specs.Reading.{HandsOut, PassesOver};
-ghost use Rattle.noise_map.specs.Words.{is_command_line};
+ghost use Rattle.noise_map.specs.Words as command_words;
 ghost use Rattle.noise_map.specs.Run.{line_done, refusal};
 ghost use Rattle.noise_map.specs.Taking.{Does, Stops};
 ghost use Rattle.noise_map.specs.Progress.{ending_of, status_of, IsLineOf, IsTextOf};
@@ -12,6 +12,7 @@ use crate::rows::Fault;
 use crate::scene::Scene;
 use crate::status::{Report, Status};
 use crate::step::{Stopped, do_line, refuse_long};
+use crate::words::bands_asked;
 use map_io::{Gate, LineReader, Next, Sink, Source};
 use std::alloc::Global;
 
@@ -40,6 +41,7 @@ fn status_when(stopped: Stopped) -> Status
 /// Does the line that the reader has handed out, or refuses the long one that it has passed over.
 fn do_next<K: Sink>(
     alloc: Global,
+    bands: bool,
     scene: &mut Scene,
     number: u64,
     next: Next,
@@ -47,19 +49,19 @@ fn do_next<K: Sink>(
     out: &mut K,
 ) -> Result<bool, Stopped>
     requires { IsLineOf next line.now }
-    ensures done { (text : List ℕ) → IsTextOf next line.now text → Does result (line_done number scene.old text) scene.old scene.new (K.taken out.old) (K.taken out.new) }
+    ensures done { (text : List ℕ) → IsTextOf next line.now text → Does result (line_done bands number scene.old text) scene.old scene.new (K.taken out.old) (K.taken out.new) }
     ensures cause { Stops result (K.faults out.old) (K.faults out.new) }
 {
     if matches!(next, Next::LongLine) {
-        refuse_long(alloc, scene, number, out)
+        refuse_long(alloc, bands, scene, number, out)
     } else {
-        do_line(alloc, scene, number, line, out)
+        do_line(alloc, bands, scene, number, line, out)
     }
 }
 
 /// Reads line after line and does each, until the input ends or something stops it.
-fn run_lines<S: Source, K: Sink>(alloc: Global, input: &mut S, out: &mut K) -> Report
-    ensures outcome { Outcome result.status result.lines (S.left input.old) (S.left input.new) (K.taken out.old) (K.taken out.new) }
+fn run_lines<S: Source, K: Sink>(alloc: Global, bands: bool, input: &mut S, out: &mut K) -> Report
+    ensures outcome { Outcome bands result.status result.lines (S.left input.old) (S.left input.new) (K.taken out.old) (K.taken out.new) }
     ensures read_fault { result.status ≡ Status.ReadFault → Rose (S.faults input.old) (S.faults input.new) }
     ensures write_fault { result.status ≡ Status.WriteFault → Rose (K.faults out.old) (K.faults out.new) }
 {
@@ -78,7 +80,7 @@ fn run_lines<S: Source, K: Sink>(alloc: Global, input: &mut S, out: &mut K) -> R
             return Report { status, lines };
         }
         lines += 1;
-        match do_next(alloc, &mut scene, lines, next, reader.line(), out) {
+        match do_next(alloc, bands, &mut scene, lines, next, reader.line(), out) {
             Ok(was_refused) => refused |= was_refused,
             Err(stopped) => {
                 return Report {
@@ -100,22 +102,22 @@ pub fn run<S: Source + Send, K: Sink + Send, G: Gate + Sync>(
     _gate: &G,
 ) -> Report
     // The words are no command line: nothing is read or written.
-    ensures usage { (result.status ≡ Status.Usage) ↔ (is_command_line (map string_bytes words.now) ≡ false) }
+    ensures usage { (result.status ≡ Status.Usage) ↔ (command_words.bands_asked (map string_bytes words.now) ≡ None) }
     ensures untouched { result.status ≡ Status.Usage → (input.new ≡ input.old) × (out.new ≡ out.old) × (result.lines ≡ 0) }
 
-    // Else the lines done, by the status, and what the sink has taken of their text.
-    ensures outcome { is_command_line (map string_bytes words.now) ≡ true →
-        Outcome result.status result.lines (S.left input.old) (S.left input.new) (K.taken out.old) (K.taken out.new) }
+    // Else the lines done, by the status, and what the sink has taken of their text, with the rows of bands where they are
+    // asked for.
+    ensures outcome { IfSome (command_words.bands_asked (map string_bytes words.now)) (λ bands. Outcome bands result.status result.lines (S.left input.old) (S.left input.new) (K.taken out.old) (K.taken out.new)) }
 
     // A fault is answered only where the source or the sink has failed in this call.
     ensures read_fault { result.status ≡ Status.ReadFault → Rose (S.faults input.old) (S.faults input.new) }
     ensures write_fault { result.status ≡ Status.WriteFault → Rose (K.faults out.old) (K.faults out.new) }
 {
-    if words.len() != 1 {
+    let Some(bands) = bands_asked(words) else {
         return Report {
             status: Status::Usage,
             lines: 0,
         };
-    }
-    run_lines(alloc, input, out)
+    };
+    run_lines(alloc, bands, input, out)
 }

@@ -1,5 +1,5 @@
 //! The scene that a run holds.
-ghost use Rattle.std.specs.Prelude.{◌≡◌, ◌<◌, length, OnOk, OnErr, bytes_eq};
+ghost use Rattle.std.specs.Prelude.{◌≡◌, ◌<◌, ◌≤◌, length, OnOk, OnErr, bytes_eq};
 ghost use Rattle.std.specs.List.{list_any};
 ghost use Rattle.noise_map.specs.Sheet.{empty_sheet, is_held, with_source, with_receiver};
 
@@ -39,7 +39,8 @@ impl Scene {
 
     /// The sources, in the order in which they were put.
     pub fn sources(&self) -> &[PointSource]
-        ensures { result.now ≡ self.now.sources }
+        ensures value { result.now ≡ self.now.sources }
+        ensures few { length result.now ≤ 128 }
     {
         self.sources.as_slice()
     }

@@ -6,7 +6,7 @@ use Rattle.noise_map.proofs.run.run_lines.Given as goal
 
 abbrev pub invariant-loop-status : goal.invariant-loop-status
 invariant-loop-status g l = record {
-  progress : Progress l.reader l.scene l.lines l.refused (g.S.Source.left l.initial.input) (g.S.Source.left l.input) (g.K.Sink.taken l.initial.out) (g.K.Sink.taken l.out);
+  progress : Progress l.bands l.reader l.scene l.lines l.refused (g.S.Source.left l.initial.input) (g.S.Source.left l.input) (g.K.Sink.taken l.initial.out) (g.K.Sink.taken l.out);
   within : bytes_read l.reader ≤ input_limit;
   reads : g.S.Source.faults l.initial.input ≤ g.S.Source.faults l.input;
   writes : g.K.Sink.faults l.initial.out ≤ g.K.Sink.faults l.out;
