@@ -1,1 +1,4 @@
 pub mod NameLemmas
+pub mod SideLemmas
+pub mod RootLemmas
+pub mod AnswerLemmas

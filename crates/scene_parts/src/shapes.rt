@@ -1,6 +1,8 @@
 //! Corners and sides of outlines.
 ghost use Rattle.std.specs.Prelude.{◌≡◌, ◌≤◌, ◌<◌, ◌*◌, length, IfOk, OnOk, IsTrue, Some, false, slice_get};
 ghost use Rattle.std.specs.List.{list_all};
+ghost use Rattle.std.specs.Prelude.{◌-ℤ◌, ◌*ℤ◌, ◌≤ℤ◌, pos, unsigned_abs};
+ghost use Rattle.scene_geom.specs.Plan.{InPlan};
 ghost use Rattle.scene_geom.specs.declared.plan.Pt.{Pt};
 ghost use Rattle.scene_parts.specs.Answers.{Gives};
 ghost use Rattle.scene_parts.specs.Ranges.{are_same, is_same, is_flat, is_mirror, least_corners};
@@ -23,7 +25,8 @@ pub fn corners(alloc: Global, points: &[RawPt]) -> Result<Outline, PartFault>
 {
     let mut corners = Vec::new(alloc);
     for point in points {
-        corners.push(placed(Field::Points, Field::Points, point.x, point.y)?)?;
+        let corner = corner(*point)?;
+        corners.push(corner)?;
     }
     if points.len() > 1024 {
         return Err(PartFault::OutOfRange {
@@ -32,6 +35,12 @@ pub fn corners(alloc: Global, points: &[RawPt]) -> Result<Outline, PartFault>
         });
     }
     Ok(Outline::from_vec(corners))
+}
+
+fn corner(point: RawPt) -> Result<Pt, PartFault>
+    ensures { result ≡ corner_of point }
+{
+    placed(Field::Points, Field::Points, point.x, point.y)
 }
 
 /// A density of at least 10 kg/m², or `TooLight` (ISO 9613-2, 7.4).
@@ -81,8 +90,14 @@ fn same(corners: &[Pt]) -> bool
 {
     match corners.split_first() {
         None => true,
-        Some((first, rest)) => rest.iter().all(|corner| in_one_place(*first, *corner)),
+        Some((first, rest)) => all_at(*first, rest),
     }
+}
+
+fn all_at(first: Pt, corners: &[Pt]) -> bool
+    ensures { result ≡ list_all (is_same first) corners.now }
+{
+    corners.iter().all(|corner| in_one_place(first, *corner))
 }
 
 fn in_one_place(p: Pt, q: Pt) -> bool
@@ -102,7 +117,7 @@ pub fn short(shape: Shape, corners: &[Pt]) -> Result<(), PartFault>
         if !is_short_side(side) {
             return Err(PartFault::SideTooLong {
                 side: i,
-                mm: length(side),
+                mm: length_of(side),
             });
         }
     }
@@ -119,13 +134,32 @@ fn squared(side: Side) -> u64
     ensures value { result ≡ squared_length side }
     ensures within { result ≤ 128000000000000 }
 {
-    let x = i64::from(side.to.x) - i64::from(side.from.x);
-    let y = i64::from(side.to.y) - i64::from(side.from.y);
-    (x * x + y * y) as u64
+    let across = square(way(side.from.x, side.to.x));
+    let up = square(way(side.from.y, side.to.y));
+    (across + up) as u64
+}
+
+/// How far it is from one coordinate to another, in mm.
+fn way(from: i32, to: i32) -> i64
+    requires from_in_plan { InPlan from }
+    requires to_in_plan { InPlan to }
+    ensures value { result ≡ to -ℤ from }
+    ensures within { unsigned_abs result ≤ 8000000 }
+{
+    i64::from(to) - i64::from(from)
+}
+
+fn square(way: i64) -> i64
+    requires { unsigned_abs way ≤ 8000000 }
+    ensures value { result ≡ way *ℤ way }
+    ensures low { pos 0 ≤ℤ result }
+    ensures high { result ≤ℤ pos 64000000000000 }
+{
+    way * way
 }
 
 /// The length of a side in mm, rounded down.
-fn length(side: Side) -> u32
+fn length_of(side: Side) -> u32
     ensures { result ≡ floor_root (squared_length side) }
 {
     squared(side).isqrt() as u32

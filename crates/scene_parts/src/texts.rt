@@ -77,6 +77,7 @@ impl PlainName {
     pub fn into_name(self) -> Name
         ensures value { result ≡ self }
         ensures name { IsName self }
+        ensures any_name { IsAnyName self }
     {
         Name { bytes: self.bytes }
     }
