@@ -2,3 +2,4 @@ pub mod NameLemmas
 pub mod SideLemmas
 pub mod RootLemmas
 pub mod AnswerLemmas
+pub mod BandLemmas

@@ -59,11 +59,21 @@ height_of h = counted fields.H 1 100000 h
 unfoldable pub power_of : Option ℤ → Result (Option ℤ) PartFault
 power_of level = optional (within fields.Lw (neg_ℤ (pos 2000)) (pos 16000)) level
 
+-- a directivity correction in 0.01 dB
+unfoldable pub directivity_of : ℤ → Result ℤ PartFault
+directivity_of dc = within fields.Dc (neg_ℤ (pos 3000)) (pos 2000) dc
+
 -- a number of columns or rows of a grid, the last of them on the plan
 unfoldable pub reaching : Field → ℤ → ℕ → ℤ → Result ℕ PartFault
 reaching field start step count = do
   n ← counted field 1 4096 count
   if int_le (last_place start step n) (pos 4000000) then Ok n else Err (OutOfRange field count)
+
+unfoldable pub counts_of : Pt → ℕ → ℤ → ℤ → Result (ℕ × ℕ) PartFault
+counts_of at step columns rows = do
+  across ← reaching fields.Columns at.x step columns
+  up ← reaching fields.Rows at.y step rows
+  Ok (across, up)
 
 -- OutsideMethod and UnknownKind
 
@@ -114,7 +124,7 @@ source_of name word x y h lw dc = do
   at ← placed fields.X fields.Y x y
   height ← height_of h
   powers ← each power_of lw
-  correction ← within fields.Dc (neg_ℤ (pos 3000)) (pos 2000) dc
+  correction ← directivity_of dc
   kind ← kind_of word
   Ok (record { name = name; kind = kind; at = at; h = height; lw = powers; dc = correction })
 
@@ -159,10 +169,9 @@ unfoldable pub grid_of : List ℕ → ℤ → ℤ → ℤ → ℤ → ℤ → �
 grid_of name x y step columns rows h = do
   at ← placed fields.X fields.Y x y
   apart ← counted fields.Step 1 1000000 step
-  across ← reaching fields.Columns at.x apart columns
-  up ← reaching fields.Rows at.y apart rows
+  counts ← counts_of at apart columns rows
   height ← height_of h
-  Ok (record { name = name; at = at; step = apart; columns = across; rows = up; h = height })
+  Ok (record { name = name; at = at; step = apart; columns = counts.0; rows = counts.1; h = height })
 
 unfoldable pub setting_of : Option ℤ → Option ℤ → Option (List ℕ) → Option ℤ → Result Setting PartFault
 setting_of reach g air c0 = do

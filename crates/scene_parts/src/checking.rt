@@ -7,10 +7,10 @@ ghost use Rattle.scene_parts.specs.Checking.{source_of, barrier_of, building_of,
 use super::checked::Checked;
 use super::faults::PartFault;
 use super::kinds::{Field, Shape};
-use super::limits::{counted, height, optional_count, placed, reaching, within};
+use super::limits::{counted, counts, height, optional_count, placed};
 use super::outlines::{Outline, RawPoints};
 use super::parts::{Obstacle, Part, PointSource, Receiver, Zone};
-use super::powers::powers;
+use super::powers::{directivity, powers};
 use super::raw::RawPart;
 use super::settings::{GridSpec, SetSpec};
 use super::shapes::{corners, heavy, mirrored, outlined, short};
@@ -81,7 +81,7 @@ fn source(
     let at = placed(Field::X, Field::Y, x, y)?;
     let h = height(h)?;
     let lw = powers(lw)?;
-    let dc = within(Field::Dc, -3000, 2000, dc)? as i32;
+    let dc = directivity(dc)?;
     let kind = kind_named(kind)?;
     let name = name.into_name();
     Ok(PointSource {
@@ -190,8 +190,7 @@ fn grid(
 {
     let at = placed(Field::X, Field::Y, x, y)?;
     let step = counted(Field::Step, 1, 1_000_000, step)?;
-    let columns = reaching(Field::Columns, at.x, step, columns)?;
-    let rows = reaching(Field::Rows, at.y, step, rows)?;
+    let (columns, rows) = counts(at, step, columns, rows)?;
     let h = height(h)?;
     let name = name.into_name();
     Ok(GridSpec {

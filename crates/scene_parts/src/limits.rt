@@ -3,7 +3,7 @@ ghost use Rattle.std.specs.Prelude.{◌≡◌, ◌≤◌, ◌<◌, ◌^◌, pos,
 ghost use Rattle.scene_geom.specs.declared.plan.Pt.{Pt};
 ghost use Rattle.scene_parts.specs.Answers.{optional};
 ghost use Rattle.scene_parts.specs.Ranges.{IsHeight, IsCount, last_place};
-ghost use Rattle.scene_parts.specs.Checking.{within as within_of, counted as counted_of, placed as placed_of, reaching as reaching_of, height_of};
+ghost use Rattle.scene_parts.specs.Checking.{within as within_of, counted as counted_of, placed as placed_of, reaching as reaching_of, height_of, counts_of};
 
 use super::faults::PartFault;
 use super::kinds::Field;
@@ -68,16 +68,31 @@ pub fn height(h: i64) -> Result<u32, PartFault>
     counted(Field::H, 1, 100_000, h)
 }
 
+/// The numbers of columns and rows of a grid, the last of each on the plan, or `OutOfRange`.
+#[tactic(auto, unfolding(crate::specs::Checking::counts_of))]
+pub fn counts(at: Pt, step: u32, columns: i64, rows: i64) -> Result<(u32, u32), PartFault>
+    requires { step ≤ 1000000 }
+    ensures value { result ≡ counts_of at step columns rows }
+    ensures columns { IfOk result (λ n. IsCount n.0) }
+    ensures rows { IfOk result (λ n. IsCount n.1) }
+    ensures last_column { IfOk result (λ n. last_place at.x step n.0 ≤ℤ pos 4000000) }
+    ensures last_row { IfOk result (λ n. last_place at.y step n.1 ≤ℤ pos 4000000) }
+{
+    let columns = reaching(Field::Columns, at.x, step, columns)?;
+    let rows = reaching(Field::Rows, at.y, step, rows)?;
+    Ok((columns, rows))
+}
+
 /// The columns or rows of a grid that starts at a coordinate and whose last one lies on the plan, or `OutOfRange`.
 #[tactic(auto, unfolding(crate::specs::Checking::reaching))]
-pub fn reaching(field: Field, start: i32, step: u32, count: i64) -> Result<u32, PartFault>
+fn reaching(field: Field, start: i32, step: u32, count: i64) -> Result<u32, PartFault>
     requires { step ≤ 1000000 }
     ensures value { result ≡ reaching_of field start step count }
     ensures count { IfOk result (λ n. IsCount n) }
     ensures on_plan { IfOk result (λ n. last_place start step n ≤ℤ pos 4000000) }
 {
     let n = counted(field, 1, 4096, count)?;
-    if i64::from(start) + i64::from(step * (n - 1)) <= 4_000_000 {
+    if last_at(start, step, n) <= 4_000_000 {
         Ok(n)
     } else {
         Err(PartFault::OutOfRange {
@@ -85,4 +100,14 @@ pub fn reaching(field: Field, start: i32, step: u32, count: i64) -> Result<u32, 
             value: count,
         })
     }
+}
+
+/// The coordinate of the last of `count` columns or rows, in mm.
+fn last_at(start: i32, step: u32, count: u32) -> i64
+    requires step { step ≤ 1000000 }
+    requires low { 1 ≤ count }
+    requires high { count ≤ 4096 }
+    ensures { result ≡ last_place start step count }
+{
+    i64::from(start) + i64::from(step * (count - 1))
 }

@@ -1,9 +1,9 @@
 //! Sound power levels.
-ghost use Rattle.std.specs.Prelude.{◌≡◌, ◌∷◌, [], IfOk, IsTrue};
+ghost use Rattle.std.specs.Prelude.{◌≡◌, ◌∷◌, [], IfOk, IsTrue, pos, neg_ℤ, ◌≤ℤ◌};
 ghost use Rattle.std.specs.List.{list_all};
 ghost use Rattle.scene_parts.specs.Answers.{each};
 ghost use Rattle.scene_parts.specs.Ranges.{is_power};
-ghost use Rattle.scene_parts.specs.Checking.{power_of};
+ghost use Rattle.scene_parts.specs.Checking.{power_of, directivity_of};
 
 use super::faults::PartFault;
 use super::kinds::Field;
@@ -51,4 +51,14 @@ fn power(level: Option<i64>) -> Result<Option<i32>, PartFault>
         None => Ok(None),
         Some(level) => Ok(Some(within(Field::Lw, -2000, 16000, level)? as i32)),
     }
+}
+
+/// A directivity correction from -30 dB to 20 dB, in 0.01 dB, or `OutOfRange`.
+#[tactic(auto, unfolding(crate::specs::Checking::directivity_of))]
+pub fn directivity(dc: i64) -> Result<i32, PartFault>
+    ensures value { result ≡ directivity_of dc }
+    ensures low { IfOk result (λ dc. neg_ℤ (pos 3000) ≤ℤ dc) }
+    ensures high { IfOk result (λ dc. dc ≤ℤ pos 2000) }
+{
+    Ok(within(Field::Dc, -3000, 2000, dc)? as i32)
 }

@@ -23,8 +23,8 @@ returns-clause-value c =
     let total : to_z w64 (of_z w64 (to_z w64 (of_z w64 c.square-across.result) +ℤ to_z w64 (of_z w64 c.square-up.result))) ≡ c.square-across.result +ℤ c.square-up.result =
     omega (arith, ints, c.square-across.ensures.low, c.square-across.ensures.high, c.square-up.ensures.low, c.square-up.ensures.high) in
     let sum : c.square-across.result +ℤ c.square-up.result
-        ≡ (c.args.side.to.x -ℤ c.args.side.from.x) *ℤ (c.args.side.to.x -ℤ c.args.side.from.x)
-        +ℤ (c.args.side.to.y -ℤ c.args.side.from.y) *ℤ (c.args.side.to.y -ℤ c.args.side.from.y) = rw (far, high) refl in
+    ≡ (c.args.side.to.x -ℤ c.args.side.from.x) *ℤ (c.args.side.to.x -ℤ c.args.side.from.x)
+    +ℤ (c.args.side.to.y -ℤ c.args.side.from.y) *ℤ (c.args.side.to.y -ℤ c.args.side.from.y) = rw (far, high) refl in
     ap unsigned_abs (total ∙ sum)
 
 pub returns-clause-within : goal.returns-clause-within
