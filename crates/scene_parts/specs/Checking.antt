@@ -69,12 +69,6 @@ reaching field start step count = do
   n ← counted field 1 4096 count
   if int_le (last_place start step n) (pos 4000000) then Ok n else Err (OutOfRange field count)
 
-unfoldable pub counts_of : Pt → ℕ → ℤ → ℤ → Result (ℕ × ℕ) PartFault
-counts_of at step columns rows = do
-  across ← reaching fields.Columns at.x step columns
-  up ← reaching fields.Rows at.y step rows
-  Ok (across, up)
-
 -- OutsideMethod and UnknownKind
 
 unfoldable pub kind_of : List ℕ → Result Kind PartFault
@@ -165,13 +159,19 @@ receiver_of name x y h = do
   height ← height_of h
   Ok (record { name = name; at = at; h = height })
 
+-- a grid from its first receiver and the distance to the next on
+unfoldable pub grid_at : List ℕ → Pt → ℕ → ℤ → ℤ → ℤ → Result Grid PartFault
+grid_at name at step columns rows h = do
+  across ← reaching fields.Columns at.x step columns
+  up ← reaching fields.Rows at.y step rows
+  height ← height_of h
+  Ok (record { name = name; at = at; step = step; columns = across; rows = up; h = height })
+
 unfoldable pub grid_of : List ℕ → ℤ → ℤ → ℤ → ℤ → ℤ → ℤ → Result Grid PartFault
 grid_of name x y step columns rows h = do
   at ← placed fields.X fields.Y x y
   apart ← counted fields.Step 1 1000000 step
-  counts ← counts_of at apart columns rows
-  height ← height_of h
-  Ok (record { name = name; at = at; step = apart; columns = counts.0; rows = counts.1; h = height })
+  grid_at name at apart columns rows h
 
 unfoldable pub setting_of : Option ℤ → Option ℤ → Option (List ℕ) → Option ℤ → Result Setting PartFault
 setting_of reach g air c0 = do

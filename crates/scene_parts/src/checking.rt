@@ -2,12 +2,12 @@
 ghost use Rattle.std.specs.Prelude.{◌≡◌, ◌≤◌, length};
 ghost use Rattle.scene_parts.specs.Ranges.{IsHeight};
 ghost use Rattle.scene_parts.specs.Answers.{Gives};
-ghost use Rattle.scene_parts.specs.Checking.{source_of, barrier_of, building_of, obstacle_of, zone_of, receiver_of, grid_of, setting_of, check_of};
+ghost use Rattle.scene_parts.specs.Checking.{source_of, barrier_of, building_of, obstacle_of, zone_of, receiver_of, grid_of, grid_at as grid_at_of, setting_of, check_of};
 
 use super::checked::Checked;
 use super::faults::PartFault;
 use super::kinds::{Field, Shape};
-use super::limits::{counted, counts, height, optional_count, placed};
+use super::limits::{column_count, counted, height, optional_count, placed, row_count};
 use super::outlines::{Outline, RawPoints};
 use super::parts::{Obstacle, Part, PointSource, Receiver, Zone};
 use super::powers::{directivity, powers};
@@ -16,6 +16,7 @@ use super::settings::{GridSpec, SetSpec};
 use super::shapes::{corners, heavy, mirrored, outlined, short};
 use super::texts::{PlainName, Word};
 use super::words::{kind_named, optional_air};
+use scene_geom::Pt;
 use std::alloc::Global;
 
 /// Checks what a line gives: the part, the grid or the setting, or the first fault in the order of
@@ -190,7 +191,24 @@ fn grid(
 {
     let at = placed(Field::X, Field::Y, x, y)?;
     let step = counted(Field::Step, 1, 1_000_000, step)?;
-    let (columns, rows) = counts(at, step, columns, rows)?;
+    grid_at(name, at, step, columns, rows, h)
+}
+
+#[tactic(auto, unfolding(crate::specs::Checking::grid_at))]
+fn grid_at(
+    name: PlainName,
+    at: Pt,
+    step: u32,
+    columns: i64,
+    rows: i64,
+    h: i64,
+) -> Result<GridSpec, PartFault>
+    requires low { 1 ≤ step }
+    requires high { step ≤ 1000000 }
+    ensures { result ≡ grid_at_of name at step columns rows h }
+{
+    let columns = column_count(at, step, columns)?;
+    let rows = row_count(at, step, rows)?;
     let h = height(h)?;
     let name = name.into_name();
     Ok(GridSpec {

@@ -3,7 +3,7 @@ ghost use Rattle.std.specs.Prelude.{◌≡◌, ◌≤◌, ◌<◌, ◌^◌, pos,
 ghost use Rattle.scene_geom.specs.declared.plan.Pt.{Pt};
 ghost use Rattle.scene_parts.specs.Answers.{optional};
 ghost use Rattle.scene_parts.specs.Ranges.{IsHeight, IsCount, last_place};
-ghost use Rattle.scene_parts.specs.Checking.{within as within_of, counted as counted_of, placed as placed_of, reaching as reaching_of, height_of, counts_of};
+ghost use Rattle.scene_parts.specs.Checking.{within as within_of, counted as counted_of, placed as placed_of, reaching as reaching_of, height_of};
 
 use super::faults::PartFault;
 use super::kinds::Field;
@@ -68,19 +68,24 @@ pub fn height(h: i64) -> Result<u32, PartFault>
     counted(Field::H, 1, 100_000, h)
 }
 
-/// The numbers of columns and rows of a grid, the last of each on the plan, or `OutOfRange`.
-#[tactic(auto, unfolding(crate::specs::Checking::counts_of))]
-pub fn counts(at: Pt, step: u32, columns: i64, rows: i64) -> Result<(u32, u32), PartFault>
+/// The number of columns of a grid from its first receiver on, the last on the plan, or `OutOfRange`.
+pub fn column_count(at: Pt, step: u32, count: i64) -> Result<u32, PartFault>
     requires { step ≤ 1000000 }
-    ensures value { result ≡ counts_of at step columns rows }
-    ensures columns { IfOk result (λ n. IsCount n.0) }
-    ensures rows { IfOk result (λ n. IsCount n.1) }
-    ensures last_column { IfOk result (λ n. last_place at.x step n.0 ≤ℤ pos 4000000) }
-    ensures last_row { IfOk result (λ n. last_place at.y step n.1 ≤ℤ pos 4000000) }
+    ensures value { result ≡ reaching_of Field.Columns at.x step count }
+    ensures count { IfOk result (λ n. IsCount n) }
+    ensures on_plan { IfOk result (λ n. last_place at.x step n ≤ℤ pos 4000000) }
 {
-    let columns = reaching(Field::Columns, at.x, step, columns)?;
-    let rows = reaching(Field::Rows, at.y, step, rows)?;
-    Ok((columns, rows))
+    reaching(Field::Columns, at.x, step, count)
+}
+
+/// The number of rows of a grid from its first receiver on, the last on the plan, or `OutOfRange`.
+pub fn row_count(at: Pt, step: u32, count: i64) -> Result<u32, PartFault>
+    requires { step ≤ 1000000 }
+    ensures value { result ≡ reaching_of Field.Rows at.y step count }
+    ensures count { IfOk result (λ n. IsCount n) }
+    ensures on_plan { IfOk result (λ n. last_place at.y step n ≤ℤ pos 4000000) }
+{
+    reaching(Field::Rows, at.y, step, count)
 }
 
 /// The columns or rows of a grid that starts at a coordinate and whose last one lies on the plan, or `OutOfRange`.

@@ -1,0 +1,85 @@
+//! Named things in the order of insertion, found by name without a scan.
+ghost use Rattle.std.specs.Prelude.{◌≡◌, List, [], ℕ, length, IfOk, OnErr};
+ghost use Rattle.std.specs.Option.{option_copied};
+ghost use Rattle.scene_book.specs.Lists.{named, put_in, take_out};
+
+use indexmap::IndexMap;
+use std::alloc::{AllocError, Global};
+use std::marker::Model;
+
+/// What bears a name.
+pub trait Named: Drop {
+    ghost name_of: { Self → List ℕ };
+
+    /// The bytes of the name.
+    fn name(&self) -> &[u8]
+        ensures { result.now ≡ name_of self.now };
+
+    /// The same again.
+    fn copy(&self) -> Result<Self, AllocError>
+        ensures { IfOk result (λ copied. copied ≡ self.now) };
+}
+
+/// Things in the order of insertion, each under its name. Contracts see it as the list of them.
+#[derive(Drop)]
+pub struct Register<T: Named> {
+    things: IndexMap<Vec<u8>, T>,
+}
+
+impl<T: Named> Model for Register<T> {
+    ghost use Rattle.std.specs.Prelude.{List};
+    ghost use Rattle.std.specs.Coded.{coded_list};
+    ghost use Rattle.indexmap.specs.IndexMap.{values};
+    ghost use Rattle.scene_book.specs.Filed.{AreFiled};
+
+    ghost Value = { List T };
+
+    ghost coded = { coded_list T.code };
+
+    ghost view = { λ register. values register.things };
+
+    ghost invariant = { λ register. AreFiled T.name_of register.things.entries };
+}
+
+impl<T: Named> Register<T> {
+    /// A register of nothing.
+    pub fn new(alloc: Global) -> Self
+        ensures { result ≡ [] }
+    {
+        Register {
+            things: IndexMap::new(alloc),
+        }
+    }
+
+    /// The things, in order.
+    pub fn items(&self) -> &[T]
+        ensures { result.now ≡ self.now }
+    {
+        self.things.values().as_slice()
+    }
+
+    /// The thing of a name.
+    pub fn get(&self, name: &[u8]) -> Option<&T>
+        ensures { option_copied result ≡ named T.name_of name.now self.now }
+    {
+        self.things.get(name)
+    }
+
+    /// Puts a thing in the place of the one of its name, else at the end, and gives the one that was there.
+    pub fn put(&mut self, key: Vec<u8>, thing: T) -> Result<Option<T>, AllocError>
+        requires { key.items ≡ T.name_of thing }
+        ensures old { IfOk result (λ old. old ≡ named T.name_of (T.name_of thing) self.old) }
+        ensures new { IfOk result (λ _. self.new ≡ put_in T.name_of thing self.old) }
+        ensures err { OnErr result (self.new ≡ self.old) }
+    {
+        Ok(self.things.insert(key, thing)?)
+    }
+
+    /// Takes out the thing of a name; the others close up.
+    pub fn take(&mut self, name: &[u8]) -> Option<T>
+        ensures value { result ≡ named T.name_of name.now self.old }
+        ensures left { self.new ≡ take_out T.name_of name.now self.old }
+    {
+        self.things.shift_remove(name)
+    }
+}
