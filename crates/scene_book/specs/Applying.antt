@@ -45,8 +45,8 @@ abbrev pub held : Book → List ℕ → Option Part
 held book name =
     first_of_two (option_map parts.Source (named (λ s. s.name) name book.sources))
     (first_of_two (option_map parts.Obstacle (named (λ o. o.name) name book.obstacles))
-     (first_of_two (option_map parts.Zone (named (λ z. z.name) name book.zones))
-      (option_map parts.Receiver (named (λ r. r.name) name book.receivers))))
+    (first_of_two (option_map parts.Zone (named (λ z. z.name) name book.zones))
+    (option_map parts.Receiver (named (λ r. r.name) name book.receivers))))
 
 abbrev pub name_of : Part → List ℕ
 name_of (parts.Source source) = source.name
@@ -127,8 +127,8 @@ unfoldable pub grid_of : Grid → Book → Result (Book × Option Part) EditFaul
 grid_of grid book =
     at_most classes.Receiver 4096 (grid.columns * grid.rows)
     >> (all_own book (receivers_of grid)
-        >> (at_most classes.Receiver 4096 (length (put_all (λ r. r.name) (receivers_of grid) book.receivers))
-            >> Ok (with_receivers book (put_all (λ r. r.name) (receivers_of grid) book.receivers), None)))
+    >> (at_most classes.Receiver 4096 (length (put_all (λ r. r.name) (receivers_of grid) book.receivers))
+    >> Ok (with_receivers book (put_all (λ r. r.name) (receivers_of grid) book.receivers), None)))
 
 abbrev pub set_of : Setting → Book → Result (Book × Option Part) EditFault
 set_of setting book = Ok (record book { globals = globals_with setting book.globals }, None)

@@ -15,6 +15,8 @@ mod powers;
 mod raw;
 mod settings;
 mod shapes;
+#[cfg(test)]
+mod tests;
 mod texts;
 mod words;
 
