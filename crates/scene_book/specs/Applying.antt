@@ -68,6 +68,12 @@ Gives after (Ok old) said = said ≡ Ok (after, old)
 Gives after (Err NoMemory) said = Unit {0}
 Gives after (Err fault) said = said ≡ Err fault
 
+-- the same of a test
+abbrev pub Tests : Result (Unit {0}) EditFault → Result (Unit {0}) EditFault → Type 0
+Tests (Ok done) said = said ≡ Ok tt
+Tests (Err NoMemory) said = Unit {0}
+Tests (Err fault) said = said ≡ Err fault
+
 -- OtherClass: the name is borne by a part of another class
 abbrev pub own_class : List ℕ → Class → Option Class → Result (Unit {0}) EditFault
 own_class name class None = Ok tt
@@ -94,10 +100,17 @@ in_limits (parts.Obstacle obstacle) book = at_most classes.Obstacle 4096 (length
 in_limits (parts.Zone zone) book = at_most classes.Zone 1024 (length book.zones)
 in_limits (parts.Receiver receiver) book = at_most classes.Receiver 4096 (length book.receivers)
 
+-- the part of a part's own list that it replaces
+abbrev pub replaced : Part → Book → Option Part
+replaced (parts.Source source) book = option_map parts.Source (named (λ s. s.name) source.name book.sources)
+replaced (parts.Obstacle obstacle) book = option_map parts.Obstacle (named (λ o. o.name) obstacle.name book.obstacles)
+replaced (parts.Zone zone) book = option_map parts.Zone (named (λ z. z.name) zone.name book.zones)
+replaced (parts.Receiver receiver) book = option_map parts.Receiver (named (λ r. r.name) receiver.name book.receivers)
+
 unfoldable pub put_of : Part → Book → Result (Book × Option Part) EditFault
 put_of part book =
     own_class (name_of part) (class_of part) (holder book (name_of part))
-    >> (in_limits part (with_part part book) >> Ok (with_part part book, held book (name_of part)))
+    >> (in_limits part (with_part part book) >> Ok (with_part part book, replaced part book))
 
 -- a part's list without the part of a name
 abbrev pub without : List ℕ → Part → Book → Book

@@ -1,5 +1,5 @@
 -- Scenes: the parts of each class in the order of insertion, and what holds of the whole scene.
-use Rattle.std.specs.Prelude.{ℕ, List, [], length, sum_by, unwrap_or}
+use Rattle.std.specs.Prelude.{◌≡◌, ℕ, ◌≤◌, List, [], length, sum_by, unwrap_or}
 use Rattle.scene_parts.specs.Seen.{Source, Obstacle, Zone, Receiver, Globals, Setting}
 use Rattle.scene_parts.specs.Sides.{sides_of}
 use Rattle.scene_parts.specs.declared.kinds.Air.TheVariants.{Celsius10Humidity70}
@@ -30,3 +30,16 @@ globals_with setting globals = record {
   air = unwrap_or setting.air globals.air;
   c0 = unwrap_or setting.c0 globals.c0;
 }
+
+-- what every scene keeps: the limits
+pub record IsWithin (book : Book) : Type 0 where
+  pub sources : length book.sources ≤ 128
+  pub obstacles : length book.obstacles ≤ 4096
+  pub sides : side_total book.obstacles ≤ 16384
+  pub zones : length book.zones ≤ 1024
+  pub receivers : length book.receivers ≤ 4096
+
+-- and the count of sides that it keeps
+pub record IsKept (sides : ℕ) (book : Book) : Type 0 where
+  pub count : sides ≡ side_total book.obstacles
+  pub within : IsWithin book

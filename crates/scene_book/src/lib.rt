@@ -4,5 +4,7 @@
 mod edits;
 mod named;
 mod register;
+mod scene;
 
 pub use edits::{Edit, EditFault, Logged};
+pub use scene::Scene;

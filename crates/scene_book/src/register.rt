@@ -1,5 +1,5 @@
 //! Named things in the order of insertion, found by name without a scan.
-ghost use Rattle.std.specs.Prelude.{◌≡◌, List, [], ℕ, length, IfOk, OnErr};
+ghost use Rattle.std.specs.Prelude.{◌≡◌, List, [], ℕ, ◌+◌, length, IfOk, IfNone, OnErr};
 ghost use Rattle.std.specs.Option.{option_copied};
 ghost use Rattle.scene_book.specs.Lists.{named, put_in, take_out};
 
@@ -65,6 +65,23 @@ impl<T: Named> Register<T> {
         self.things.get(name)
     }
 
+    /// How many things there are.
+    pub fn len(&self) -> usize
+        ensures { result ≡ length self.now }
+    {
+        self.things.len()
+    }
+
+    /// How many things there are once a thing is put.
+    pub fn len_with(&self, thing: &T) -> usize
+        ensures { result ≡ length (put_in T.name_of thing.now self.now) }
+    {
+        match self.get(thing.name()) {
+            Some(_) => self.len(),
+            None => self.len() + 1,
+        }
+    }
+
     /// Puts a thing in the place of the one of its name, else at the end, and gives the one that was there.
     pub fn put(&mut self, key: Vec<u8>, thing: T) -> Result<Option<T>, AllocError>
         requires { key.items ≡ T.name_of thing }
@@ -79,7 +96,20 @@ impl<T: Named> Register<T> {
     pub fn take(&mut self, name: &[u8]) -> Option<T>
         ensures value { result ≡ named T.name_of name.now self.old }
         ensures left { self.new ≡ take_out T.name_of name.now self.old }
+        ensures absent { IfNone result (self.new ≡ self.old) }
     {
         self.things.shift_remove(name)
+    }
+
+    /// The same things again.
+    pub fn copy(&self, alloc: Global) -> Result<Self, AllocError>
+        ensures { IfOk result (λ copied. copied ≡ self.now) }
+    {
+        let mut copied = Register::new(alloc);
+        for thing in self.items() {
+            let key = thing.name().to_vec(alloc)?;
+            copied.put(key, thing.copy()?)?;
+        }
+        Ok(copied)
     }
 }
