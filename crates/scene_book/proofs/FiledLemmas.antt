@@ -1,11 +1,12 @@
 -- Things filed under their names: the entries of a map and the list of its values.
 use Rattle.std.proofs.Common.{◌≡◌, ℕ, refl, sym, ◌∙◌, ap, Bool, true, false, cond, List, [], ◌∷◌}
 use Rattle.std.specs.Prelude.{bytes_eq, Option, Vec}
-use Rattle.std.specs.Map.{lookup, values_of, remove_entry}
+use Rattle.std.specs.List.{IsDistinct, AllByRecursion}
+use Rattle.std.specs.Map.{keys_of, lookup, values_of, remove_entry}
 use Rattle.std.specs.declared.alloc.Global.{Global}
 use Rattle.std.proofs.lemmas.Slice.Eq.{bytes_eq-Decides}
 use Rattle.indexmap.specs.IndexMap.{insert_entry}
-use Rattle.scene_book.specs.Lists.{named, put_in, take_out}
+use Rattle.scene_book.specs.Lists.{named, put_in, take_out, NoneNamed, AreApart}
 use Rattle.scene_book.specs.Filed.{AreFiled}
 
 abbrev pub is_key : List ℕ → Vec ℕ Global → Bool
@@ -62,3 +63,14 @@ module _ {T : Type 0} (name_of : T → List ℕ) where
   pub take-filed : (name : List ℕ) (es : List (Vec ℕ Global × T)) → AreFiled name_of es → AreFiled name_of (remove_entry (is_key name) es)
   take-filed name [] h = tt
   take-filed name (e ∷ es) h = left-step (is_key name e.0) e es (remove_entry (is_key name) es) h (take-filed name es h.1)
+
+  none_named : (key : Vec ℕ Global) (x : T) (es : List (Vec ℕ Global × T)) → key.items ≡ name_of x → AllByRecursion (λ k. same_key key k ≡ false) (keys_of es)
+      → AreFiled name_of es → NoneNamed name_of (name_of x) (values_of es)
+  none_named key x [] k d h = tt
+  none_named key x (e ∷ es) k d h = (rw (← k, ← h.0) d.0, none_named key x es k d.1 h.1)
+
+  -- the keys of a map are distinct, so the names are
+  pub apart : (es : List (Vec ℕ Global × T)) → IsDistinct same_key (keys_of es) → AreFiled name_of es → AreApart name_of (values_of es)
+  unfolding IsDistinct
+  apart [] d h = tt
+  apart (e ∷ es) d h = (none_named e.0 e.1 es h.0 d.0 h.1, apart es d.1 h.1)

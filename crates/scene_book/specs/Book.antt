@@ -1,5 +1,6 @@
 -- Scenes: the parts of each class in the order of insertion, and what holds of the whole scene.
-use Rattle.std.specs.Prelude.{◌≡◌, ℕ, ◌≤◌, List, [], length, sum_by, unwrap_or}
+use Rattle.std.specs.Prelude.{◌≡◌, ℕ, ◌≤◌, List, [], length, unwrap_or}
+use Rattle.scene_book.specs.Lists.{total}
 use Rattle.scene_parts.specs.Seen.{Source, Obstacle, Zone, Receiver, Globals, Setting}
 use Rattle.scene_parts.specs.Sides.{sides_of}
 use Rattle.scene_parts.specs.declared.kinds.Air.TheVariants.{Celsius10Humidity70}
@@ -20,7 +21,7 @@ empty_book = record { sources = []; obstacles = []; zones = []; receivers = []; 
 
 -- the sides of barriers and buildings together
 abbrev pub side_total : List Obstacle → ℕ
-side_total obstacles = sum_by (λ obstacle. length (sides_of obstacle)) obstacles
+side_total obstacles = total (λ obstacle. length (sides_of obstacle)) obstacles
 
 -- the globals with the values that a setting gives
 abbrev pub globals_with : Setting → Globals → Globals

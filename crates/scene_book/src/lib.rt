@@ -1,7 +1,10 @@
 //! The scene: its parts in the order of insertion, and the edits that change it.
 #![tactic(auto)]
 
+mod applying;
 mod edits;
+mod grids;
+mod limits;
 mod named;
 mod register;
 mod scene;

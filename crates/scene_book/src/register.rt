@@ -1,7 +1,7 @@
 //! Named things in the order of insertion, found by name without a scan.
-ghost use Rattle.std.specs.Prelude.{◌≡◌, List, [], ℕ, ◌+◌, length, IfOk, IfNone, OnErr};
+ghost use Rattle.std.specs.Prelude.{◌≡◌, List, [], ℕ, ◌+◌, ◌<◌, ◌^◌, length, IfOk, IfNone, OnOk, OnErr};
 ghost use Rattle.std.specs.Option.{option_copied};
-ghost use Rattle.scene_book.specs.Lists.{named, put_in, take_out};
+ghost use Rattle.scene_book.specs.Lists.{named, put_in, take_out, put_all, AreApart};
 
 use indexmap::IndexMap;
 use std::alloc::{AllocError, Global};
@@ -53,9 +53,11 @@ impl<T: Named> Register<T> {
 
     /// The things, in order.
     pub fn items(&self) -> &[T]
-        ensures { result.now ≡ self.now }
+        ensures value { result.now ≡ self.now }
+        ensures apart { AreApart T.name_of self.now }
     {
-        self.things.values().as_slice()
+        let entries = self.things.as_slice();
+        entries.values().as_slice()
     }
 
     /// The thing of a name.
@@ -67,7 +69,8 @@ impl<T: Named> Register<T> {
 
     /// How many things there are.
     pub fn len(&self) -> usize
-        ensures { result ≡ length self.now }
+        ensures value { result ≡ length self.now }
+        ensures fits { result < 2 ^ 63 }
     {
         self.things.len()
     }
@@ -101,15 +104,24 @@ impl<T: Named> Register<T> {
         self.things.shift_remove(name)
     }
 
+    /// Puts a copy of each of these things, one after another. After an error some may be put.
+    pub fn put_all(&mut self, alloc: Global, things: &[T]) -> Result<(), AllocError>
+        ensures { OnOk result (self.new ≡ put_all T.name_of things.now self.old) }
+    {
+        for thing in things {
+            let key = thing.name().to_vec(alloc)?;
+            let copied = thing.copy()?;
+            self.put(key, copied)?;
+        }
+        Ok(())
+    }
+
     /// The same things again.
     pub fn copy(&self, alloc: Global) -> Result<Self, AllocError>
         ensures { IfOk result (λ copied. copied ≡ self.now) }
     {
         let mut copied = Register::new(alloc);
-        for thing in self.items() {
-            let key = thing.name().to_vec(alloc)?;
-            copied.put(key, thing.copy()?)?;
-        }
+        copied.put_all(alloc, self.items())?;
         Ok(copied)
     }
 }

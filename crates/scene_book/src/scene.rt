@@ -1,10 +1,12 @@
 //! The scene.
-ghost use Rattle.std.specs.Prelude.{◌≡◌, ◌≤◌, ℕ, List, length, Ok, IfOk, IfNone, OnErr, option_map};
+ghost use Rattle.std.specs.Prelude.{◌≡◌, ◌≤◌, ℕ, List, length, Ok, IfOk, IfNone, OnOk, OnErr, option_map};
 ghost use Rattle.scene_parts.specs.Seen.{Source as SourceSeen, Obstacle as ObstacleSeen, Zone as ZoneSeen, Receiver as ReceiverSeen};
-ghost use Rattle.scene_book.specs.Lists.{named, put_in, take_out};
+ghost use Rattle.scene_book.specs.Lists.{named, put_in, put_all, take_out};
 ghost use Rattle.scene_book.specs.Book.{Book, IsWithin, empty_book, side_total, globals_with};
-ghost use Rattle.scene_book.specs.Applying.{holder, class_of_shape};
+ghost use Rattle.scene_book.specs.Applying.{holder, class_of_shape, with_receivers, Tests, at_most as at_most_of};
 
+use super::edits::EditFault;
+use super::limits::at_most;
 use super::register::Register;
 use scene_parts::{
     Air, Class, Globals, Obstacle, PointSource, Receiver, SetSpec, Shape, Zone, sides,
@@ -149,11 +151,10 @@ impl Scene {
     pub(crate) fn sides_with(&self, obstacle: &Obstacle) -> u32
         ensures { result ≡ side_total (put_in (λ o. o.name) obstacle.now self.now.obstacles) }
     {
-        let replaced = match self.obstacles.get(obstacle.name.items()) {
-            Some(old) => sides(old),
-            None => 0,
-        };
-        self.sides - replaced + sides(obstacle)
+        match self.obstacles.get(obstacle.name.items()) {
+            Some(old) => self.sides - sides(old) + sides(obstacle),
+            None => self.sides + sides(obstacle),
+        }
     }
 
     /// How many zones there are once one is put.
@@ -237,6 +238,23 @@ impl Scene {
         let old = self.obstacles.put(key, obstacle)?;
         self.sides = total;
         Ok(old)
+    }
+
+    /// Puts copies of these receivers one after another, or `Full`.
+    pub(crate) fn put_receivers(
+        &mut self,
+        alloc: Global,
+        receivers: &[Receiver],
+    ) -> Result<(), EditFault>
+        ensures value { Tests result (at_most_of Class.Receiver 4096 (length (put_all (λ r. r.name) receivers.now self.old.receivers))) }
+        ensures new { OnOk result (self.new ≡ with_receivers self.old (put_all (λ r. r.name) receivers.now self.old.receivers)) }
+        ensures err { OnErr result (self.new ≡ self.old) }
+    {
+        let mut next = self.receivers.copy(alloc)?;
+        next.put_all(alloc, receivers)?;
+        at_most(Class::Receiver, 4096, next.len())?;
+        self.receivers = next;
+        Ok(())
     }
 
     /// Takes out the source of a name.

@@ -1,0 +1,11 @@
+use Rattle.std.proofs.Common.{◌≡◌, arith}
+use Rattle.scene_book.proofs.ListLemmas.{length-take_out}
+use Rattle.scene_book.proofs.scene.Scene.take_receiver.Goals as goal
+
+pub invariant_of-self : goal.invariant_of-self
+invariant_of-self c =
+    rw c.take.ensures.left
+    record {
+      count = c.self.invariant.count;
+      within = record c.self.invariant.within { receivers = omega (arith, c.self.invariant.within.receivers, length-take_out (λ x. x.name) c.args.name.now c.self.inside.receivers) };
+    }
