@@ -8,6 +8,8 @@ mod limits;
 mod named;
 mod register;
 mod scene;
+#[cfg(test)]
+mod tests;
 
 pub use edits::{Edit, EditFault, Logged};
 pub use scene::Scene;

@@ -7,7 +7,7 @@ ghost use Rattle.scene_book.specs.Applying.{holder, class_of_shape, with_receive
 
 use super::edits::EditFault;
 use super::limits::at_most;
-use super::register::Register;
+use super::register::{Named, Register};
 use scene_parts::{
     Air, Class, Globals, Obstacle, PointSource, Receiver, SetSpec, Shape, Zone, sides,
 };
@@ -151,7 +151,7 @@ impl Scene {
     pub(crate) fn sides_with(&self, obstacle: &Obstacle) -> u32
         ensures { result ≡ side_total (put_in (λ o. o.name) obstacle.now self.now.obstacles) }
     {
-        match self.obstacles.get(obstacle.name.items()) {
+        match self.obstacles.get(Named::name(obstacle)) {
             Some(old) => self.sides - sides(old) + sides(obstacle),
             None => self.sides + sides(obstacle),
         }
