@@ -1,0 +1,5 @@
+pub mod NameLemmas
+pub mod SideLemmas
+pub mod RootLemmas
+pub mod AnswerLemmas
+pub mod BandLemmas

@@ -1,0 +1,192 @@
+-- What the check of a line's part answers: for each word its tests in their order, and the part where all pass.
+use Rattle.std.specs.Prelude.{ℕ, ◌+◌, ◌==◌, ℤ, pos, neg_ℤ, List, [], ◌∷◌, length, Bool, ◌&&◌, ◌||◌, nat_lt, int_le, Option, Result, Ok, Err, if◌then◌else◌, codes, bytes_eq, unsigned_abs}
+use Rattle.scene_geom.specs.declared.plan.Pt.{Pt}
+use Rattle.scene_geom.specs.declared.plan.Side.{Side}
+use Rattle.scene_geom.specs.Point.{point_at}
+use Rattle.scene_parts.specs.declared.kinds.Kind.{Kind}
+use Rattle.scene_parts.specs.declared.kinds.Kind.TheVariants.{Road, Rail, Industry, Construction, Other}
+use Rattle.scene_parts.specs.declared.kinds.Air.{Air}
+use Rattle.scene_parts.specs.declared.kinds.Air.TheVariants.{Celsius10Humidity70, Celsius20Humidity70, Celsius30Humidity70, Celsius15Humidity20, Celsius15Humidity50, Celsius15Humidity80}
+use Rattle.scene_parts.specs.declared.kinds.Shape.{Shape}
+use Rattle.scene_parts.specs.declared.kinds.Shape.TheVariants.{Barrier, Building}
+use Rattle.scene_parts.specs.declared.kinds.Field.{Field}
+use Rattle.scene_parts.specs.declared.kinds.Field.TheVariants as fields
+use Rattle.scene_parts.specs.declared.outlines.RawPt.{RawPt}
+use Rattle.scene_parts.specs.declared.faults.PartFault.{PartFault}
+use Rattle.scene_parts.specs.declared.faults.PartFault.TheVariants.{OutOfRange, OutsideMethod, UnknownKind, TooLight, FewCorners, FlatShape, SideTooLong, WeakMirror}
+use Rattle.scene_parts.specs.declared.parts.Part.{Part}
+use Rattle.scene_parts.specs.declared.parts.Part.TheVariants as parts
+use Rattle.scene_parts.specs.declared.raw.RawPart.{RawPart}
+use Rattle.scene_parts.specs.declared.raw.RawPart.TheVariants as raw
+use Rattle.scene_parts.specs.declared.checked.Checked.{Checked}
+use Rattle.scene_parts.specs.declared.checked.Checked.TheVariants as checked
+use Rattle.scene_parts.specs.Seen.{Source, Obstacle, Zone, Receiver, Grid, Setting}
+use Rattle.scene_parts.specs.Sides.{sides_in, squared_length, is_short, floor_root}
+use Rattle.scene_parts.specs.Ranges.{is_flat, is_mirror, least_corners, last_place}
+use Rattle.scene_parts.specs.Answers.{◌>>=◌, ◌>>◌, each, optional}
+
+-- OutOfRange: a field's number lies outside its range
+
+abbrev pub within : Field → ℤ → ℤ → ℤ → Result ℤ PartFault
+within field low high value = if int_le low value && int_le value high then Ok value else Err (OutOfRange field value)
+
+-- a range from 0 or above
+abbrev pub counted : Field → ℕ → ℕ → ℤ → Result ℕ PartFault
+counted field low high value = do
+  n ← within field (pos low) (pos high) value
+  Ok (unsigned_abs n)
+
+-- a point of the plan, by the fields of its coordinates
+unfoldable pub placed : Field → Field → ℤ → ℤ → Result Pt PartFault
+placed across up x y = do
+  east ← within across (neg_ℤ (pos 4000000)) (pos 4000000) x
+  north ← within up (neg_ℤ (pos 4000000)) (pos 4000000) y
+  Ok (point_at east north)
+
+abbrev pub corner_of : RawPt → Result Pt PartFault
+corner_of point = placed fields.Points fields.Points point.x point.y
+
+-- at most 1,024 points of the plan
+unfoldable pub corners_of : List RawPt → Result (List Pt) PartFault
+corners_of points = do
+  corners ← each corner_of points
+  if nat_lt 1024 (length points) then Err (OutOfRange fields.Points (pos (length points))) else Ok corners
+
+unfoldable pub height_of : ℤ → Result ℕ PartFault
+height_of h = counted fields.H 1 100000 h
+
+-- a sound power level in 0.01 dB, where there is power
+unfoldable pub power_of : Option ℤ → Result (Option ℤ) PartFault
+power_of level = optional (within fields.Lw (neg_ℤ (pos 2000)) (pos 16000)) level
+
+-- a directivity correction in 0.01 dB
+unfoldable pub directivity_of : ℤ → Result ℤ PartFault
+directivity_of dc = within fields.Dc (neg_ℤ (pos 3000)) (pos 2000) dc
+
+-- a number of columns or rows of a grid, the last of them on the plan
+unfoldable pub reaching : Field → ℤ → ℕ → ℤ → Result ℕ PartFault
+reaching field start step count = do
+  n ← counted field 1 4096 count
+  if int_le (last_place start step n) (pos 4000000) then Ok n else Err (OutOfRange field count)
+
+-- OutsideMethod and UnknownKind
+
+unfoldable pub kind_of : List ℕ → Result Kind PartFault
+kind_of word =
+    if bytes_eq word (codes "road") then Ok Road
+    else (if bytes_eq word (codes "rail") then Ok Rail
+    else (if bytes_eq word (codes "industry") then Ok Industry
+    else (if bytes_eq word (codes "construction") then Ok Construction
+    else (if bytes_eq word (codes "other") then Ok Other
+    else (if bytes_eq word (codes "aircraft") || bytes_eq word (codes "blast") then Err (OutsideMethod word)
+    else Err (UnknownKind word))))))
+
+-- degrees Celsius and per cent of relative humidity: the rows of ISO 9613-2, Table 2
+unfoldable pub air_of : List ℕ → Result Air PartFault
+air_of word =
+    if bytes_eq word (codes "10/70") then Ok Celsius10Humidity70
+    else (if bytes_eq word (codes "20/70") then Ok Celsius20Humidity70
+    else (if bytes_eq word (codes "30/70") then Ok Celsius30Humidity70
+    else (if bytes_eq word (codes "15/20") then Ok Celsius15Humidity20
+    else (if bytes_eq word (codes "15/50") then Ok Celsius15Humidity50
+    else (if bytes_eq word (codes "15/80") then Ok Celsius15Humidity80
+    else Err (UnknownKind word))))))
+
+-- TooLight: ISO 9613-2, 7.4 asks for at least 10 kg/m²
+abbrev pub heavy : ℕ → Result (Unit {0}) PartFault
+heavy density = if nat_lt density 10 then Err (TooLight density) else Ok tt
+
+-- FewCorners and FlatShape
+unfoldable pub outlined : Shape → List Pt → Result (Unit {0}) PartFault
+outlined shape corners =
+    if nat_lt (length corners) (least_corners shape) then Err (FewCorners (length corners))
+    else (if is_flat shape corners then Err FlatShape else Ok tt)
+
+-- SideTooLong: the first side that is longer than 262,143 mm, counted from a number
+abbrev pub short_from : ℕ → List Side → Result (Unit {0}) PartFault
+short_from i [] = Ok tt
+short_from i (side ∷ sides) = if is_short side then short_from (i + 1) sides else Err (SideTooLong i (floor_root (squared_length side)))
+
+-- WeakMirror
+abbrev pub mirrored : ℕ → Result (Unit {0}) PartFault
+mirrored rho = if is_mirror rho then Ok tt else Err (WeakMirror rho)
+
+-- The words
+
+unfoldable pub source_of : List ℕ → List ℕ → ℤ → ℤ → ℤ → List (Option ℤ) → ℤ → Result Source PartFault
+source_of name word x y h lw dc = do
+  at ← placed fields.X fields.Y x y
+  height ← height_of h
+  powers ← each power_of lw
+  correction ← directivity_of dc
+  kind ← kind_of word
+  Ok (record { name = name; kind = kind; at = at; h = height; lw = powers; dc = correction })
+
+-- what a barrier and a building have in common
+unfoldable pub obstacle_of : List ℕ → Shape → List Pt → ℕ → ℕ → Result Obstacle PartFault
+obstacle_of name shape corners height reflected = do
+  outlined shape corners
+  short_from 0 (sides_in shape corners)
+  mirrored reflected
+  Ok (record { name = name; shape = shape; points = corners; h = height; rho = reflected })
+
+unfoldable pub barrier_of : List ℕ → List RawPt → ℤ → ℤ → ℤ → Result Obstacle PartFault
+barrier_of name points h density rho = do
+  corners ← corners_of points
+  height ← height_of h
+  weight ← counted fields.Density 0 100000 density
+  reflected ← counted fields.Rho 0 1000 rho
+  heavy weight
+  obstacle_of name Barrier corners height reflected
+
+unfoldable pub building_of : List ℕ → List RawPt → ℤ → ℤ → Result Obstacle PartFault
+building_of name points h rho = do
+  corners ← corners_of points
+  height ← height_of h
+  reflected ← counted fields.Rho 0 1000 rho
+  obstacle_of name Building corners height reflected
+
+unfoldable pub zone_of : List ℕ → List RawPt → ℤ → Result Zone PartFault
+zone_of name points g = do
+  corners ← corners_of points
+  factor ← counted fields.G 0 100 g
+  outlined Building corners
+  Ok (record { name = name; points = corners; g = factor })
+
+unfoldable pub receiver_of : List ℕ → ℤ → ℤ → ℤ → Result Receiver PartFault
+receiver_of name x y h = do
+  at ← placed fields.X fields.Y x y
+  height ← height_of h
+  Ok (record { name = name; at = at; h = height })
+
+-- a grid from its first receiver and the distance to the next on
+unfoldable pub grid_at : List ℕ → Pt → ℕ → ℤ → ℤ → ℤ → Result Grid PartFault
+grid_at name at step columns rows h = do
+  across ← reaching fields.Columns at.x step columns
+  up ← reaching fields.Rows at.y step rows
+  height ← height_of h
+  Ok (record { name = name; at = at; step = step; columns = across; rows = up; h = height })
+
+unfoldable pub grid_of : List ℕ → ℤ → ℤ → ℤ → ℤ → ℤ → ℤ → Result Grid PartFault
+grid_of name x y step columns rows h = do
+  at ← placed fields.X fields.Y x y
+  apart ← counted fields.Step 1 1000000 step
+  grid_at name at apart columns rows h
+
+unfoldable pub setting_of : Option ℤ → Option ℤ → Option (List ℕ) → Option ℤ → Result Setting PartFault
+setting_of reach g air c0 = do
+  far ← optional (counted fields.Reach 1 4000000) reach
+  factor ← optional (counted fields.G 0 100) g
+  correction ← optional (counted fields.C0 0 1000) c0
+  weather ← optional air_of air
+  Ok (record { reach = far; g = factor; air = weather; c0 = correction })
+
+-- the first fault of a line's part in the order of its tests, or the part, the grid or the setting
+unfoldable pub check_of : RawPart → Result Checked PartFault
+check_of (raw.Source name kind x y h lw dc) = source_of name kind x y h lw dc >>= λ source. Ok (checked.Part (parts.Source source))
+check_of (raw.Barrier name points h density rho) = barrier_of name points h density rho >>= λ barrier. Ok (checked.Part (parts.Obstacle barrier))
+check_of (raw.Building name points h rho) = building_of name points h rho >>= λ building. Ok (checked.Part (parts.Obstacle building))
+check_of (raw.Zone name points g) = zone_of name points g >>= λ zone. Ok (checked.Part (parts.Zone zone))
+check_of (raw.Receiver name x y h) = receiver_of name x y h >>= λ receiver. Ok (checked.Part (parts.Receiver receiver))
+check_of (raw.Grid name x y step columns rows h) = grid_of name x y step columns rows h >>= λ grid. Ok (checked.Grid grid)
+check_of (raw.Set reach g air c0) = setting_of reach g air c0 >>= λ setting. Ok (checked.Set setting)

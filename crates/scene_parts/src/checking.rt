@@ -1,0 +1,238 @@
+//! The check of a line's part.
+ghost use Rattle.std.specs.Prelude.{◌≡◌, ◌≤◌, length};
+ghost use Rattle.scene_parts.specs.Ranges.{IsHeight};
+ghost use Rattle.scene_parts.specs.Answers.{Gives};
+ghost use Rattle.scene_parts.specs.Checking.{source_of, barrier_of, building_of, obstacle_of, zone_of, receiver_of, grid_of, grid_at as grid_at_of, setting_of, check_of};
+
+use super::checked::Checked;
+use super::faults::PartFault;
+use super::kinds::{Field, Shape};
+use super::limits::{column_count, counted, height, optional_count, placed, row_count};
+use super::outlines::{Outline, RawPoints};
+use super::parts::{Obstacle, Part, PointSource, Receiver, Zone};
+use super::powers::{directivity, powers};
+use super::raw::RawPart;
+use super::settings::{GridSpec, SetSpec};
+use super::shapes::{corners, heavy, mirrored, outlined, short};
+use super::texts::{PlainName, Word};
+use super::words::{kind_named, optional_air};
+use scene_geom::Pt;
+use std::alloc::Global;
+
+/// Checks what a line gives: the part, the grid or the setting, or the first fault in the order of
+/// their numbers. Memory is taken for the corners of an outline.
+#[tactic(auto, unfolding(crate::specs::Checking::check_of))]
+pub fn check(alloc: Global, raw: RawPart) -> Result<Checked, PartFault>
+    ensures { Gives result (check_of raw) }
+{
+    match raw {
+        RawPart::Source {
+            name,
+            kind,
+            x,
+            y,
+            h,
+            lw,
+            dc,
+        } => Ok(Checked::Part(Part::Source(source(name, kind, x, y, h, lw, dc)?))),
+        RawPart::Barrier {
+            name,
+            points,
+            h,
+            density,
+            rho,
+        } => Ok(Checked::Part(Part::Obstacle(barrier(alloc, name, points, h, density, rho)?))),
+        RawPart::Building {
+            name,
+            points,
+            h,
+            rho,
+        } => Ok(Checked::Part(Part::Obstacle(building(alloc, name, points, h, rho)?))),
+        RawPart::Zone { name, points, g } => {
+            Ok(Checked::Part(Part::Zone(zone(alloc, name, points, g)?)))
+        }
+        RawPart::Receiver { name, x, y, h } => {
+            Ok(Checked::Part(Part::Receiver(receiver(name, x, y, h)?)))
+        }
+        RawPart::Grid {
+            name,
+            x,
+            y,
+            step,
+            columns,
+            rows,
+            h,
+        } => Ok(Checked::Grid(grid(name, x, y, step, columns, rows, h)?)),
+        RawPart::Set { reach, g, air, c0 } => Ok(Checked::Set(setting(reach, g, air, c0)?)),
+    }
+}
+
+#[tactic(auto, unfolding(crate::specs::Checking::source_of))]
+fn source(
+    name: PlainName,
+    kind: Word,
+    x: i64,
+    y: i64,
+    h: i64,
+    lw: [Option<i64>; 8],
+    dc: i64,
+) -> Result<PointSource, PartFault>
+    ensures { Gives result (source_of name kind x y h lw dc) }
+{
+    let at = placed(Field::X, Field::Y, x, y)?;
+    let h = height(h)?;
+    let lw = powers(lw)?;
+    let dc = directivity(dc)?;
+    let kind = kind_named(kind)?;
+    let name = name.into_name();
+    Ok(PointSource {
+        name,
+        kind,
+        at,
+        h,
+        lw,
+        dc,
+    })
+}
+
+#[tactic(auto, unfolding(crate::specs::Checking::barrier_of))]
+fn barrier(
+    alloc: Global,
+    name: PlainName,
+    points: RawPoints,
+    h: i64,
+    density: i64,
+    rho: i64,
+) -> Result<Obstacle, PartFault>
+    ensures { Gives result (barrier_of name points h density rho) }
+{
+    let points = corners(alloc, points.items())?;
+    let h = height(h)?;
+    let density = counted(Field::Density, 0, 100_000, density)?;
+    let rho = counted(Field::Rho, 0, 1000, rho)? as u16;
+    heavy(density)?;
+    obstacle(name, Shape::Barrier, points, h, rho)
+}
+
+#[tactic(auto, unfolding(crate::specs::Checking::building_of))]
+fn building(
+    alloc: Global,
+    name: PlainName,
+    points: RawPoints,
+    h: i64,
+    rho: i64,
+) -> Result<Obstacle, PartFault>
+    ensures { Gives result (building_of name points h rho) }
+{
+    let points = corners(alloc, points.items())?;
+    let h = height(h)?;
+    let rho = counted(Field::Rho, 0, 1000, rho)? as u16;
+    obstacle(name, Shape::Building, points, h, rho)
+}
+
+#[tactic(auto, unfolding(crate::specs::Checking::obstacle_of))]
+fn obstacle(
+    name: PlainName,
+    shape: Shape,
+    points: Outline,
+    h: u32,
+    rho: u16,
+) -> Result<Obstacle, PartFault>
+    requires few { length points ≤ 1024 }
+    requires height { IsHeight h }
+    requires rho { rho ≤ 1000 }
+    ensures { result ≡ obstacle_of name shape points h rho }
+{
+    outlined(shape, points.items())?;
+    short(shape, points.items())?;
+    mirrored(rho)?;
+    let name = name.into_name();
+    Ok(Obstacle {
+        name,
+        shape,
+        points,
+        h,
+        rho,
+    })
+}
+
+#[tactic(auto, unfolding(crate::specs::Checking::zone_of))]
+fn zone(alloc: Global, name: PlainName, points: RawPoints, g: i64) -> Result<Zone, PartFault>
+    ensures { Gives result (zone_of name points g) }
+{
+    let points = corners(alloc, points.items())?;
+    let g = counted(Field::G, 0, 100, g)? as u8;
+    outlined(Shape::Building, points.items())?;
+    let name = name.into_name();
+    Ok(Zone { name, points, g })
+}
+
+#[tactic(auto, unfolding(crate::specs::Checking::receiver_of))]
+fn receiver(name: PlainName, x: i64, y: i64, h: i64) -> Result<Receiver, PartFault>
+    ensures { result ≡ receiver_of name x y h }
+{
+    let at = placed(Field::X, Field::Y, x, y)?;
+    let h = height(h)?;
+    let name = name.into_name();
+    Ok(Receiver { name, at, h })
+}
+
+#[tactic(auto, unfolding(crate::specs::Checking::grid_of))]
+fn grid(
+    name: PlainName,
+    x: i64,
+    y: i64,
+    step: i64,
+    columns: i64,
+    rows: i64,
+    h: i64,
+) -> Result<GridSpec, PartFault>
+    ensures { result ≡ grid_of name x y step columns rows h }
+{
+    let at = placed(Field::X, Field::Y, x, y)?;
+    let step = counted(Field::Step, 1, 1_000_000, step)?;
+    grid_at(name, at, step, columns, rows, h)
+}
+
+#[tactic(auto, unfolding(crate::specs::Checking::grid_at))]
+fn grid_at(
+    name: PlainName,
+    at: Pt,
+    step: u32,
+    columns: i64,
+    rows: i64,
+    h: i64,
+) -> Result<GridSpec, PartFault>
+    requires low { 1 ≤ step }
+    requires high { step ≤ 1000000 }
+    ensures { result ≡ grid_at_of name at step columns rows h }
+{
+    let columns = column_count(at, step, columns)?;
+    let rows = row_count(at, step, rows)?;
+    let h = height(h)?;
+    let name = name.into_name();
+    Ok(GridSpec {
+        name,
+        at,
+        step,
+        columns,
+        rows,
+        h,
+    })
+}
+
+#[tactic(auto, unfolding(crate::specs::Checking::setting_of))]
+fn setting(
+    reach: Option<i64>,
+    g: Option<i64>,
+    air: Option<Word>,
+    c0: Option<i64>,
+) -> Result<SetSpec, PartFault>
+    ensures { result ≡ setting_of reach g air c0 }
+{
+    let reach = optional_count(Field::Reach, 1, 4_000_000, reach)?;
+    let g = optional_count(Field::G, 0, 100, g)?.map(|g| g as u8);
+    let c0 = optional_count(Field::C0, 0, 1000, c0)?.map(|c0| c0 as u16);
+    let air = optional_air(air)?;
+    Ok(SetSpec { reach, g, air, c0 })
+}

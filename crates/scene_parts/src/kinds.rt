@@ -1,0 +1,68 @@
+//! Words of lines that name one of a few: kinds of sources, shapes of obstacles, air, fields and classes.
+
+/// What makes a source's sound. The level doesn't depend on it.
+#[derive(Clone, Copy, Debug, PartialEq, Eq)]
+pub enum Kind {
+    Road,
+    Rail,
+    Industry,
+    Construction,
+    Other,
+}
+
+/// The temperature in °C and the relative humidity in per cent of the air: a row of ISO 9613-2, Table 2.
+#[derive(Clone, Copy, Debug, PartialEq, Eq)]
+pub enum Air {
+    Celsius10Humidity70,
+    Celsius20Humidity70,
+    Celsius30Humidity70,
+    Celsius15Humidity20,
+    Celsius15Humidity50,
+    Celsius15Humidity80,
+}
+
+/// A barrier is a line of points, a building an area.
+#[derive(Clone, Copy, Debug, PartialEq, Eq)]
+pub enum Shape {
+    Barrier,
+    Building,
+}
+
+/// A field of an input line, by its name there.
+#[derive(Clone, Copy, Debug, PartialEq, Eq)]
+pub enum Field {
+    Do,
+    Name,
+    Kind,
+    X,
+    Y,
+    H,
+    Lw,
+    Dc,
+    Points,
+    Density,
+    Rho,
+    G,
+    Step,
+    Columns,
+    Rows,
+    Reach,
+    Air,
+    C0,
+    Ground,
+    Piece,
+    Level,
+    To,
+}
+
+/// A class of parts. `Obstacle` counts barriers and buildings together, `Side` their sides.
+#[derive(Clone, Copy, Debug, PartialEq, Eq)]
+pub enum Class {
+    Source,
+    Barrier,
+    Building,
+    Zone,
+    Receiver,
+    Obstacle,
+    Side,
+}

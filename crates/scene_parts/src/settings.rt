@@ -1,0 +1,72 @@
+//! What holds of the whole scene, and grids of receivers.
+use super::kinds::Air;
+use super::texts::Name;
+use scene_geom::Pt;
+use std::marker::Model;
+
+/// What holds of the whole scene: how far a source reaches in mm, the ground factor outside zones in
+/// hundredths, the air (ISO 9613-2, Table 2), and the factor C0 of clause 8 in 0.01 dB.
+#[derive(Clone, Copy, Debug)]
+pub struct Globals {
+    pub reach: u32,
+    pub g: u8,
+    pub air: Air,
+    pub c0: u16,
+}
+
+impl Model for Globals {
+    ghost use Rattle.scene_parts.specs.Seen.{Globals as GlobalsSeen};
+    ghost use Rattle.scene_parts.specs.Ranges.{AreGlobals};
+
+    ghost Value = { GlobalsSeen };
+
+    ghost view = { λ s. record { reach = s.reach; g = s.g; air = s.air; c0 = s.c0 } };
+
+    ghost invariant = { λ s. AreGlobals (record { reach = s.reach; g = s.g; air = s.air; c0 = s.c0 }) };
+
+    ghost inverse = { λ s. record { reach = s.reach; g = s.g; air = s.air; c0 = s.c0 } };
+}
+
+/// Values for some of the globals; the others stay as they are.
+#[derive(Clone, Copy, Debug)]
+pub struct SetSpec {
+    pub reach: Option<u32>,
+    pub g: Option<u8>,
+    pub air: Option<Air>,
+    pub c0: Option<u16>,
+}
+
+impl Model for SetSpec {
+    ghost use Rattle.scene_parts.specs.Seen.{Setting};
+    ghost use Rattle.scene_parts.specs.Ranges.{IsSetting};
+
+    ghost Value = { Setting };
+
+    ghost view = { λ s. record { reach = s.reach; g = s.g; air = s.air; c0 = s.c0 } };
+
+    ghost invariant = { λ s. IsSetting (record { reach = s.reach; g = s.g; air = s.air; c0 = s.c0 }) };
+
+    ghost inverse = { λ s. record { reach = s.reach; g = s.g; air = s.air; c0 = s.c0 } };
+}
+
+/// A grid of receivers: the place of the first, the distance to the next in mm, and their height in mm.
+#[derive(Clone, Debug, Drop)]
+pub struct GridSpec {
+    pub name: Name,
+    pub at: Pt,
+    pub step: u32,
+    pub columns: u32,
+    pub rows: u32,
+    pub h: u32,
+}
+
+impl Model for GridSpec {
+    ghost use Rattle.scene_parts.specs.Seen.{Grid};
+    ghost use Rattle.scene_parts.specs.Ranges.{IsGrid};
+
+    ghost Value = { Grid };
+
+    ghost view = { λ s. record { name = s.name; at = s.at; step = s.step; columns = s.columns; rows = s.rows; h = s.h } };
+
+    ghost invariant = { λ s. IsGrid (record { name = s.name; at = s.at; step = s.step; columns = s.columns; rows = s.rows; h = s.h }) };
+}
