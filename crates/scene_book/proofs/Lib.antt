@@ -1,3 +1,0 @@
-pub mod FiledLemmas
-pub mod ListLemmas
-pub mod GridLemmas

@@ -1,5 +1,0 @@
-pub mod Lists
-pub mod Filed
-pub mod Book
-pub mod Grid
-pub mod Applying
