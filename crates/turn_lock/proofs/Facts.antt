@@ -1,5 +1,5 @@
 -- What follows from the rule for one view, and from that for what callers see.
-use Rattle.std.proofs.Common.{◌≡◌, ◌≢◌, ℕ, suc, ◌≤◌, ◌<◌, eqb, cond, List, [], ◌∷◌, ◌++◌, map, refl, sym, ap, ◌∙◌, subst, arith, ne_eqb}
+use Rattle.std.proofs.Common.{◌≡◌, ◌≢◌, ℕ, suc, ◌≤◌, ◌<◌, eqb, cond, length, List, [], ◌∷◌, ◌++◌, map, refl, sym, ap, ◌∙◌, subst, arith, ne_eqb}
 use Rattle.std.specs.Prelude.{sum_by, count_by, All, AllPairs, Contains, Option, Some, None, unwrap_or}
 use Rattle.std.proofs.lemmas.List.Sums.{sum_by-cons}
 use Rattle.std.proofs.lemmas.List.Elements.{All-nil, All-cons, All-head, All-tail, All-weaker, All-map}
@@ -76,6 +76,7 @@ module _ {M S C R : Type 0} (state : M → S) (start : S) (steps : StepRelation 
         none_else = λ whole. All-weaker (λ (e : Entry C R). e.number < v.bound) (λ (e : Entry C R). Contains (names v) e.number)
             (λ e below. all_mine s r seat v at whole e.number (let b = fits.bound in omega arith)) v.seen fits.entries_below;
         some_parts = (let b = one_below parts_of s.views seat v at in let t = r.parts_out in omega arith);
+        without_part = λ none. (fits.spent none).0;
         numbers_below = fits.numbers_below;
         entries_below = fits.entries_below;
         beside = fits.beside;
@@ -137,6 +138,8 @@ module _ {S C R : Type 0} (start : S) (steps : StepRelation S C R) (may : Permis
         numbers_differ = subst (AllPairs ◌≢◌) (names_seen table v n name) k.names_differ;
         own_entries = ap (λ (m : ℕ). entries_of m v.seen) (number_named v n name) ∙ All-head (λ (j : Joined C R). entries_of j.number v.seen ≡ j.mine) record { number = n; mine = v.mine } v.joined done;
         joined_entries = All-tail (λ (j : Joined C R). entries_of j.number v.seen ≡ j.mine) record { number = n; mine = v.mine } v.joined done;
+        some_part = dite (dec_lt 0 v.parts) (λ some. some) (λ not_some. absurd (let nothing = ap length (sym named ∙ k.without_part (omega (arith, not_some))) in omega arith));
+        few_parts = k.some_parts;
         none_else = λ whole. subst (λ (ns : List ℕ). All (λ (e : Entry C R). Contains ns e.number) v.seen) (names_seen table v n name) (k.none_else whole);
       }
 
@@ -173,6 +176,7 @@ module _ {S C R : Type 0} (start : S) (steps : StepRelation S C R) (may : Permis
     done_seen = All-cons (λ (j : Joined C R). entries_of j.number (first_view {C = C} {R = R}).seen ≡ j.mine) record { number = 0; mine = [] } [] refl (All-nil (λ (j : Joined C R). entries_of j.number (first_view {C = C} {R = R}).seen ≡ j.mine));
     none_else = λ _. All-nil (λ (e : Entry C R). Contains (0 ∷ []) e.number);
     some_parts = omega arith;
+    without_part = λ none. absurd (omega (arith, none));
     numbers_below = All-cons (λ (j : Joined C R). j.number < 1) record { number = 0; mine = [] } [] (omega arith) (All-nil (λ (j : Joined C R). j.number < 1));
     entries_below = All-nil (λ (e : Entry C R). e.number < 1);
     beside = begins_nil [];
@@ -186,6 +190,7 @@ module _ {S C R : Type 0} (start : S) (steps : StepRelation S C R) (may : Permis
     done_seen = k.done_seen;
     none_else = λ whole. absurd (let few = k.some_parts in omega arith);
     some_parts = (let few = k.some_parts in omega arith);
+    without_part = λ none. absurd (omega (arith, none));
     numbers_below = k.numbers_below;
     entries_below = k.entries_below;
     beside = k.beside;

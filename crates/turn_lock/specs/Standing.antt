@@ -1,5 +1,5 @@
 -- What callers see of a seat, and how each call changes it.
-use Rattle.std.specs.Prelude.{◌≡◌, ◌≢◌, ℕ, ◌+◌, ◌^◌, ◌<◌, List, [], ◌∷◌, ◌++◌, map, length, All, AllPairs, Contains, if◌then◌else◌, nat_lt}
+use Rattle.std.specs.Prelude.{◌≡◌, ◌≢◌, ℕ, ◌+◌, ◌^◌, ◌<◌, ◌≤◌, List, [], ◌∷◌, ◌++◌, map, length, All, AllPairs, Contains, if◌then◌else◌, nat_lt}
 use Rattle.atomic_table.specs.Seated.{TableId}
 use Rattle.turn_lock.specs.declared.entry.Entry.{Entry}
 use Rattle.turn_lock.specs.declared.entry.Joined.{Joined}
@@ -34,6 +34,9 @@ pub record IsSound {S C R : Type 0} (start : S) (steps : StepRelation S C R) (ma
   pub own_entries : entries_of seat.number seat.seen ≡ seat.mine
   -- the entries of a joined number in `seen` are those beside that number
   pub joined_entries : All (λ j. entries_of j.number seat.seen ≡ j.mine) seat.joined
+  -- it has a part at least, and all of them at most
+  pub some_part : 1 ≤ seat.parts
+  pub few_parts : seat.parts ≤ all_parts
   -- with all parts, every entry of `seen` is of its own number or of a joined one
   pub none_else : seat.parts ≡ all_parts → All (λ e. Contains (numbers_of seat) e.number) seat.seen
 

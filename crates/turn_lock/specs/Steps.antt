@@ -75,6 +75,7 @@ module _ {S C R : Type 0} (start : S) (steps : StepRelation S C R) (may : Permis
     pub done_seen : All (λ j. entries_of j.number v.seen ≡ j.mine) (claims v)
     pub none_else : v.parts ≡ all_parts → All (λ e. Contains (names v) e.number) v.seen
     pub some_parts : v.parts ≤ all_parts
+    pub without_part : v.parts ≡ 0 → claims v ≡ []
     pub numbers_below : All (λ j. j.number < v.bound) (claims v)
     pub entries_below : All (λ e. e.number < v.bound) v.seen
     pub beside : Begins v.beside v.seen
