@@ -1,0 +1,76 @@
+-- Things filed under their names: the entries of a map and the list of its values.
+use Rattle.std.proofs.Common.{◌≡◌, ℕ, refl, sym, ◌∙◌, ap, Bool, true, false, cond, List, [], ◌∷◌}
+use Rattle.std.specs.Prelude.{bytes_eq, Option, Vec}
+use Rattle.std.specs.List.{IsDistinct, AllByRecursion}
+use Rattle.std.specs.Map.{keys_of, lookup, values_of, remove_entry}
+use Rattle.std.specs.declared.alloc.Global.{Global}
+use Rattle.std.proofs.lemmas.Slice.Eq.{bytes_eq-Decides}
+use Rattle.indexmap.specs.IndexMap.{insert_entry}
+use Rattle.scene_book.specs.Lists.{named, put_in, take_out, NoneNamed, AreApart}
+use Rattle.scene_book.specs.Filed.{AreFiled}
+
+abbrev pub is_key : List ℕ → Vec ℕ Global → Bool
+is_key name key = bytes_eq name key.items
+
+abbrev pub same_key : Vec ℕ Global → Vec ℕ Global → Bool
+same_key a b = bytes_eq a.items b.items
+
+module _ {T : Type 0} (name_of : T → List ℕ) where
+  pub named-lookup : (name : List ℕ) (es : List (Vec ℕ Global × T)) → AreFiled name_of es → lookup (is_key name) es ≡ named name_of name (values_of es)
+  named-lookup name [] h = refl
+  named-lookup name (e ∷ es) h = rw (h.0, named-lookup name es h.1) refl
+
+  put-step : (b : Bool) (e : Vec ℕ Global × T) (thing : T) (es rest : List (Vec ℕ Global × T)) (put : List T) → values_of rest ≡ put
+      → values_of (cond b ((e.0, thing) ∷ es) (e ∷ rest)) ≡ cond b (thing ∷ values_of es) (e.1 ∷ put)
+  put-step true e thing es rest put h = refl
+  put-step false e thing es rest put h = ap (λ (l : List T). e.1 ∷ l) h
+
+  pub put-values : (key : Vec ℕ Global) (thing : T) (es : List (Vec ℕ Global × T)) → key.items ≡ name_of thing → AreFiled name_of es
+      → values_of (insert_entry same_key es key thing) ≡ put_in name_of thing (values_of es)
+  put-values key thing [] k h = refl
+  put-values key thing (e ∷ es) k h =
+      put-step (same_key key e.0) e thing es (insert_entry same_key es key thing) (put_in name_of thing (values_of es)) (put-values key thing es k h.1)
+      ∙ rw (k, h.0) refl
+
+  filed-step : (b : Bool) (e : Vec ℕ Global × T) (key : Vec ℕ Global) (thing : T) (es rest : List (Vec ℕ Global × T)) → (b ≡ true → key.items ≡ e.0.items)
+      → key.items ≡ name_of thing → AreFiled name_of (e ∷ es) → AreFiled name_of rest → AreFiled name_of (cond b ((e.0, thing) ∷ es) (e ∷ rest))
+  filed-step true e key thing es rest same k h r = (sym (same refl) ∙ k, h.1)
+  filed-step false e key thing es rest same k h r = (h.0, r)
+
+  pub put-filed : (key : Vec ℕ Global) (thing : T) (es : List (Vec ℕ Global × T)) → key.items ≡ name_of thing → AreFiled name_of es
+      → AreFiled name_of (insert_entry same_key es key thing)
+  put-filed key thing [] k h = (k, tt)
+  put-filed key thing (e ∷ es) k h =
+      filed-step (same_key key e.0) e key thing es (insert_entry same_key es key thing) (bytes_eq-Decides key.items e.0.items).0 k h (put-filed key thing es k h.1)
+
+  take-step : (b : Bool) (e : Vec ℕ Global × T) (es rest : List (Vec ℕ Global × T)) (left : List T) → values_of rest ≡ left
+      → values_of (cond b es (e ∷ rest)) ≡ cond b (values_of es) (e.1 ∷ left)
+  take-step true e es rest left h = refl
+  take-step false e es rest left h = ap (λ (l : List T). e.1 ∷ l) h
+
+  pub take-values : (name : List ℕ) (es : List (Vec ℕ Global × T)) → AreFiled name_of es
+      → values_of (remove_entry (is_key name) es) ≡ take_out name_of name (values_of es)
+  take-values name [] h = refl
+  take-values name (e ∷ es) h =
+      take-step (is_key name e.0) e es (remove_entry (is_key name) es) (take_out name_of name (values_of es)) (take-values name es h.1)
+      ∙ rw h.0 refl
+
+  left-step : (b : Bool) (e : Vec ℕ Global × T) (es rest : List (Vec ℕ Global × T)) → AreFiled name_of (e ∷ es) → AreFiled name_of rest
+      → AreFiled name_of (cond b es (e ∷ rest))
+  left-step true e es rest h r = h.1
+  left-step false e es rest h r = (h.0, r)
+
+  pub take-filed : (name : List ℕ) (es : List (Vec ℕ Global × T)) → AreFiled name_of es → AreFiled name_of (remove_entry (is_key name) es)
+  take-filed name [] h = tt
+  take-filed name (e ∷ es) h = left-step (is_key name e.0) e es (remove_entry (is_key name) es) h (take-filed name es h.1)
+
+  none_named : (key : Vec ℕ Global) (x : T) (es : List (Vec ℕ Global × T)) → key.items ≡ name_of x → AllByRecursion (λ k. same_key key k ≡ false) (keys_of es)
+      → AreFiled name_of es → NoneNamed name_of (name_of x) (values_of es)
+  none_named key x [] k d h = tt
+  none_named key x (e ∷ es) k d h = (rw (← k, ← h.0) d.0, none_named key x es k d.1 h.1)
+
+  -- the keys of a map are distinct, so the names are
+  pub apart : (es : List (Vec ℕ Global × T)) → IsDistinct same_key (keys_of es) → AreFiled name_of es → AreApart name_of (values_of es)
+  unfolding IsDistinct
+  apart [] d h = tt
+  apart (e ∷ es) d h = (none_named e.0 e.1 es h.0 d.0 h.1, apart es d.1 h.1)

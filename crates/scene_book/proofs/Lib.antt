@@ -1,0 +1,3 @@
+pub mod FiledLemmas
+pub mod ListLemmas
+pub mod GridLemmas

@@ -1,0 +1,18 @@
+use Rattle.std.proofs.Common.{◌≡◌, arith}
+use Rattle.scene_parts.specs.Seen.{Zone}
+use Rattle.scene_book.proofs.ListLemmas.{length-take_out}
+use Rattle.scene_book.proofs.scene.Scene.take_zone.Goals as goal
+
+pub invariant_of-self : goal.invariant_of-self
+invariant_of-self c =
+    rw c.take.ensures.left
+    record {
+      count = c.self.invariant.count;
+      within = record {
+        sources = c.self.invariant.within.sources;
+        obstacles = c.self.invariant.within.obstacles;
+        sides = c.self.invariant.within.sides;
+        zones = omega (arith, c.self.invariant.within.zones, length-take_out (λ (x : Zone). x.name) c.args.name.now c.self.inside.zones);
+        receivers = c.self.invariant.within.receivers;
+      };
+    }

@@ -1,0 +1,154 @@
+-- What an edit makes of a scene.
+use Rattle.std.specs.Prelude.{◌≡◌, ℕ, ◌*◌, List, [], ◌∷◌, length, nat_lt, ◌==◌, Bool, Option, Some, None, option_map, Result, Ok, Err, if◌then◌else◌}
+use Rattle.scene_parts.specs.Seen.{Source, Obstacle, Zone, Receiver, Globals, Grid, Setting}
+use Rattle.scene_parts.specs.declared.parts.Part.{Part}
+use Rattle.scene_parts.specs.declared.parts.Part.TheVariants as parts
+use Rattle.scene_parts.specs.declared.kinds.Shape.{Shape}
+use Rattle.scene_parts.specs.declared.kinds.Shape.TheVariants as shapes
+use Rattle.scene_parts.specs.declared.kinds.Class.{Class}
+use Rattle.scene_parts.specs.declared.kinds.Class.TheVariants as classes
+use Rattle.scene_book.specs.declared.edits.Edit.{Edit}
+use Rattle.scene_book.specs.declared.edits.Edit.TheVariants as edits
+use Rattle.scene_book.specs.declared.edits.EditFault.{EditFault}
+use Rattle.scene_book.specs.declared.edits.EditFault.TheVariants.{NoMemory, NoSuchName, OtherClass, Full}
+use Rattle.scene_book.specs.Lists.{named, put_in, take_out, put_all}
+use Rattle.scene_book.specs.Book.{Book, side_total, globals_with}
+use Rattle.scene_book.specs.Grid.{receivers_of}
+
+-- a barrier and a building are of different classes
+abbrev pub class_of_shape : Shape → Class
+class_of_shape shapes.Barrier = classes.Barrier
+class_of_shape shapes.Building = classes.Building
+
+abbrev pub class_of : Part → Class
+class_of (parts.Source source) = classes.Source
+class_of (parts.Obstacle obstacle) = class_of_shape obstacle.shape
+class_of (parts.Zone zone) = classes.Zone
+class_of (parts.Receiver receiver) = classes.Receiver
+
+abbrev pub class_number : Class → ℕ
+class_number classes.Source = 0
+class_number classes.Barrier = 1
+class_number classes.Building = 2
+class_number classes.Zone = 3
+class_number classes.Receiver = 4
+class_number classes.Obstacle = 5
+class_number classes.Side = 6
+
+-- the first of two finds
+abbrev pub first_of_two : Option Part → Option Part → Option Part
+first_of_two (Some part) other = Some part
+first_of_two None other = other
+
+-- the part that bears a name
+abbrev pub held : Book → List ℕ → Option Part
+held book name =
+    first_of_two (option_map parts.Source (named (λ s. s.name) name book.sources))
+    (first_of_two (option_map parts.Obstacle (named (λ o. o.name) name book.obstacles))
+    (first_of_two (option_map parts.Zone (named (λ z. z.name) name book.zones))
+    (option_map parts.Receiver (named (λ r. r.name) name book.receivers))))
+
+abbrev pub name_of : Part → List ℕ
+name_of (parts.Source source) = source.name
+name_of (parts.Obstacle obstacle) = obstacle.name
+name_of (parts.Zone zone) = zone.name
+name_of (parts.Receiver receiver) = receiver.name
+
+abbrev pub same_class : Class → Class → Bool
+same_class a b = class_number a == class_number b
+
+infixl 10 ◌>>◌
+abbrev pub ◌>>◌ : {A : Type 0} → Result (Unit {0}) EditFault → Result A EditFault → Result A EditFault
+(Ok done) >> next = next
+(Err fault) >> next = Err fault
+
+-- an answer is what is said of the scene and the old part, unless memory runs out
+abbrev pub Gives : Book → Result (Option Part) EditFault → Result (Book × Option Part) EditFault → Type 0
+Gives after (Ok old) said = said ≡ Ok (after, old)
+Gives after (Err NoMemory) said = Unit {0}
+Gives after (Err fault) said = said ≡ Err fault
+
+-- the same of a test
+abbrev pub Tests : Result (Unit {0}) EditFault → Result (Unit {0}) EditFault → Type 0
+Tests (Ok done) said = said ≡ Ok tt
+Tests (Err NoMemory) said = Unit {0}
+Tests (Err fault) said = said ≡ Err fault
+
+-- OtherClass: the name is borne by a part of another class
+abbrev pub own_class : List ℕ → Class → Option Class → Result (Unit {0}) EditFault
+own_class name class None = Ok tt
+own_class name class (Some holder) = if same_class class holder then Ok tt else Err (OtherClass name holder)
+
+abbrev pub holder : Book → List ℕ → Option Class
+holder book name = option_map class_of (held book name)
+
+-- Full: more than the limit
+abbrev pub at_most : Class → ℕ → ℕ → Result (Unit {0}) EditFault
+at_most class limit count = if nat_lt limit count then Err (Full class limit) else Ok tt
+
+-- a part put into its list
+abbrev pub with_part : Part → Book → Book
+with_part (parts.Source source) book = record book { sources = put_in (λ s. s.name) source book.sources }
+with_part (parts.Obstacle obstacle) book = record book { obstacles = put_in (λ o. o.name) obstacle book.obstacles }
+with_part (parts.Zone zone) book = record book { zones = put_in (λ z. z.name) zone book.zones }
+with_part (parts.Receiver receiver) book = record book { receivers = put_in (λ r. r.name) receiver book.receivers }
+
+-- the limits of a part's class, for an obstacle also that of sides
+abbrev pub in_limits : Part → Book → Result (Unit {0}) EditFault
+in_limits (parts.Source source) book = at_most classes.Source 128 (length book.sources)
+in_limits (parts.Obstacle obstacle) book = at_most classes.Obstacle 4096 (length book.obstacles) >> at_most classes.Side 16384 (side_total book.obstacles)
+in_limits (parts.Zone zone) book = at_most classes.Zone 1024 (length book.zones)
+in_limits (parts.Receiver receiver) book = at_most classes.Receiver 4096 (length book.receivers)
+
+-- the part of a part's own list that it replaces
+abbrev pub replaced : Part → Book → Option Part
+replaced (parts.Source source) book = option_map parts.Source (named (λ s. s.name) source.name book.sources)
+replaced (parts.Obstacle obstacle) book = option_map parts.Obstacle (named (λ o. o.name) obstacle.name book.obstacles)
+replaced (parts.Zone zone) book = option_map parts.Zone (named (λ z. z.name) zone.name book.zones)
+replaced (parts.Receiver receiver) book = option_map parts.Receiver (named (λ r. r.name) receiver.name book.receivers)
+
+unfoldable pub put_of : Part → Book → Result (Book × Option Part) EditFault
+put_of part book =
+    own_class (name_of part) (class_of part) (holder book (name_of part))
+    >> (in_limits part (with_part part book) >> Ok (with_part part book, replaced part book))
+
+-- a part's list without the part of a name
+abbrev pub without : List ℕ → Part → Book → Book
+without name (parts.Source source) book = record book { sources = take_out (λ s. s.name) name book.sources }
+without name (parts.Obstacle obstacle) book = record book { obstacles = take_out (λ o. o.name) name book.obstacles }
+without name (parts.Zone zone) book = record book { zones = take_out (λ z. z.name) name book.zones }
+without name (parts.Receiver receiver) book = record book { receivers = take_out (λ r. r.name) name book.receivers }
+
+abbrev pub taken : List ℕ → Option Part → Book → Result (Book × Option Part) EditFault
+taken name None book = Err (NoSuchName name)
+taken name (Some part) book = Ok (without name part book, Some part)
+
+unfoldable pub remove_of : List ℕ → Book → Result (Book × Option Part) EditFault
+remove_of name book = taken name (held book name) book
+
+-- no name of these receivers is borne by a part of another class
+abbrev pub all_own : Book → List Receiver → Result (Unit {0}) EditFault
+all_own book [] = Ok tt
+all_own book (receiver ∷ receivers) =
+    own_class receiver.name classes.Receiver (holder book receiver.name) >> all_own book receivers
+
+abbrev pub with_receivers : Book → List Receiver → Book
+with_receivers book receivers = record book { receivers = receivers }
+
+-- the receivers of a grid put one after another. A grid of more than 4,096 receivers is Full, whatever is held
+unfoldable pub grid_of : Grid → Book → Result (Book × Option Part) EditFault
+grid_of grid book =
+    at_most classes.Receiver 4096 (grid.columns * grid.rows)
+    >> (all_own book (receivers_of grid)
+    >> (at_most classes.Receiver 4096 (length (put_all (λ r. r.name) (receivers_of grid) book.receivers))
+    >> Ok (with_receivers book (put_all (λ r. r.name) (receivers_of grid) book.receivers), None)))
+
+abbrev pub set_of : Setting → Book → Result (Book × Option Part) EditFault
+set_of setting book = Ok (record book { globals = globals_with setting book.globals }, None)
+
+-- the scene after an edit and the old part, or the first fault
+unfoldable pub apply_of : Edit → Book → Result (Book × Option Part) EditFault
+apply_of (edits.Put part) book = put_of part book
+apply_of (edits.Remove name) book = remove_of name book
+apply_of (edits.Grid grid) book = grid_of grid book
+apply_of (edits.Set setting) book = set_of setting book

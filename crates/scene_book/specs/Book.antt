@@ -1,0 +1,46 @@
+-- Scenes: the parts of each class in the order of insertion, and what holds of the whole scene.
+use Rattle.std.specs.Prelude.{◌≡◌, ℕ, ◌≤◌, List, [], length, unwrap_or}
+use Rattle.scene_book.specs.Lists.{total}
+use Rattle.scene_parts.specs.Seen.{Source, Obstacle, Zone, Receiver, Globals, Setting}
+use Rattle.scene_parts.specs.Sides.{sides_of}
+use Rattle.scene_parts.specs.declared.kinds.Air.TheVariants.{Celsius10Humidity70}
+
+pub record Book : Type 0 where
+  pub sources : List Source
+  pub obstacles : List Obstacle
+  pub zones : List Zone
+  pub receivers : List Receiver
+  pub globals : Globals
+
+-- a scene without parts: sources reach 4 km, the ground is hard, the air has 10 °C and 70 %, and C0 is 0
+abbrev pub default_globals : Globals
+default_globals = record { reach = 4000000; g = 0; air = Celsius10Humidity70; c0 = 0 }
+
+abbrev pub empty_book : Book
+empty_book = record { sources = []; obstacles = []; zones = []; receivers = []; globals = default_globals }
+
+-- the sides of barriers and buildings together
+abbrev pub side_total : List Obstacle → ℕ
+side_total obstacles = total (λ obstacle. length (sides_of obstacle)) obstacles
+
+-- the globals with the values that a setting gives
+abbrev pub globals_with : Setting → Globals → Globals
+globals_with setting globals = record {
+  reach = unwrap_or setting.reach globals.reach;
+  g = unwrap_or setting.g globals.g;
+  air = unwrap_or setting.air globals.air;
+  c0 = unwrap_or setting.c0 globals.c0;
+}
+
+-- what every scene keeps: the limits
+pub record IsWithin (book : Book) : Type 0 where
+  pub sources : length book.sources ≤ 128
+  pub obstacles : length book.obstacles ≤ 4096
+  pub sides : side_total book.obstacles ≤ 16384
+  pub zones : length book.zones ≤ 1024
+  pub receivers : length book.receivers ≤ 4096
+
+-- and the count of sides that it keeps
+pub record IsKept (sides : ℕ) (book : Book) : Type 0 where
+  pub count : sides ≡ side_total book.obstacles
+  pub within : IsWithin book

@@ -1,0 +1,9 @@
+-- Things filed under their names.
+use Rattle.std.specs.Prelude.{◌≡◌, ℕ, List, [], ◌∷◌}
+use Rattle.std.specs.Prelude.{Vec}
+use Rattle.std.specs.declared.alloc.Global.{Global}
+
+-- each key is the name of its thing
+abbrev pub AreFiled : {T : Type 0} → (T → List ℕ) → List (Vec ℕ Global × T) → Type 0
+AreFiled name_of [] = Unit {0}
+AreFiled name_of (entry ∷ entries) = (entry.0.items ≡ name_of entry.1) × AreFiled name_of entries

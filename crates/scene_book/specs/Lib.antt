@@ -1,0 +1,5 @@
+pub mod Lists
+pub mod Filed
+pub mod Book
+pub mod Grid
+pub mod Applying

@@ -1,0 +1,15 @@
+//! The scene: its parts in the order of insertion, and the edits that change it.
+#![tactic(auto)]
+
+mod applying;
+mod edits;
+mod grids;
+mod limits;
+mod named;
+mod register;
+mod scene;
+#[cfg(test)]
+mod tests;
+
+pub use edits::{Edit, EditFault, Logged};
+pub use scene::Scene;

@@ -1,0 +1,30 @@
+//! Limits and classes.
+ghost use Rattle.std.specs.Prelude.{◌≡◌, ◌≤◌, OnOk};
+ghost use Rattle.scene_book.specs.Applying.{at_most as at_most_of, same_class as same_class_of, class_number as class_number_of};
+
+use super::edits::EditFault;
+use scene_parts::Class;
+
+/// At most so many, or `Full`.
+pub(crate) fn at_most(class: Class, limit: u32, count: usize) -> Result<(), EditFault>
+    ensures value { result ≡ at_most_of class limit count }
+    ensures within { OnOk result (count ≤ limit) }
+{
+    if count > limit as usize {
+        return Err(EditFault::Full { class, limit });
+    }
+    Ok(())
+}
+
+/// Whether two classes are one.
+pub(crate) fn same_class(a: Class, b: Class) -> bool
+    ensures { result ≡ same_class_of a b }
+{
+    class_number(a) == class_number(b)
+}
+
+fn class_number(class: Class) -> u8
+    ensures { result ≡ class_number_of class }
+{
+    class as u8
+}
