@@ -19,9 +19,11 @@ echo 'timing: fix_interval enclose_log enclose_exp' >> crates.txt
 cat > crates/timing/src/main.rt <<'PROGRAM'
 #![tactic(auto)]
 
+ghost use Rattle.std.specs.Prelude.{◌≡◌, ◌<◌, ◌≤◌, ◌+◌, ◌^◌, pos, Some};
+
 use enclose_exp::{exp_neg, ten};
 use enclose_log::lg;
-use fix_interval::{Iv, add, div, exact, hull, mul, ratio, root};
+use fix_interval::{Iv, div, exact, mul, root};
 use std::io;
 use std::time::Instant;
 
@@ -34,11 +36,13 @@ fn next(seed: u64) -> u64 {
     seed ^ seed.wrapping_shl(17)
 }
 
-/// An interval of 1,000 units within these thousandths.
-fn thousandths(seed: u64, least: u32, spread: u32) -> Iv {
-    let low = i128::from(least) + i128::from(seed >> 20) % (i128::from(spread) + 1);
-    let value = ratio(low, 1_000);
-    hull(value, add(value, ratio(1_000, 4_294_967_296)))
+/// An interval of 1,000 units.
+fn interval(low: u64) -> Iv
+    requires positive { 1 ≤ low }
+    requires small { low < 2 ^ 50 }
+    ensures { result ≡ record { lo = Some (pos low); hi = Some (pos (low + 1000)) } }
+{
+    Iv::of_ends(Some(i128::from(low)), Some(i128::from(low + 1000)))
 }
 
 /// What is to be timed.
@@ -53,16 +57,16 @@ enum Call {
     Decay,
 }
 
-/// Operands as the map has them: distances in m, attenuations and levels in dB.
-fn call(what: Call, seed: u64) -> Iv {
+/// Operands as the map has them: distances of up to 4 km, attenuations and levels in bels and in nepers.
+fn result_of(what: Call, seed: u64) -> Iv {
     match what {
-        Call::Nothing => thousandths(seed, 1_000, 4_000_000),
-        Call::Product => mul(exact(20), thousandths(seed, 1_000, 4_000_000)),
-        Call::Quotient => div(thousandths(seed, 1_000, 4_000_000), exact(10)),
-        Call::SquareRoot => root(thousandths(seed, 1_000, 4_000_000_000)),
-        Call::Logarithm => lg(thousandths(seed, 1_000, 4_000_000)),
-        Call::PowerOfTen => ten(thousandths(seed, 1, 8_000)),
-        Call::Decay => exp_neg(thousandths(seed, 1, 4_000)),
+        Call::Nothing => interval((seed >> 20) + 1),
+        Call::Product => mul(exact(20), interval((seed >> 20) + 1)),
+        Call::Quotient => div(interval((seed >> 20) + 1), exact(10)),
+        Call::SquareRoot => root(interval((seed >> 20) + 1)),
+        Call::Logarithm => lg(interval((seed >> 20) + 1)),
+        Call::PowerOfTen => ten(interval(seed % (8 << 32) + 1)),
+        Call::Decay => exp_neg(interval(seed % (4 << 32) + 1)),
     }
 }
 
@@ -72,7 +76,7 @@ fn sum(what: Call) -> u128 {
     let mut total = 0u128;
     for _ in 0..CALLS {
         seed = next(seed);
-        let result = call(what, seed);
+        let result = result_of(what, seed);
         total ^= result.lo().unsigned_abs() ^ result.hi().unsigned_abs();
     }
     total
