@@ -1,22 +1,10 @@
 #!/bin/sh
-# Prints the time of a call of each operation on intervals, in nanoseconds. It makes a project outside the
-# repository, of the crates that the operations stand in and a small program over them, and builds the program as
-# `rt run` does: proved, and by LLVM. The first run proves these crates, which takes some minutes.
+# Prints the time of a call of each operation on intervals, in nanoseconds. The first run proves the crates that the
+# operations stand in, which takes some minutes.
 set -e
-root=$(cd "$(dirname "$0")/.." && pwd)
-work=$(mktemp -d)
-trap 'rm -rf "$work"' EXIT
-mkdir "$work/crates"
-for crate in fix_interval enclose_log enclose_exp; do
-    cp -r "$root/crates/$crate" "$work/crates/$crate"
-    rm -rf "$work/crates/$crate/must-fail" "$work/crates/$crate/out"
-done
-cd "$work"
-printf 'fix_interval:\nenclose_log: fix_interval\nenclose_exp: fix_interval\n' > crates.txt
-rt new crates/timing start_io > /dev/null
-rm -rf crates/timing/BUILD.bazel crates/timing/specs crates/timing/proofs crates/timing/src/* crates/timing/std*
-echo 'timing: fix_interval enclose_log enclose_exp' >> crates.txt
-cat > crates/timing/src/main.rt <<'PROGRAM'
+. "$(dirname "$0")/project.sh"
+begin timing fix_interval enclose_log enclose_exp
+cat > src/main.rt <<'PROGRAM'
 #![tactic(auto)]
 
 ghost use Rattle.std.specs.Prelude.{◌≡◌, ◌<◌, ◌≤◌, ◌+◌, ◌^◌, pos, Some};
@@ -99,6 +87,4 @@ fn main(rt: HostRuntime) -> io::Result<()> {
     time(&rt, "exp_neg", Call::Decay)
 }
 PROGRAM
-cd crates/timing
-rt run > run.log 2>&1 || { cat run.log; exit 1; }
-grep 'ns a call' run.log
+measure 'ns a call'

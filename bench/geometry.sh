@@ -1,20 +1,10 @@
 #!/bin/sh
 # Prints the time of a call of `crosses`, in picoseconds, over sides that don't cross a way and over
-# sides that do. It makes a project outside the repository, of crates/scene_geom and a small program
-# over it, and builds the program as `rt run` does: proved, and by LLVM.
+# sides that do.
 set -e
-root=$(cd "$(dirname "$0")/.." && pwd)
-work=$(mktemp -d)
-trap 'rm -rf "$work"' EXIT
-mkdir "$work/crates"
-cp -r "$root/crates/scene_geom" "$work/crates/scene_geom"
-rm -rf "$work/crates/scene_geom/must-fail" "$work/crates/scene_geom/out"
-cd "$work"
-echo 'scene_geom:' > crates.txt
-rt new crates/timing start_io > /dev/null
-rm -rf crates/timing/BUILD.bazel crates/timing/specs crates/timing/proofs crates/timing/src/* crates/timing/std*
-echo 'timing: scene_geom' >> crates.txt
-cat > crates/timing/src/main.rt <<'PROGRAM'
+. "$(dirname "$0")/project.sh"
+begin timing scene_geom
+cat > src/main.rt <<'PROGRAM'
 #![tactic(auto)]
 
 use scene_geom::{Pt, Side, crosses};
@@ -84,6 +74,4 @@ fn main(rt: HostRuntime) -> io::Result<()> {
     time(&rt, "sides that cross", true)
 }
 PROGRAM
-cd crates/timing
-rt run > run.log 2>&1 || { cat run.log; exit 1; }
-grep '^sides' run.log
+measure '^sides'

@@ -1,21 +1,9 @@
 #!/bin/sh
 # Prints how many turns a second 1, 2 and 4 threads take at one lock, whose machine is a counter.
-# It makes a project outside the repository, of crates/turn_lock and a small program over it, and builds the
-# program as `rt run` does: proved, and by LLVM.
 set -e
-root=$(cd "$(dirname "$0")/.." && pwd)
-work=$(mktemp -d)
-trap 'rm -rf "$work"' EXIT
-mkdir "$work/crates"
-cp -r "$root/crates/turn_lock" "$work/crates/turn_lock"
-rm -rf "$work/crates/turn_lock/must-fail" "$work/crates/turn_lock/out"
-cd "$work"
-cp "$root/HANDLES" HANDLES
-echo 'turn_lock may_wait=7 tests_may=Threads+Wait: atomic_table' > crates.txt
-rt new crates/turns start_io > /dev/null
-rm -rf crates/turns/BUILD.bazel crates/turns/specs crates/turns/proofs crates/turns/src/* crates/turns/std*
-echo 'turns: turn_lock' >> crates.txt
-cat > crates/turns/src/main.rt <<'PROGRAM'
+. "$(dirname "$0")/project.sh"
+begin turns turn_lock
+cat > src/main.rt <<'PROGRAM'
 #![tactic(auto)]
 
 ghost use Rattle.std.specs.Prelude.{◌≡◌};
@@ -133,14 +121,12 @@ fn main(rt: HostRuntime) -> io::Result<()> {
     Ok(())
 }
 PROGRAM
-mkdir -p crates/turns/proofs/work
-cat > crates/turns/proofs/work/Invariants.antt <<'PROOF'
+mkdir -p proofs/work
+cat > proofs/work/Invariants.antt <<'PROOF'
 use Rattle.std.proofs.Common.{◌≡◌}
 use Rattle.turns.proofs.work.Given as goal
 
 abbrev pub invariant-loop : goal.invariant-loop
 invariant-loop g l = l.seat.table ≡ l.initial.seat.table
 PROOF
-cd crates/turns
-rt run > "$work/log" 2>&1 || { cat "$work/log"; exit 1; }
-grep -A4 '^threads' "$work/log"
+measure -A 4 '^threads'
