@@ -9,10 +9,9 @@ use Rattle.fix_interval.specs.Units.{unit, unit-is}
 use Rattle.fix_interval.specs.Powers.{factorial_20, exponential_sum}
 use Rattle.fix_interval.specs.Roots.{one_factor, times_low, times_high, product}
 use Rattle.fix_interval.specs.ExpNeg.{inverse_e_low, inverse_e_high, whole_decay_low, whole_decay_high, decay_factor_low, decay_factor_high, decay_low, decay_high, exp_neg_low, exp_neg_high}
-use Rattle.enclose_exp.specs.declared.tables.TheConstants.{DECAY_LOW, DECAY_HIGH, WHOLE_LOW, WHOLE_HIGH}
-use Rattle.enclose_exp.specs.Digits.{factor_at}
+use Rattle.enclose_exp.specs.declared.tables.TheConstants.{WHOLE_LOW, WHOLE_HIGH}
 use Rattle.enclose_exp.proofs.Law.{pow-mul, one-pow, root_low-law, root_high-law, all_low-law, all_high-law}
-use Rattle.enclose_exp.proofs.TableLemmas.{whole_low-at, whole_high-at, decay_low-is, decay_high-is, decay_high-le, quotient_up-le}
+use Rattle.enclose_exp.proofs.TableLemmas.{whole_low-at, whole_high-at, decay_high-le, quotient_up-le}
 
 -- ---- the code's values
 
@@ -39,18 +38,18 @@ unfolding exp_neg_high
 exp_neg_high-past n large = rw (past-cut n large) refl
 
 pub low-made : (n p : ℕ) → n ≤ 23 * 2 ^ 32 →
-    p ≡ product times_low (factor_at DECAY_LOW) (get_or WHOLE_LOW (n / 2 ^ 32) 0) (n % 2 ^ 32) 32 → p ≡ decay_low n
+    p ≡ product times_low decay_factor_low (get_or WHOLE_LOW (n / 2 ^ 32) 0) (n % 2 ^ 32) 32 → p ≡ decay_low n
 unfolding decay_low
 low-made n p small made =
     let whole : n / 2 ^ 32 < 24 = omega (arith, small) in
-    rw (unit-is, made, decay_low-is (get_or WHOLE_LOW (n / 2 ^ 32) 0) (n % 2 ^ 32), whole_low-at (n / 2 ^ 32) whole) refl
+    rw (unit-is, made, whole_low-at (n / 2 ^ 32) whole) refl
 
 pub high-made : (n p : ℕ) → n ≤ 23 * 2 ^ 32 →
-    p ≡ product times_high (factor_at DECAY_HIGH) (get_or WHOLE_HIGH (n / 2 ^ 32) 0) (n % 2 ^ 32) 32 → p ≡ decay_high n
+    p ≡ product times_high decay_factor_high (get_or WHOLE_HIGH (n / 2 ^ 32) 0) (n % 2 ^ 32) 32 → p ≡ decay_high n
 unfolding decay_high
 high-made n p small made =
     let whole : n / 2 ^ 32 < 24 = omega (arith, small) in
-    rw (unit-is, made, decay_high-is (get_or WHOLE_HIGH (n / 2 ^ 32) 0) (n % 2 ^ 32), whole_high-at (n / 2 ^ 32) whole) refl
+    rw (unit-is, made, whole_high-at (n / 2 ^ 32) whole) refl
 
 -- ---- the law
 

@@ -7,6 +7,7 @@ pub mod Powers
 pub mod Products
 pub mod Roots
 pub mod Scaling
+pub mod Steps
 pub mod Shifted
 pub mod TableLemmas
 pub mod TenInterval

@@ -1,13 +1,8 @@
 -- Products of factors by their digits.
-use Rattle.std.proofs.Common.{◌≡◌, ℕ, zero, suc, ◌+◌, ◌*◌, ◌^◌, ◌<◌, ◌≤◌, ◌⊎◌, ◌==◌, Bool, true, false, cond, inl, inr, refl, ap, ◌∙◌, arith, rules, tests, List, [], ◌∷◌, length, get_or, drop}
-use Rattle.std.proofs.lemmas.Bool.{cases_lt, false≢true, eqb-true}
-use Rattle.std.specs.Prelude.{◌&&◌}
+use Rattle.std.proofs.Common.{◌≡◌, ℕ, zero, suc, ◌<◌, ◌≤◌, ◌⊎◌, ◌==◌, Bool, true, false, cond, inl, inr, refl, ◌∙◌, arith, rules, tests, List, [], ◌∷◌, length, get_or, drop}
+use Rattle.std.proofs.lemmas.Bool.{cases_lt}
 use Rattle.std.proofs.Math.Seq.{drop-cons}
-use Rattle.std.proofs.Math.Nat.{mul-div_cancel}
-use Rattle.std.specs.Int.{div_ceil}
-use Rattle.enclose_exp.proofs.Scaling.{div_ceil-whole}
-use Rattle.fix_interval.specs.Roots.{one_factor, times_low, times_high, digit_at, product}
-use Rattle.enclose_exp.specs.Digits.{ProductsFit, IsDigitTable, factor_at}
+use Rattle.fix_interval.specs.Roots.{digit_at, product}
 
 -- one more place
 pub product-suc : (times : ℕ → ℕ → ℕ) (factor : ℕ → ℕ) (start fraction place : ℕ) →
@@ -46,6 +41,15 @@ product-same times f g start fraction (suc count) same =
     let before = product-same times f g start fraction count (λ i h. same i (omega arith)) in
     rw (before, same count (omega arith)) refl
 
+-- fractions whose digits agree at each place give one product
+pub product-digits : (times : ℕ → ℕ → ℕ) (factor : ℕ → ℕ) (start a b count : ℕ) → ((i : ℕ) → i < count → digit_at a i ≡ digit_at b i) →
+    product times factor start a count ≡ product times factor start b count
+unfolding product
+product-digits times factor start a b zero same = refl
+product-digits times factor start a b (suc count) same =
+    let before = product-digits times factor start a b count (λ i h. same i (omega arith)) in
+    rw (before, same count (omega arith)) refl
+
 -- ---- factors that are at most 1: no product passes the start
 
 pub product-le_start : (times : ℕ → ℕ → ℕ) (factor : ℕ → ℕ) (start fraction count : ℕ) → ((p i : ℕ) → i < count → times p (factor i) ≤ p) →
@@ -58,13 +62,6 @@ product-le_start times factor start fraction (suc count) shrinks =
       | inl c ↦ omega (arith, c.1, before, step)
       | inr c ↦ omega (arith, c.1, before)
     ]
-
-pub fits-shrinking : (times : ℕ → ℕ → ℕ) (factor : ℕ → ℕ) (start fraction : ℕ) → start < 2 ^ 64 → ((p i : ℕ) → i < 32 → times p (factor i) ≤ p) →
-    ProductsFit times factor start fraction
-fits-shrinking times factor start fraction small shrinks place within =
-    let before = product-le_start times factor start fraction place (λ p i h. shrinks p i (omega arith)) in
-    let step = shrinks (product times factor start fraction place) place within in
-    omega (arith, before, step)
 
 -- ---- factors that are at least 1: no product passes the one of all of them
 
@@ -109,50 +106,6 @@ kept-all times least g xs start fraction (suc count) large within =
       | inr c ↦ rw c.1 (let step = monotone-all times least g (drop (suc count) xs) p (times p (get_or xs count 0)) (g.grows p (get_or xs count 0) (large count short)) in omega (arith, before, unfolded, step))
     ]
 
-pub fits-growing : (times : ℕ → ℕ → ℕ) (least : ℕ) → Grows times least → (xs : List ℕ) (start fraction : ℕ) → length xs ≡ 32 → ((i : ℕ) → i < length xs → least ≤ get_or xs i 0) → product_of_all times xs start < 2 ^ 64 →
-    ProductsFit times (λ i. get_or xs i 0) start fraction
-fits-growing times least g xs start fraction count large small place within =
-    let p = product times (λ i. get_or xs i 0) start fraction place in
-    let short : place < length xs = omega arith in
-    let before = kept-all times least g xs start fraction place large (omega arith) in
-    let split = drop-cons xs place 0 short in
-    let unfolded : product_of_all times (drop place xs) p ≡ product_of_all times (drop (suc place) xs) (times p (get_or xs place 0)) = rw split refl in
-    let step = grows-drop times least g xs (suc place) (times p (get_or xs place 0)) large in
-    omega (arith, before, unfolded, step, small)
-
--- one turn of the code: `entry` stands in the table at the place of the digit d
-pub turn-fits : (times : ℕ → ℕ → ℕ) (table : List ℕ) (start fraction place p d : ℕ) → ((q : ℕ) → times q one_factor ≡ q) → IsDigitTable table →
-    ProductsFit times (factor_at table) start fraction → place < 32 → p < 2 ^ 64 → p ≡ product times (factor_at table) start fraction place →
-    d ≡ digit_at fraction place → times p (get_or table (2 * place + d) 0) < 2 ^ 64
-turn-fits times table start fraction place p d whole ones fit within small before digit =
-    elim (cases_lt d 1) [
-      | inl none ↦ (let zero_digit : 2 * place + d ≡ 2 * place = omega arith in
-          let entry : get_or table (2 * place + d) 0 ≡ one_factor = ap (λ i. get_or table i 0) zero_digit ∙ ones place within in
-          rw (entry, whole p) small)
-      | inr some ↦ (let one_digit : 2 * place + d ≡ 2 * place + 1 = omega (arith, digit) in
-          rw (one_digit, before) (fit place within))
-    ]
-
-pub turn-is : (times : ℕ → ℕ → ℕ) (table : List ℕ) (start fraction place p d r : ℕ) → ((q : ℕ) → times q one_factor ≡ q) → IsDigitTable table →
-    place < 32 → p ≡ product times (factor_at table) start fraction place →
-    d ≡ digit_at fraction place → r ≡ times p (get_or table (2 * place + d) 0) → r ≡ product times (factor_at table) start fraction (place + 1)
-turn-is times table start fraction place p d r whole ones within before digit made =
-    let next : place + 1 ≡ suc place = omega arith in
-    elim (product-cases times (factor_at table) start fraction place) [
-      | inl c ↦ (let one_digit : 2 * place + d ≡ 2 * place + 1 = omega (arith, digit, c.0) in
-          rw (next, c.1) (made ∙ ap (λ i. times p (get_or table i 0)) one_digit ∙ ap (λ q. times q (factor_at table place)) before))
-      | inr c ↦ (let zero_digit : 2 * place + d ≡ 2 * place = omega (arith, digit, c.0) in
-          let entry : get_or table (2 * place + d) 0 ≡ one_factor = ap (λ i. get_or table i 0) zero_digit ∙ ones place within in
-          rw (next, c.1) (made ∙ ap (λ f. times p f) entry ∙ whole p ∙ before))
-    ]
-
--- a factor of 1 changes nothing
-pub times_low-one : (p : ℕ) → times_low p one_factor ≡ p
-times_low-one p = mul-div_cancel p (omega arith)
-
-pub times_high-one : (p : ℕ) → times_high p one_factor ≡ p
-times_high-one p = ap (λ n. div_ceil n one_factor) (omega arith) ∙ div_ceil-whole p one_factor (omega arith)
-
 -- no product passes the one of all factors
 pub product-le_all : (times : ℕ → ℕ → ℕ) (least : ℕ) → Grows times least → (xs : List ℕ) (start fraction count : ℕ) → ((i : ℕ) → i < length xs → least ≤ get_or xs i 0) → count ≤ length xs →
     product times (λ i. get_or xs i 0) start fraction count ≤ product_of_all times xs start
@@ -160,36 +113,3 @@ product-le_all times least g xs start fraction count large within =
     let kept = kept-all times least g xs start fraction count large within in
     let rest = grows-drop times least g xs count (product times (λ i. get_or xs i 0) start fraction count) large in
     omega (arith, kept, rest)
-
--- ---- the factors of the digit 1 of a table
-
--- every second entry
-abbrev pub seconds : List ℕ → List ℕ
-seconds [] = []
-seconds (x ∷ []) = []
-seconds (x ∷ (y ∷ xs)) = y ∷ seconds xs
-
-pub seconds-at : (xs : List ℕ) (i : ℕ) → get_or (seconds xs) i 0 ≡ get_or xs (2 * i + 1) 0
-seconds-at [] i = refl
-seconds-at (x ∷ []) i = (let e : 2 * i + 1 ≡ suc (2 * i) = omega arith in rw e refl)
-seconds-at (x ∷ (y ∷ xs)) zero = refl
-seconds-at (x ∷ (y ∷ xs)) (suc i) = (let e : 2 * suc i + 1 ≡ suc (suc (2 * i + 1)) = omega arith in rw e (seconds-at xs i))
-
--- the entries between them are all 1
-abbrev pub are_ones : List ℕ → Bool
-are_ones [] = true
-are_ones (x ∷ []) = x == one_factor
-are_ones (x ∷ (y ∷ xs)) = (x == one_factor) && are_ones xs
-
-both-true : (a b : Bool) → (a && b) ≡ true → (a ≡ true) × (b ≡ true)
-both-true true b h = (refl, h)
-both-true false b h = absurd (false≢true h)
-
-pub ones-at : (xs : List ℕ) (i : ℕ) → are_ones xs ≡ true → 2 * i < length xs → get_or xs (2 * i) 0 ≡ one_factor
-ones-at [] i all within = absurd (omega arith)
-ones-at (x ∷ []) zero all within = eqb-true x one_factor all
-ones-at (x ∷ []) (suc i) all within = absurd (omega arith)
-ones-at (x ∷ (y ∷ xs)) zero all within = eqb-true x one_factor (both-true (x == one_factor) (are_ones xs) all).0
-ones-at (x ∷ (y ∷ xs)) (suc i) all within =
-    let e : 2 * suc i ≡ suc (suc (2 * i)) = omega arith in
-    rw e (ones-at xs i (both-true (x == one_factor) (are_ones xs) all).1 (omega arith))

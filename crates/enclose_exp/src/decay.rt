@@ -1,11 +1,11 @@
-//! e to the power of the negative of an interval.
+//! e to the power of the negative of an interval, as ISO 9613-2 takes it in Table 3 and in equation (18).
 
 ghost use Rattle.std.specs.Prelude.{◌≡◌, ◌<◌, ◌≤◌, ◌*◌, ◌^◌, ◌≤ℤ◌, IsSomeAnd, min, pos, Some, unsigned_abs};
 ghost use Rattle.std.specs.Option.{option_map_or, ForSome};
 ghost use Rattle.fix_interval.specs.ExpNeg.{exp_neg_of, exp_neg_low, exp_neg_high, decay_low, decay_high};
 
-use crate::product::{Start, products, units_up};
-use crate::tables::{DECAY_HIGH, DECAY_LOW, WHOLE_HIGH, WHOLE_LOW};
+use crate::product::{shrunk_down, shrunk_up, taken, units_up};
+use crate::tables::{LOSSES_HIGH, LOSSES_LOW, WHOLE_HIGH, WHOLE_LOW};
 use fix_interval::Iv;
 
 /// The exponent 23, from which on a decay is less than the least end above 0.
@@ -46,15 +46,15 @@ fn decays(low: u64, high: u64) -> (u64, u64)
     ensures low { result.0 ≡ decay_low low }
     ensures high { result.1 ≡ decay_high high }
 {
-    let low = Start {
-        factor: WHOLE_LOW[(low >> 32) as usize],
-        fraction: (low % (1 << 32)) as u32,
-    };
-    let high = Start {
-        factor: WHOLE_HIGH[(high >> 32) as usize],
-        fraction: (high % (1 << 32)) as u32,
-    };
-    products(&DECAY_LOW, &DECAY_HIGH, low, high)
+    let mut down = WHOLE_LOW[(low >> 32) as usize];
+    let mut up = WHOLE_HIGH[(high >> 32) as usize];
+    let low_fraction = (low % (1 << 32)) as u32;
+    let high_fraction = (high % (1 << 32)) as u32;
+    for place in 0..32usize {
+        down = shrunk_down(down, taken(LOSSES_LOW[place], low_fraction, place));
+        up = shrunk_up(up, taken(LOSSES_HIGH[place], high_fraction, place));
+    }
+    (down, up)
 }
 
 /// The low end of a decay, which is `product` in units of 2^-60.

@@ -2,14 +2,16 @@
 //! them.
 //!
 //! ISO 9613-2 adds levels as powers of ten. A power is a product of square roots of square roots, one for
-//! each binary digit of its exponent; the roots stand in tables that are proved to be what they should be,
-//! so a digit costs one 64-bit product and a shift. `laws` says that the values enclose the powers.
+//! each binary digit of its exponent. The roots stand in tables that are proved to be what they should be, by
+//! how far each lies from 1, so a digit costs the upper half of one 64-bit product; what the first eight digits
+//! of a power of ten give stands in tables too. `laws` says that the values enclose the powers.
 #![tactic(auto)]
 
 mod decay;
 pub mod laws;
 mod power;
 mod product;
+mod starts;
 mod tables;
 
 pub use decay::exp_neg;

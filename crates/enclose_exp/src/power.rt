@@ -5,8 +5,9 @@ ghost use Rattle.std.specs.Option.{option_map_or};
 ghost use Rattle.fix_interval.specs.Ten.{ten_of, raised_low, raised_high, fraction_low, fraction_high};
 ghost use Rattle.enclose_exp.specs.Exponent.{counted, low_value, high_value};
 
-use crate::product::{Start, products, units_up};
-use crate::tables::{ONE, POWERS_OF_TEN, TEN_HIGH, TEN_LOW};
+use crate::product::{grown_down, grown_up, taken, units_up};
+use crate::starts::{STARTS_HIGH, STARTS_LOW};
+use crate::tables::{GROWTHS_HIGH, GROWTHS_LOW, POWERS_OF_TEN};
 use fix_interval::Iv;
 
 /// The exponent 20, from which on the low end stays and the high end is unbounded.
@@ -19,7 +20,7 @@ const GREATEST_COUNTED: u64 = 40 << 32;
 const LEAST_COUNTED: u64 = 1 << 32;
 
 /// Ten to the power of an interval, end by end: the low end rounded down and the high end rounded up to
-/// 2^-32. ISO 9613-2 adds levels by it, in equations (5) and (6). The low end is bounded and not below 0;
+/// 2^-32. ISO 9613-2 adds levels by it, in equation (5). The low end is bounded and not below 0;
 /// the high end is above 0, and is unbounded where the exponent may reach 20.
 pub fn ten(a: Iv) -> Iv
     ensures value { result ≡ ten_of a }
@@ -45,20 +46,18 @@ fn exponent(end: Option<i128>, unbounded: u64) -> u64
 }
 
 /// Ten to the power of two fractions of 2^-32nds, in units of 2^-60, of the first rounded down and of the
-/// second rounded up.
+/// second rounded up. Their first eight digits are looked up, and the others are taken side by side.
 fn fractions(low: u32, high: u32) -> (u64, u64)
     ensures low { result.0 ≡ fraction_low low }
     ensures high { result.1 ≡ fraction_high high }
 {
-    let low = Start {
-        factor: ONE,
-        fraction: low,
-    };
-    let high = Start {
-        factor: ONE,
-        fraction: high,
-    };
-    products(&TEN_LOW, &TEN_HIGH, low, high)
+    let mut down = STARTS_LOW[(low >> 24) as usize];
+    let mut up = STARTS_HIGH[(high >> 24) as usize];
+    for place in 8..32usize {
+        down = grown_down(down, taken(GROWTHS_LOW[place - 8], low, place));
+        up = grown_up(up, taken(GROWTHS_HIGH[place - 8], high, place));
+    }
+    (down, up)
 }
 
 /// The low end of a power, of which `fraction` is the power of the fraction.

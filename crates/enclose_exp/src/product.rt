@@ -1,65 +1,56 @@
-//! Products of factors, in units of 2^-60.
+//! One step of a product of factors, which are in units of 2^-60. A factor is given by how far it lies from 1, in units
+//! of 2^-64, so that a step is the upper half of one 64-bit product.
 
-ghost use Rattle.std.specs.Prelude.{◌≡◌, ◌<◌, ◌*◌, ◌^◌};
+ghost use Rattle.std.specs.Prelude.{◌≡◌, ◌<◌, ◌+◌, ◌-◌, ◌*◌, ◌/◌, ◌^◌};
 ghost use Rattle.std.specs.Int.{div_ceil};
-ghost use Rattle.fix_interval.specs.Roots.{times_low, times_high, digit_at, product};
-ghost use Rattle.enclose_exp.specs.Digits.{IsDigitTable, ProductsFit, factor_at};
+ghost use Rattle.fix_interval.specs.Roots.{digit_at};
 
-use crate::tables::ONE;
+/// All ones.
+const ONES: u128 = u64::MAX as u128;
 
-/// A product to be made: the factor that it starts from, and a fraction of 2^-32nds, whose binary digits say
-/// which factors of a table it takes.
-#[derive(Clone, Copy, Drop)]
-pub(crate) struct Start {
-    pub(crate) factor: u64,
-    pub(crate) fraction: u32,
-}
-
-/// Two products side by side: of the first the factors of the table `below`, rounded down, and of the second
-/// those of the table `above`, rounded up. A digit 0 multiplies by one, so that no branch depends on it.
-pub(crate) fn products(below: &[u64; 64], above: &[u64; 64], low: Start, high: Start) -> (u64, u64)
-    requires below { IsDigitTable below.now }
-    requires above { IsDigitTable above.now }
-    requires low_fits { ProductsFit times_low (factor_at below.now) low.factor low.fraction }
-    requires high_fits { ProductsFit times_high (factor_at above.now) high.factor high.fraction }
-    ensures low { result.0 ≡ product times_low (factor_at below.now) low.factor low.fraction 32 }
-    ensures high { result.1 ≡ product times_high (factor_at above.now) high.factor high.fraction 32 }
-{
-    let mut down = low.factor;
-    let mut up = high.factor;
-    for place in 0..32usize {
-        down = times_down(down, below[2 * place + digit(low.fraction, place)]);
-        up = times_up(up, above[2 * place + digit(high.fraction, place)]);
-    }
-    (down, up)
-}
-
-/// The binary digit at a place of a fraction.
+/// A factor's distance from 1 where the digit at this place of a fraction is 1, and 0 where it is 0. No branch depends
+/// on the digit, which is as good as random.
 #[inline(always)]
-fn digit(fraction: u32, place: usize) -> usize
+pub(crate) fn taken(distance: u64, fraction: u32, place: usize) -> u64
     requires { place < 32 }
-    ensures value { result ≡ digit_at fraction place }
-    ensures binary { result < 2 }
+    ensures { result ≡ distance * digit_at fraction place }
 {
-    ((fraction >> (31 - place)) % 2) as usize
+    distance & 0u64.wrapping_sub(u64::from((fraction >> (31 - place)) % 2))
 }
 
-/// Two factors multiplied, rounded down.
+/// A product and a factor above 1, multiplied and rounded down.
 #[inline(always)]
-fn times_down(product: u64, factor: u64) -> u64
-    requires { times_low product factor < 2 ^ 64 }
-    ensures { result ≡ times_low product factor }
+pub(crate) fn grown_down(product: u64, growth: u64) -> u64
+    requires { product + product * growth / 2 ^ 64 < 2 ^ 64 }
+    ensures { result ≡ product + product * growth / 2 ^ 64 }
 {
-    ((u128::from(product) * u128::from(factor)) >> 60) as u64
+    product + ((u128::from(product) * u128::from(growth)) >> 64) as u64
 }
 
-/// Two factors multiplied, rounded up.
+/// A product and a factor above 1, multiplied and rounded up.
 #[inline(always)]
-fn times_up(product: u64, factor: u64) -> u64
-    requires { times_high product factor < 2 ^ 64 }
-    ensures { result ≡ times_high product factor }
+pub(crate) fn grown_up(product: u64, growth: u64) -> u64
+    requires { product + div_ceil (product * growth) (2 ^ 64) < 2 ^ 64 }
+    ensures { result ≡ product + div_ceil (product * growth) (2 ^ 64) }
 {
-    ((u128::from(product) * u128::from(factor) + (u128::from(ONE) - 1)) >> 60) as u64
+    let more = u128::from(product) * u128::from(growth);
+    ((u128::from(product) * (1 << 64) + ONES + more) >> 64) as u64
+}
+
+/// A product and a factor below 1, multiplied and rounded down.
+#[inline(always)]
+pub(crate) fn shrunk_down(product: u64, loss: u64) -> u64
+    ensures { result ≡ product - div_ceil (product * loss) (2 ^ 64) }
+{
+    product - ((u128::from(product) * u128::from(loss) + ONES) >> 64) as u64
+}
+
+/// A product and a factor below 1, multiplied and rounded up.
+#[inline(always)]
+pub(crate) fn shrunk_up(product: u64, loss: u64) -> u64
+    ensures { result ≡ product - product * loss / 2 ^ 64 }
+{
+    product - ((u128::from(product) * u128::from(loss)) >> 64) as u64
 }
 
 /// A factor in units of 2^-32, rounded up.

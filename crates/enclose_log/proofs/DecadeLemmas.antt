@@ -108,3 +108,11 @@ mantissa_high-within n k d =
     let least : one_mantissa < div_ceil (10 ^ 10 * n * 2 ^ 26) (10 ^ k) + 1 =
     lt_of_mul-lt-mul_right (10 ^ k) (omega (arith, d.reached, bounds.0, above)) in
     (omega (arith, least), omega (arith, below))
+
+-- a power of ten that fits 32 bits has an exponent below 10
+pub exponent-narrow : (p i : ℕ) → p ≡ 10 ^ i → p < 2 ^ 32 → i < 10
+exponent-narrow p i e small =
+    elim (cases_lt i 10) [
+      | inl below ↦ below
+      | inr past ↦ (let large : 10 ^ 10 ≤ 10 ^ i = pow-le-pow_right {n = 10} (omega arith) past in absurd (omega arith))
+    ]

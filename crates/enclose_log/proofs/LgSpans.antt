@@ -1,11 +1,11 @@
 -- The logarithm of a bounded quantity that counts as 1 at least is not negative, and bounded.
-use Rattle.std.proofs.Common.{◌≡◌, ℕ, ◌*◌, ◌≤◌, ◌^◌, ℤ, pos, ◌≤ℤ◌, unsigned_abs, Option, refl, sym, ap, ◌∙◌, subst, arith}
+use Rattle.std.proofs.Common.{◌≡◌, ◌*◌, ◌^◌, ℤ, pos, ◌≤ℤ◌, unsigned_abs, Option, refl, sym, ap, ◌∙◌, subst, arith}
 use Rattle.std.specs.Prelude.{Some, None, IsSomeAnd, IfSome}
 use Rattle.std.specs.Int.{int_max}
 use Rattle.std.proofs.lemmas.Int.{ints, clamps}
 use Rattle.fix_interval.specs.Interval.{Interval, IsInterval}
 use Rattle.fix_interval.specs.Values.{ratio_of, max_of}
-use Rattle.fix_interval.specs.Lg.{lg_of, lg_low, lg_high}
+use Rattle.fix_interval.specs.Lg.{lg_of, lg_high}
 use Rattle.fix_interval.proofs.Spans.{at_least_one-high, Span, span-of}
 use Rattle.enclose_log.proofs.LgInterval.{made-bounded, lg_of-interval}
 

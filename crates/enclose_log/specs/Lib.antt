@@ -1,1 +1,2 @@
 pub mod Decade
+pub mod Turn

@@ -1,7 +1,8 @@
 //! The binary digits of a logarithm, one a turn.
 
 ghost use Rattle.std.specs.Prelude.{◌≡◌, ◌<◌, ◌≤◌, ◌+◌, ◌*◌, ◌^◌, if◌then◌else◌};
-ghost use Rattle.fix_interval.specs.Lg.{LgTurn, turn_low, turn_high, one_mantissa, digits_low, digits_high, rounded_up};
+ghost use Rattle.fix_interval.specs.Lg.{turn_low, turn_high, one_mantissa, digits_low, digits_high, rounded_up};
+ghost use Rattle.enclose_log.specs.Turn.{mantissa_over, reaches_ten};
 
 use std::marker::Model;
 
@@ -11,15 +12,15 @@ const ONE: u64 = 1 << 58;
 /// The least 64 bits of a number.
 const WORD: u128 = u64::MAX as u128;
 
-/// Where the digits stand between two turns: the mantissa, from 1 to 10 in units of 2^-58, whose logarithm
-/// is still to be found, and the digits so far.
+/// Where the digits of a low end stand between two turns: the mantissa, from 1 to 10 in units of 2^-58, whose
+/// logarithm is still to be found, and the digits so far.
 #[derive(Clone, Copy, Drop)]
-struct Turn {
+struct Low {
     mantissa: u64,
     digits: u64,
 }
 
-impl Model for Turn {
+impl Model for Low {
     ghost use Rattle.fix_interval.specs.Lg.{LgTurn};
 
     ghost Value = { LgTurn };
@@ -29,48 +30,55 @@ impl Model for Turn {
     ghost inverse = { λ t. record { mantissa = t.mantissa; digits = t.digits } };
 }
 
-impl Turn {
-    /// The next digit, rounded down. Half the square reaches five where the square reaches ten, and fits
-    /// 64 bits where the square doesn't.
+impl Low {
+    /// The next digit, rounded down.
     #[inline(always)]
-    fn next_low(self) -> Turn
+    fn next(self) -> Low
         requires mantissa { self.mantissa < 10 * one_mantissa }
         requires digits { self.digits < 2 ^ 32 }
         ensures { result ≡ turn_low self }
     {
         let square = u128::from(self.mantissa) * u128::from(self.mantissa);
-        let half = (square >> 59) as u64;
-        let tenth = half / 5;
-        let whole = ((square >> 58) & WORD) as u64;
-        let one = half >= 5 * ONE;
-        self.followed_by(one, choose(one, tenth, whole))
+        let (mantissa, one) = over_one_or_ten(square);
+        Low {
+            mantissa,
+            digits: with_digit(self.digits, one),
+        }
     }
+}
 
-    /// The next digit, rounded up.
+/// The same of a high end. It keeps the number below its mantissa, since a quotient rounded up is one more than that
+/// of the number below, rounded down.
+#[derive(Clone, Copy, Drop)]
+struct High {
+    below: u64,
+    digits: u64,
+}
+
+impl Model for High {
+    ghost use Rattle.std.specs.Prelude.{◌+◌, ◌-◌};
+    ghost use Rattle.fix_interval.specs.Lg.{LgTurn};
+
+    ghost Value = { LgTurn };
+
+    ghost view = { λ t. record { mantissa = t.below + 1; digits = t.digits } };
+
+    ghost inverse = { λ t. record { below = t.mantissa - 1; digits = t.digits } };
+}
+
+impl High {
+    /// The next digit, rounded up. The number below the square of a mantissa is the product of the numbers beside it.
     #[inline(always)]
-    fn next_high(self) -> Turn
+    fn next(self) -> High
         requires mantissa { self.mantissa ≤ 10 * one_mantissa }
         requires digits { self.digits < 2 ^ 32 }
         ensures { result ≡ turn_high self }
     {
-        let square = u128::from(self.mantissa) * u128::from(self.mantissa);
-        let half = ((square + ((1 << 59) - 1)) >> 59) as u64;
-        let tenth = (half + 4) / 5;
-        let whole = (((square + ((1 << 58) - 1)) >> 58) & WORD) as u64;
-        let one = half > 5 * ONE;
-        self.followed_by(one, choose(one, tenth, whole))
-    }
-
-    /// After one more digit, with the mantissa that it leaves.
-    #[inline(always)]
-    fn followed_by(self, one: bool, mantissa: u64) -> Turn
-        requires { self.digits < 2 ^ 32 }
-        ensures { result
-            ≡ record { mantissa = mantissa; digits = 2 * self.digits + (if one then 1 else 0) } }
-    {
-        Turn {
-            mantissa,
-            digits: 2 * self.digits + u64::from(one),
+        let below_square = u128::from(self.below) * u128::from(self.below + 2);
+        let (below, one) = over_one_or_ten(below_square);
+        High {
+            below,
+            digits: with_digit(self.digits, one),
         }
     }
 
@@ -79,8 +87,31 @@ impl Turn {
         requires { self.digits < 2 ^ 32 }
         ensures { result ≡ rounded_up self }
     {
-        self.digits + u64::from(self.mantissa != ONE)
+        self.digits + u64::from(self.below != ONE - 1)
     }
+}
+
+/// The digits and one more.
+#[inline(always)]
+fn with_digit(digits: u64, one: bool) -> u64
+    requires { digits < 2 ^ 32 }
+    ensures { result ≡ 2 * digits + (if one then 1 else 0) }
+{
+    2 * digits + u64::from(one)
+}
+
+/// A product of two mantissas as a mantissa, rounded down, over 10 where it reaches that, and whether it does. Half
+/// the product fits 64 bits where the product doesn't.
+#[inline(always)]
+fn over_one_or_ten(product: u128) -> (u64, bool)
+    requires { product < 100 * one_mantissa * one_mantissa }
+    ensures quotient { result.0 ≡ mantissa_over product }
+    ensures ten { result.1 ≡ reaches_ten product }
+{
+    let half = (product >> 59) as u64;
+    let whole = ((product >> 58) & WORD) as u64;
+    let ten = (product >> 64) as u64 >= 10 << 52;
+    (choose(ten, half / 5, whole), ten)
 }
 
 /// One of two numbers, without a branch: which one is as good as random here, so a branch would often be
@@ -104,17 +135,17 @@ pub(crate) fn digits(low: u64, high: u64) -> (u64, u64)
     ensures high { result.1 ≡ rounded_up (digits_high high) }
     ensures high_bound { result.1 ≤ 2 ^ 32 }
 {
-    let mut down = Turn {
+    let mut down = Low {
         mantissa: low,
         digits: 0,
     };
-    let mut up = Turn {
-        mantissa: high,
+    let mut up = High {
+        below: high - 1,
         digits: 0,
     };
     for _turn in 0..32u32 {
-        down = down.next_low();
-        up = up.next_high();
+        down = down.next();
+        up = up.next();
     }
     (down.digits, up.rounded_up())
 }

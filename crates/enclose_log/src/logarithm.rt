@@ -9,7 +9,7 @@ use fix_interval::Iv;
 
 /// The common logarithm of an interval that lies above 0, end by end: the low end rounded down and the
 /// high end rounded up to 2^-32. An unbounded high end stays so. The levels of ISO 9613-2, as in equations
-/// (5), (7) and (14), are ten times it.
+/// (5), (7) and (14), are ten or twenty times it.
 ///
 /// Bounded ends are from -10 to 29, and from 1 on no logarithm is negative.
 pub fn lg(a: Iv) -> Iv

@@ -1,4 +1,4 @@
--- Energies of levels, and levels of sums of energies (ISO 9613-2, equations 5 and 6).
+-- Energies of levels, and levels of sums of energies (ISO 9613-2, equation 5).
 use Rattle.std.specs.Prelude.{ℕ, pos}
 use Rattle.fix_interval.specs.Tree.{Tree, Const, Mul, Div, Max, Lg, Ten}
 

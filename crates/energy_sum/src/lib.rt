@@ -1,4 +1,4 @@
-//! Energies of levels, their exact sums, and levels of sums (ISO 9613-2, equations 5 and 6), as enclosing intervals.
+//! Energies of levels, their exact sums, and levels of sums (ISO 9613-2, equation 5), as enclosing intervals.
 #![tactic(auto)]
 
 mod laws;
@@ -17,7 +17,7 @@ pub use laws::every_formula_is_enclosed;
 pub use sum::Sum;
 
 /// The energy of a level in dB, as a ratio: 10 to the power of a tenth of it (ISO 9613-2, equation 5). It isn't below 0.
-/// Where the level is from -2^29 dB to 199 dB, the energy is below 7 · 10^29 units of 2^-32.
+/// Where the level is from -2^29 dB to 199 dB, the energy is at most 7 · 10^29 units of 2^-32.
 pub fn energy(level: Iv) -> Iv
     ensures value { result ≡ enc (energy_form (Known level)) }
     ensures low { IsSomeAnd result.lo (λ z. pos 0 ≤ℤ z) }

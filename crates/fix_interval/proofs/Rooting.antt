@@ -1,5 +1,5 @@
 -- Lemmas on square roots rounded down and up.
-use Rattle.std.proofs.Common.{◌≡◌, ℕ, zero, suc, ◌+◌, ◌-◌, ◌*◌, ◌<◌, ◌≤◌, ◌^◌, ℤ, pos, negsuc, ◌≤ℤ◌, arith, refl, ap, ◌∙◌, true, false, to_z, of_z}
+use Rattle.std.proofs.Common.{◌≡◌, ℕ, zero, suc, ◌+◌, ◌-◌, ◌*◌, ◌<◌, ◌≤◌, ◌^◌, ℤ, pos, negsuc, ◌≤ℤ◌, arith, refl, ap, ◌∙◌, true, false, to_z}
 use Rattle.std.specs.Prelude.{unsigned_abs, nat_le, Some, None, Option, Bool, if◌then◌else◌, ◌⊎◌}
 use Rattle.std.proofs.Common.{inl, inr}
 use Rattle.std.proofs.lemmas.Bool.{cases_lt}
@@ -11,7 +11,7 @@ use Rattle.fix_interval.specs.Units.{unit, unit-is}
 use Rattle.fix_interval.specs.Round.{floor_root, ceil_root}
 use Rattle.fix_interval.specs.Values.{low_radicand, root_of_high, is_below_zero, root_of}
 use Rattle.fix_interval.proofs.Intervals.{IsInterval-All}
-use Rattle.fix_interval.proofs.Ratios.{nat_lt-yes, nat_lt-no, passed}
+use Rattle.fix_interval.proofs.Ratios.{nat_lt-yes, nat_lt-no}
 
 -- ---- the root rounded down
 
@@ -81,6 +81,17 @@ ceil_root-above n = above_by (cases_lt (floor_root n * floor_root n) n) where
       let exact : floor_root n * floor_root n ≡ n = omega (arith, floor_root-below n) in
       rw (ceil_root-exact n (floor_root n) refl exact) h
 
+-- the root of a number above a square and up to the next is that of the next
+pub ceil_root-next : (n r : ℕ) → r * r < n → n ≤ (r + 1) * (r + 1) → ceil_root n ≡ r + 1
+ceil_root-next n r h k = next_by (cases_lt n ((r + 1) * (r + 1))) where
+  next_by : (n < (r + 1) * (r + 1)) ⊎ ((r + 1) * (r + 1) ≤ n) → ceil_root n ≡ r + 1
+  next_by (inl l) = ceil_root-inexact n r (floor_root-unique n r (omega arith) l) h
+  next_by (inr l) =
+      ceil_root-exact n (r + 1) (floor_root-unique n (r + 1) l (omega arith)) (omega arith)
+
+pub ceil_root-square : (n r : ℕ) → n ≡ r * r → ceil_root n ≡ r
+ceil_root-square n r e = ceil_root-exact n r (floor_root-unique n r (omega arith) (omega arith)) (omega arith)
+
 -- ---- ends
 
 units-small_radicand : (x : ℕ) → x < 2 ^ 95 → x * unit < 2 ^ 127
@@ -149,14 +160,9 @@ IsInterval-root_of a i = root_by (is_below_zero a.hi) refl where
   root_by true h = rw (root_of-below_zero a h) IsInterval-All
   root_by false h = rw (root_of-roots a h) (IsInterval-roots a i)
 
--- the low root as the code passes it
-pub low_root_passed : (low low' : Option ℤ) (r : ℤ) → low' ≡ low → r ≡ pos (floor_root (low_radicand low' * unit)) → to_z w128 (of_z w128 r) ≡ pos (floor_root (low_radicand low * unit))
-low_root_passed low low' r same is =
-    rw (is, same, passed (pos (floor_root (low_radicand low * unit))) (omega (arith, low_root-small low)))
-
-pub low_root_found : (x n r : ℕ) → n ≡ x → r * r ≤ n * 2 ^ 32 → n * 2 ^ 32 < (r + 1) * (r + 1) → r < 2 ^ 64 → to_z w128 r ≡ pos (floor_root (x * unit))
-low_root_found x n r e h k small =
-    rw (unit-is, ← e, floor_root-unique (n * 2 ^ 32) r h k) (to_z_pos w128 r (omega arith))
+-- the root of a low end as a number with sign
+pub low_root_signed : (low : Option ℤ) → to_z w128 (floor_root (low_radicand low * unit)) ≡ pos (floor_root (low_radicand low * unit))
+low_root_signed low = to_z_pos w128 (floor_root (low_radicand low * unit)) (omega (arith, low_root-small low))
 
 pub high_root_found : (end : ℤ) (r : ℕ) → pos 0 ≤ℤ end → unsigned_abs end < 2 ^ 95 → r ≡ ceil_root (unsigned_abs end * 2 ^ 32) → r ≤ 2 ^ 64 → Some (to_z w128 r) ≡ root_of_high (Some end)
 high_root_found (negsuc n) r positive h e small = absurd (omega (arith, ints))

@@ -137,3 +137,16 @@ floor_of-scaled (negsuc a) m u h k =
 pub ceil_of-scaled : (x : ℤ) (m u : ℕ) → 0 < m → 0 < u → ceil_of (x *ℤ pos u) (m * u) ≡ ceil_of x m
 ceil_of-scaled x m u h k =
     ap (λ (z : ℤ). neg_ℤ (floor_of z (m * u))) (sym (neg_ℤ-*ℤ x u)) ∙ ap neg_ℤ (floor_of-scaled (neg_ℤ x) m u h k)
+
+-- ---- in two steps
+
+-- the quotient of all but the last places of a number, and then that of the remainder and those
+pub div-parts : (n d b : ℕ) → 0 < d → 0 < b → n / b / d * b + (n / b % d * b + n % b) / d ≡ n / d
+div-parts n d b h k =
+    let whole : n / b * b + n % b ≡ n = div-add-mod' n b in
+    let upper : n / b / d * d + n / b % d ≡ n / b = div-add-mod' (n / b) d in
+    let parts : (n / b / d * d + n / b % d) * b ≡ n / b * b = ap (λ (z : ℕ). z * b) upper in
+    let rest = n / b % d * b + n % b in
+    sym (div-eq_of_lt-le {k = n / b / d * b + rest / d} d {m = n}
+    (omega (arith, div-mul-le_self rest d))
+    (omega (arith, lt-div-mul-add {a = rest} {b = d} h)))

@@ -1,20 +1,19 @@
 -- Products, sums and quotients of intervals that aren't negative, and bounds on their ends.
-use Rattle.std.proofs.Common.{◌≡◌, ℕ, ◌+◌, ◌*◌, ◌<◌, ◌≤◌, ◌^◌, ℤ, pos, negsuc, ◌+ℤ◌, ◌*ℤ◌, ◌≤ℤ◌, ◌<ℤ◌, unsigned_abs, Option, refl, sym, ap, ◌∙◌, subst, arith, lit<}
-use Rattle.std.specs.Prelude.{Some, None, IsSomeAnd, IfSome}
-use Rattle.std.specs.Int.{int_max, int_min}
+use Rattle.std.proofs.Common.{◌≡◌, ℕ, ◌*◌, ◌<◌, ◌^◌, ℤ, pos, negsuc, ◌*ℤ◌, ◌≤ℤ◌, ◌<ℤ◌, unsigned_abs, Option, refl, sym, ap, subst, arith, lit<}
+use Rattle.std.specs.Prelude.{Some, None, IsSomeAnd}
+use Rattle.std.specs.Int.{int_max}
 use Rattle.std.proofs.lemmas.Int.{ints, clamps}
 use Rattle.std.proofs.Math.IntN.{*ℤ-zero}
 use Rattle.fix_interval.specs.Units.{unit, unit-is}
-use Rattle.fix_interval.specs.Interval.{Interval, IsInterval, IsOrdered, All}
-use Rattle.fix_interval.specs.Round.{floor_of, ceil_of, floor_quotient, ceil_quotient}
-use Rattle.fix_interval.specs.Values.{ratio_of, add_of, sum_of_ends, end_of, mul_of, div_of, max_of, greater_low, greater_high, on_ends, product_of_ends, least_of, greatest_of, least_product, greatest_product, rounded_outward, quotient_of_ends}
-use Rattle.fix_interval.specs.Bounds.{IsBetween, AreBetween}
-use Rattle.fix_interval.proofs.Ratios.{ratio_of-one, nat_lt-yes}
+use Rattle.fix_interval.specs.Interval.{Interval, IsOrdered}
+use Rattle.fix_interval.specs.Round.{floor_of, ceil_of}
+use Rattle.fix_interval.specs.Values.{ratio_of, end_of, mul_of, max_of, greater_low, greater_high, product_of_ends, least_of, greatest_of, rounded_outward}
+use Rattle.fix_interval.proofs.Ratios.{ratio_of-one}
 use Rattle.fix_interval.proofs.Ends.{on_ends-bounded}
 use Rattle.fix_interval.proofs.Rounding.{floor_of-mono, ceil_of-mono, floor_of-le-ceil_of}
 use Rattle.fix_interval.proofs.Multiplying.{times-mono, times-mono_right, end_of-small, least_of-le-greatest_of}
 use Rattle.fix_interval.proofs.Order.{int_min-keeps, int_max-keeps}
-use Rattle.fix_interval.proofs.Dividing.{quotient_of_ends-positive, ≤ℤ_trans, units-mono, units-not_negative}
+use Rattle.fix_interval.proofs.Dividing.{≤ℤ_trans}
 
 -- ---- at least one
 

@@ -1,4 +1,4 @@
--- e to the power of the negative of an interval.
+-- e to the power of the negative of an interval, as ISO 9613-2 takes it in Table 3 and in equation (18).
 use Rattle.std.specs.Prelude.{ℕ, zero, suc, ◌*◌, ◌/◌, ◌%◌, ◌^◌, nat_le, if◌then◌else◌, pos, unsigned_abs, Some}
 use Rattle.std.specs.Int.{div_ceil}
 use Rattle.std.specs.Option.{option_map, option_map_or}

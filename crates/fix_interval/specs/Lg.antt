@@ -1,5 +1,5 @@
--- The common logarithm of an interval. ISO 9613-2 takes ten times it wherever a level is made of a ratio,
--- as in equations (5), (7) and (14). A logarithm is its decade and then binary digits: the square of a
+-- The common logarithm of an interval. ISO 9613-2 takes ten or twenty times it wherever a level is made of a
+-- ratio, as in equations (5), (7) and (14). A logarithm is its decade and then binary digits: the square of a
 -- number has twice its logarithm, so a digit is 1 where the square reaches ten.
 use Rattle.std.specs.Prelude.{ℕ, zero, suc, ◌+◌, ◌*◌, ◌/◌, ◌^◌, ◌≤◌, nat_le, nat_lt, ◌==◌, Bool, if◌then◌else◌, ℤ, pos, negsuc, ◌-ℤ◌, int_le, unsigned_abs, Option, Some, None, false}
 use Rattle.std.specs.Int.{div_ceil}

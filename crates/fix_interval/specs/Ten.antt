@@ -1,4 +1,4 @@
--- Ten to the power of an interval. ISO 9613-2 adds levels by it, in equations (5) and (6).
+-- Ten to the power of an interval. ISO 9613-2 adds levels by it, in equation (5).
 use Rattle.std.specs.Prelude.{ℕ, suc, ◌*◌, ◌/◌, ◌%◌, ◌^◌, if◌then◌else◌, ℤ, pos, neg_ℤ, ◌+ℤ◌, int_le, int_lt, unsigned_abs, Option, Some, None, option_and_then}
 use Rattle.std.specs.Int.{div_ceil}
 use Rattle.std.specs.Option.{option_map_or}

@@ -1,14 +1,17 @@
 //! Intervals of fixed-point numbers that enclose every quantity of the calculation.
 #![tactic(auto)]
 
+mod estimates;
 mod iv;
 mod laws;
 mod products;
 mod quotients;
 mod roots;
 mod span;
+mod square_root;
 mod truth;
 mod values;
+mod whole_quotient;
 
 pub use iv::{Iv, OPEN_HI, OPEN_LO};
 pub use laws::{formulas_are_enclosed, holding_encloses, table_encloses, table_gives_intervals};

@@ -8,6 +8,7 @@ ghost use Rattle.fix_interval.specs.Values.{ratio_of, quotient_of_ends, div_of};
 
 use crate::iv::Iv;
 use crate::span::{Span, bounded};
+use crate::whole_quotient::quotient;
 
 /// How many units are one, 2^32.
 const UNIT: i128 = 1 << 32;
@@ -19,6 +20,7 @@ const UNITS: u128 = 1 << 32;
 const DIVIDEND_LIMIT: u128 = 1 << 94;
 
 /// The interval of a whole number alone.
+#[inline(always)]
 pub fn exact(n: i64) -> Iv
     ensures { result ≡ ratio_of n 1 }
 {
@@ -27,6 +29,7 @@ pub fn exact(n: i64) -> Iv
 }
 
 /// The least interval that holds the fraction `p / q`; nothing is known where `p` reaches 2^94.
+#[inline(always)]
 pub fn ratio(p: i128, q: i128) -> Iv
     requires { pos 0 <ℤ q }
     ensures { result ≡ ratio_of p (unsigned_abs q) }
@@ -41,6 +44,7 @@ pub fn ratio(p: i128, q: i128) -> Iv
 /// The quotient of two quantities: from the least of the four quotients of ends to the greatest, rounded
 /// outward. Nothing is known where an end is unbounded, the divisor may be 0, or an end of the dividend
 /// reaches 2^94.
+#[inline(always)]
 pub fn div(a: Iv, b: Iv) -> Iv
     ensures { result ≡ div_of a b }
 {
@@ -53,6 +57,7 @@ pub fn div(a: Iv, b: Iv) -> Iv
     quotient_of_spans(first, second)
 }
 
+#[inline(always)]
 fn quotient_of_spans(a: Span, b: Span) -> Iv
     ensures { result ≡ quotient_of_ends a.lo a.hi b.lo b.hi }
 {
@@ -68,6 +73,7 @@ fn quotient_of_spans(a: Span, b: Span) -> Iv
 }
 
 /// Whether both ends stay below the limit of dividends.
+#[inline(always)]
 fn is_dividend(a: Span) -> bool
     ensures { IsTrue result ↔ ((unsigned_abs a.lo < 2 ^ 94) × (unsigned_abs a.hi < 2 ^ 94)) }
 {
@@ -75,6 +81,7 @@ fn is_dividend(a: Span) -> bool
 }
 
 /// The quotient by a positive divisor.
+#[inline(always)]
 fn quotient_by_positive(a: Span, b: Span) -> Iv
     requires positive { pos 0 <ℤ b.lo }
     requires low_dividend { unsigned_abs a.lo < 2 ^ 94 }
@@ -86,6 +93,7 @@ fn quotient_by_positive(a: Span, b: Span) -> Iv
 
 /// The lesser quotient of the low end by the ends of a positive divisor: by the greater of them where the
 /// low end isn't negative.
+#[inline(always)]
 fn least_quotient(a: Span, by: Span) -> Option<i128>
     requires positive { pos 0 <ℤ by.lo }
     requires small { unsigned_abs a.lo < 2 ^ 94 }
@@ -100,6 +108,7 @@ fn least_quotient(a: Span, by: Span) -> Option<i128>
 
 /// The greater quotient of the high end by the ends of a positive divisor: by the lesser of them where the
 /// high end isn't negative.
+#[inline(always)]
 fn greatest_quotient(a: Span, by: Span) -> Option<i128>
     requires positive { pos 0 <ℤ by.lo }
     requires small { unsigned_abs a.hi < 2 ^ 94 }
@@ -113,6 +122,7 @@ fn greatest_quotient(a: Span, by: Span) -> Option<i128>
 }
 
 /// The least interval that holds a fraction with a positive divisor.
+#[inline(always)]
 fn fraction(x: i128, d: u128) -> Iv
     requires small { unsigned_abs x < 2 ^ 94 }
     requires divisor { 0 < d }
@@ -124,6 +134,7 @@ fn fraction(x: i128, d: u128) -> Iv
 
 /// The quotient of `x` in units rounded down, and rounded up. Where the divisor is a whole number of units, as
 /// it mostly is, both are divided by the unit first, so that the numbers are small.
+#[inline(always)]
 fn units_over(x: i128, d: u128) -> (i128, i128)
     requires small { unsigned_abs x < 2 ^ 94 }
     requires divisor { 0 < d }
@@ -138,6 +149,7 @@ fn units_over(x: i128, d: u128) -> (i128, i128)
 }
 
 /// The quotient rounded down, and rounded up.
+#[inline(always)]
 fn rounded(n: i128, d: u128) -> (i128, i128)
     requires small { unsigned_abs n < 2 ^ 126 }
     requires divisor { 0 < d }
@@ -153,6 +165,7 @@ fn rounded(n: i128, d: u128) -> (i128, i128)
 }
 
 /// The quotient of two numbers without sign rounded down, and rounded up, by one division.
+#[inline(always)]
 fn natural_quotients(n: u128, d: u128) -> (u128, u128)
     requires { 0 < d }
     ensures down { result.0 ≡ n / d }
@@ -163,16 +176,5 @@ fn natural_quotients(n: u128, d: u128) -> (u128, u128)
         (inner, inner)
     } else {
         (inner, inner + 1)
-    }
-}
-
-/// The quotient of two numbers that mostly fit 64 bits.
-fn quotient(n: u128, d: u128) -> u128
-    requires { 0 < d }
-    ensures { result ≡ n / d }
-{
-    match (u64::try_from(n), u64::try_from(d)) {
-        (Ok(n), Ok(d)) => (n / d) as u128,
-        _ => n / d,
     }
 }

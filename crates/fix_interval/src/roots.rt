@@ -1,11 +1,12 @@
 //! Square roots of intervals.
 
-ghost use Rattle.std.specs.Prelude.{◌≡◌, ◌<◌, ◌≤◌, ◌^◌, ◌*◌, pos};
+ghost use Rattle.std.specs.Prelude.{◌≡◌, ◌<◌, ◌^◌, ◌*◌};
 ghost use Rattle.fix_interval.specs.Units.{unit};
-ghost use Rattle.fix_interval.specs.Round.{floor_root, ceil_root};
+ghost use Rattle.fix_interval.specs.Round.{floor_root};
 ghost use Rattle.fix_interval.specs.Values.{low_radicand, root_of_high, is_below_zero, root_of};
 
 use crate::iv::Iv;
+use crate::square_root::{root_down, root_up};
 
 /// How many units are one, 2^32.
 const UNIT: u128 = 1 << 32;
@@ -21,7 +22,8 @@ pub fn root(a: Iv) -> Iv
     if below_zero(a.high()) {
         Iv::ALL
     } else {
-        Iv::of_ends(Some(low_root(a.low())), high_root(a.high()))
+        let low = low_root(a.low());
+        Iv::of_ends(Some(i128::from(low)), high_root(a.high(), low))
     }
 }
 
@@ -32,10 +34,10 @@ fn below_zero(high: Option<i128>) -> bool
 }
 
 /// The root of a low end, rounded down.
-fn low_root(low: Option<i128>) -> i128
-    ensures { result ≡ pos (floor_root (low_radicand low * unit)) }
+fn low_root(low: Option<i128>) -> u64
+    ensures { result ≡ floor_root (low_radicand low * unit) }
 {
-    (radicand(low) * UNIT).isqrt() as i128
+    root_down(radicand(low) * UNIT)
 }
 
 /// What the root of a low end is taken of.
@@ -49,23 +51,14 @@ fn radicand(low: Option<i128>) -> u128
     }
 }
 
-/// The root of a high end, rounded up.
-fn high_root(high: Option<i128>) -> Option<i128>
+/// The root of a high end, rounded up. The low end's root is mostly near it.
+fn high_root(high: Option<i128>, low_root: u64) -> Option<i128>
     ensures { result ≡ root_of_high high }
 {
     match high {
         Some(end) if 0 <= end && (end as u128) < RADICAND_LIMIT => Some(
-            rounded_up(end as u128 * UNIT) as i128,
+            root_up(end as u128 * UNIT, low_root) as i128,
         ),
         _ => None,
     }
-}
-
-/// The root rounded up.
-fn rounded_up(n: u128) -> u128
-    ensures value { result ≡ ceil_root n }
-    ensures limited { result ≤ 2 ^ 64 }
-{
-    let root = n.isqrt();
-    if root * root == n { root } else { root + 1 }
 }

@@ -1,27 +1,34 @@
-use Rattle.std.proofs.Common.{◌/◌, ◌%◌, ◌^◌, get_or, arith}
+use Rattle.std.proofs.Common.{◌≡◌, ◌/◌, ◌%◌, ◌^◌, ap, sym, ◌∙◌, arith, add-one, get_or}
+use Rattle.fix_interval.specs.Roots.{product, times_low, times_high}
+use Rattle.fix_interval.specs.ExpNeg.{decay_factor_low, decay_factor_high}
 use Rattle.enclose_exp.specs.declared.tables.TheConstants.{WHOLE_LOW, WHOLE_HIGH}
-use Rattle.enclose_exp.proofs.TableLemmas.{decay_low-ones, decay_high-ones, decay_low-fits, decay_high-fits, whole_low-small, whole_high-small}
 use Rattle.enclose_exp.proofs.DecayLaw.{low-made, high-made}
+use Rattle.enclose_exp.proofs.Products.{product-zero}
+use Rattle.enclose_exp.proofs.Steps.{decay_low-step, decay_high-step}
 use Rattle.enclose_exp.proofs.decay.decays.Goals as goal
 
-pub products-requires-clause-below : goal.products-requires-clause-below
-products-requires-clause-below c = decay_low-ones
+pub loop-place-init : goal.loop-place-init
+loop-place-init c = record {
+  down = sym (product-zero times_low decay_factor_low (get_or WHOLE_LOW (c.args.low / 2 ^ 32) 0) (c.args.low % 2 ^ 32));
+  up = sym (product-zero times_high decay_factor_high (get_or WHOLE_HIGH (c.args.high / 2 ^ 32) 0) (c.args.high % 2 ^ 32));
+}
 
-pub products-requires-clause-above : goal.products-requires-clause-above
-products-requires-clause-above c = decay_high-ones
-
-pub products-requires-clause-low_fits : goal.products-requires-clause-low_fits
-products-requires-clause-low_fits c =
-    decay_low-fits (get_or WHOLE_LOW (c.args.low / 2 ^ 32) 0) (c.args.low % 2 ^ 32)
-    (whole_low-small (c.args.low / 2 ^ 32) (omega (arith, c.requires.low)))
+pub loop-place-preserved : goal.loop-place-preserved
+loop-place-preserved c = record {
+  down = rw add-one (c.shrunk_down-down.ensures
+      ∙ decay_low-step (get_or WHOLE_LOW (c.args.low / 2 ^ 32) 0) (c.args.low % 2 ^ 32) c.loop-place.place c.loop-place.down c.taken.result c.loop-place-test.true c.loop-place.invariant.down c.taken.ensures);
+  up = rw add-one (c.shrunk_up-up.ensures
+      ∙ decay_high-step (get_or WHOLE_HIGH (c.args.high / 2 ^ 32) 0) (c.args.high % 2 ^ 32) c.loop-place.place c.loop-place.up c.taken-in-loop-place.result c.loop-place-test.true c.loop-place.invariant.up c.taken-in-loop-place.ensures);
+}
 
 pub returns-clause-low : goal.returns-clause-low
-returns-clause-low c = low-made c.args.low c.products.result.0 c.requires.low c.products.ensures.low
-
-pub products-requires-clause-high_fits : goal.products-requires-clause-high_fits
-products-requires-clause-high_fits c =
-    decay_high-fits (get_or WHOLE_HIGH (c.args.high / 2 ^ 32) 0) (c.args.high % 2 ^ 32)
-    (whole_high-small (c.args.high / 2 ^ 32) (omega (arith, c.requires.high)))
+returns-clause-low c =
+    let count : c.loop-place.place ≡ 32 = omega arith in
+    low-made c.args.low c.loop-place.down c.requires.low
+    (c.loop-place.invariant.down ∙ ap (product times_low decay_factor_low (get_or WHOLE_LOW (c.args.low / 2 ^ 32) 0) (c.args.low % 2 ^ 32)) count)
 
 pub returns-clause-high : goal.returns-clause-high
-returns-clause-high c = high-made c.args.high c.products.result.1 c.requires.high c.products.ensures.high
+returns-clause-high c =
+    let count : c.loop-place.place ≡ 32 = omega arith in
+    high-made c.args.high c.loop-place.up c.requires.high
+    (c.loop-place.invariant.up ∙ ap (product times_high decay_factor_high (get_or WHOLE_HIGH (c.args.high / 2 ^ 32) 0) (c.args.high % 2 ^ 32)) count)

@@ -1,32 +1,37 @@
-use Rattle.std.proofs.Common.{◌≡◌, sym, ap, ◌∙◌, arith, add-one}
+use Rattle.std.proofs.Common.{◌≡◌, ◌+◌, ◌-◌, ℕ, sym, ap, ◌∙◌, arith, add-one}
 use Rattle.fix_interval.specs.Lg.{turn_low, turn_high, turns, digits_low, digits_high, rounded_up}
 use Rattle.enclose_log.proofs.Turns.{turns-zero, turns-suc, turns_low-in_range, turns_high-in_range, within_32}
 use Rattle.enclose_log.proofs.Law.{rounded_up-le}
 use Rattle.enclose_log.proofs.digits.digits.Goals as goal
 
 pub loop-turn-init : goal.loop-turn-init
-loop-turn-init c = record { down = sym (turns-zero turn_low _); up = sym (turns-zero turn_high _) }
+loop-turn-init c =
+    let start : c.args.high - 1 + 1 ≡ c.args.high = omega (arith, c.requires.high_least) in
+    record {
+      down = sym (turns-zero turn_low _);
+      up = ap (λ (m : ℕ). record { mantissa = m; digits = 0 }) start ∙ sym (turns-zero turn_high _);
+    }
 
 pub loop-turn-preserved : goal.loop-turn-preserved
 loop-turn-preserved c = record {
-  down = rw (add-one, turns-suc) (c.next_low-down.ensures ∙ ap turn_low c.loop-turn.invariant.down);
-  up = rw (add-one, turns-suc) (c.next_high-up.ensures ∙ ap turn_high c.loop-turn.invariant.up);
+  down = rw (add-one, turns-suc) (c.next-down.ensures ∙ ap turn_low c.loop-turn.invariant.down);
+  up = rw (add-one, turns-suc) (c.next-up.ensures ∙ ap turn_high c.loop-turn.invariant.up);
 }
 
-pub next_low-down-requires-clause-mantissa : goal.next_low-down-requires-clause-mantissa
-next_low-down-requires-clause-mantissa c =
+pub next-down-requires-clause-mantissa : goal.next-down-requires-clause-mantissa
+next-down-requires-clause-mantissa c =
     rw c.loop-turn.invariant.down (turns_low-in_range c.args.low c.loop-turn._turn c.requires.low_least c.requires.low_below).below
 
-pub next_low-down-requires-clause-digits : goal.next_low-down-requires-clause-digits
-next_low-down-requires-clause-digits c =
+pub next-down-requires-clause-digits : goal.next-down-requires-clause-digits
+next-down-requires-clause-digits c =
     rw c.loop-turn.invariant.down (within_32 _ c.loop-turn._turn (omega arith) (turns_low-in_range c.args.low c.loop-turn._turn c.requires.low_least c.requires.low_below).digits)
 
-pub next_high-up-requires-clause-mantissa : goal.next_high-up-requires-clause-mantissa
-next_high-up-requires-clause-mantissa c =
+pub next-up-requires-clause-mantissa : goal.next-up-requires-clause-mantissa
+next-up-requires-clause-mantissa c =
     rw c.loop-turn.invariant.up (turns_high-in_range c.args.high c.loop-turn._turn c.requires.high_least c.requires.high_most).most
 
-pub next_high-up-requires-clause-digits : goal.next_high-up-requires-clause-digits
-next_high-up-requires-clause-digits c =
+pub next-up-requires-clause-digits : goal.next-up-requires-clause-digits
+next-up-requires-clause-digits c =
     rw c.loop-turn.invariant.up (within_32 _ c.loop-turn._turn (omega arith) (turns_high-in_range c.args.high c.loop-turn._turn c.requires.high_least c.requires.high_most).digits)
 
 -- after the loop there have been 32 turns

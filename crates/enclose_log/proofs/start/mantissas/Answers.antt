@@ -1,5 +1,5 @@
-use Rattle.std.proofs.Common.{◌∙◌, sym, arith}
-use Rattle.enclose_log.proofs.DecadeLemmas.{mantissa-below_one, mantissa-from_one}
+use Rattle.std.proofs.Common.{◌∙◌, ◌-◌, sym, arith}
+use Rattle.enclose_log.proofs.DecadeLemmas.{mantissa-below_one, mantissa-from_one, exponent-narrow}
 use Rattle.enclose_log.proofs.start.mantissas.Goals as goal
 
 pub overflow_cast-whole : goal.overflow_cast-whole
@@ -30,6 +30,11 @@ pub narrow_quotient-requires-clause-power : goal.narrow_quotient-requires-clause
 narrow_quotient-requires-clause-power c =
     let m = mantissa-from_one c.args.end c.args.decade c.power_of_ten-power.result c.requires.decade (omega arith) c.power_of_ten-power.ensures in
     omega (arith, m.reached)
+
+pub narrow_quotient-requires-clause-exponent : goal.narrow_quotient-requires-clause-exponent
+narrow_quotient-requires-clause-exponent c =
+    let m = mantissa-from_one c.args.end c.args.decade c.power_of_ten-power.result c.requires.decade (omega arith) c.power_of_ten-power.ensures in
+    exponent-narrow c.power_of_ten-power.result (c.args.decade - 10) c.power_of_ten-power.ensures (omega (arith, m.reached))
 
 pub returns-then-end-eq0-clause-low : goal.returns-then-end-eq0-clause-low
 returns-then-end-eq0-clause-low c = c.narrow_quotient.ensures.low ∙ sym (mantissa-from_one c.args.end c.args.decade c.power_of_ten-power.result c.requires.decade (omega arith) c.power_of_ten-power.ensures).low

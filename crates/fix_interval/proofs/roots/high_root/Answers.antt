@@ -13,7 +13,7 @@ returns-in-Some c =
     let same : to_z w128 (of_z w128 c.in-Some.end) ≡ c.in-Some.end = to_z-of_z w128 c.in-Some.end fits in
     let positive : pos 0 ≤ℤ c.in-Some.end = omega (arith, ints) in
     let small : unsigned_abs c.in-Some.end < 2 ^ 95 = omega (arith, ints) in
-    let root : c.rounded_up.result ≡ ceil_root (unsigned_abs c.in-Some.end * 2 ^ 32) =
-    c.rounded_up.ensures.value ∙ ap (λ (z : ℤ). ceil_root (unsigned_abs z * 2 ^ 32)) same in
-    high_root_found c.in-Some.end c.rounded_up.result positive small root c.rounded_up.ensures.limited
+    let root : c.root_up.result ≡ ceil_root (unsigned_abs c.in-Some.end * 2 ^ 32) =
+    c.root_up.ensures.value ∙ ap (λ (z : ℤ). ceil_root (unsigned_abs z * 2 ^ 32)) same in
+    high_root_found c.in-Some.end c.root_up.result positive small root c.root_up.ensures.limited
     ∙ ap root_of_high (sym c.in-Some.is)
