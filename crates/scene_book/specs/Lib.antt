@@ -3,3 +3,4 @@ pub mod Filed
 pub mod Book
 pub mod Grid
 pub mod Applying
+pub mod Edits

@@ -1,5 +1,5 @@
 //! Edits of a scene, and why one is refused.
-use scene_parts::{Class, GridSpec, Name, Part, SetSpec};
+use scene_parts::{Checked, Class, GridSpec, Name, Part, SetSpec};
 use std::alloc::{AllocError, AllocFailed};
 
 /// An edit of a scene.
@@ -33,6 +33,22 @@ pub enum EditFault {
 pub struct Logged {
     pub edit: Edit,
     pub old: Option<Part>,
+}
+
+impl From<Checked> for Edit {
+    ghost use Rattle.std.specs.Prelude.{◌≡◌};
+    ghost use Rattle.scene_book.specs.Edits.{edit_of};
+
+    ghost from_gives = { λ checked edit. edit ≡ edit_of checked };
+
+    /// A part is put, a grid's receivers are put, a setting is set.
+    fn from(checked: Checked) -> Edit {
+        match checked {
+            Checked::Part(part) => Edit::Put(part),
+            Checked::Grid(grid) => Edit::Grid(grid),
+            Checked::Set(setting) => Edit::Set(setting),
+        }
+    }
 }
 
 impl From<AllocError> for EditFault {

@@ -299,12 +299,12 @@ impl Scene {
     pub(crate) fn set(&mut self, setting: &SetSpec)
         ensures { self.new ≡ record self.old { globals = globals_with setting.now self.old.globals } }
     {
-        self.globals = with_setting(*setting, self.globals);
+        self.globals = with_setting(setting, self.globals);
     }
 }
 
-fn with_setting(setting: SetSpec, globals: Globals) -> Globals
-    ensures { result ≡ globals_with setting globals }
+fn with_setting(setting: &SetSpec, globals: Globals) -> Globals
+    ensures { result ≡ globals_with setting.now globals }
 {
     Globals {
         reach: setting.reach.unwrap_or(globals.reach),

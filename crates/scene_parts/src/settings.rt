@@ -28,7 +28,7 @@ impl Model for Globals {
 }
 
 /// Values for some of the globals; the others stay as they are.
-#[derive(Clone, Copy, Debug)]
+#[derive(Clone, Debug, Drop)]
 pub struct SetSpec {
     pub reach: Option<u32>,
     pub g: Option<u8>,
@@ -45,8 +45,6 @@ impl Model for SetSpec {
     ghost view = { λ s. record { reach = s.reach; g = s.g; air = s.air; c0 = s.c0 } };
 
     ghost invariant = { λ s. IsSetting (record { reach = s.reach; g = s.g; air = s.air; c0 = s.c0 }) };
-
-    ghost inverse = { λ s. record { reach = s.reach; g = s.g; air = s.air; c0 = s.c0 } };
 }
 
 /// A grid of receivers: the place of the first, the distance to the next in mm, and their height in mm.
