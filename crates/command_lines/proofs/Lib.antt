@@ -1,0 +1,3 @@
+mod ItemLemmas
+mod PlainLemmas
+mod Utf8

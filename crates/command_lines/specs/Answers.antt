@@ -1,0 +1,65 @@
+-- Answers that may lack memory, and tests in a row.
+use Rattle.std.specs.Prelude.{◌≡◌, Option, Some, None, Result, Ok, Err}
+use Rattle.serde_json.specs.Data.{Data}
+use Rattle.serde_json.specs.View.{view}
+use Rattle.serde_json.specs.declared.value.Value.{Value}
+use Rattle.scene_parts.specs.declared.kinds.Field.{Field}
+use Rattle.scene_parts.specs.declared.faults.PartFault.{PartFault}
+use Rattle.scene_parts.specs.declared.faults.PartFault.TheVariants as part_faults
+use Rattle.command_lines.specs.declared.faults.LineFault.{LineFault}
+use Rattle.command_lines.specs.declared.faults.LineFault.TheVariants.{NoMemory, WrongType, Part}
+
+infixl 10 ◌>>=◌
+abbrev pub ◌>>=◌ : {A B : Type 0} → Result A LineFault → (A → Result B LineFault) → Result B LineFault
+(Ok x) >>= next = next x
+(Err fault) >>= next = Err fault
+
+-- an answer is what is said, unless memory runs out
+abbrev pub Gives : {A : Type 0} → Result A LineFault → Result A LineFault → Type 0
+Gives (Ok x) said = said ≡ Ok x
+Gives (Err NoMemory) said = Unit {0}
+Gives (Err fault) said = said ≡ Err fault
+
+-- the same of a JSON value
+abbrev pub GivesJson : Result Value LineFault → Result Data LineFault → Type 0
+GivesJson (Ok value) said = said ≡ Ok (view value)
+GivesJson (Err NoMemory) said = Unit {0}
+GivesJson (Err fault) said = said ≡ Err fault
+
+-- the same of a fault
+abbrev pub IsUnlessMemory : LineFault → LineFault → Type 0
+IsUnlessMemory NoMemory said = Unit {0}
+IsUnlessMemory fault said = fault ≡ said
+
+-- what is found, or a fault
+abbrev pub found_or : {A : Type 0} → LineFault → Option A → Result A LineFault
+found_or fault (Some x) = Ok x
+found_or fault None = Err fault
+
+-- want of memory has one name
+abbrev pub IsPlain : LineFault → Type 0
+IsPlain (Part part_faults.NoMemory) = ⊥
+IsPlain fault = Unit {0}
+
+-- a part's fault as the fault of its line
+abbrev pub line_fault_of : PartFault → LineFault
+line_fault_of part_faults.NoMemory = NoMemory
+line_fault_of fault = Part fault
+
+-- what a part's check answers, as the answer of its line
+abbrev pub of_part : {A : Type 0} → Result A PartFault → Result A LineFault
+of_part (Ok x) = Ok x
+of_part (Err fault) = Err (line_fault_of fault)
+
+-- a field's value is read where it is of its type, else WrongType, unless memory runs out
+abbrev pub Reads : {A : Type 0} → Field → Result A LineFault → Option A → Type 0
+Reads field (Ok x) found = found ≡ Some x
+Reads field (Err NoMemory) found = Unit {0}
+Reads field (Err fault) found = (found ≡ None) × (fault ≡ WrongType field)
+
+-- the same of a value that may be absent
+abbrev pub ReadsOptional : {A : Type 0} → Field → Result (Option A) LineFault → Option (Option A) → Type 0
+ReadsOptional field (Ok None) found = found ≡ None
+ReadsOptional field (Ok (Some x)) found = found ≡ Some (Some x)
+ReadsOptional field (Err NoMemory) found = Unit {0}
+ReadsOptional field (Err fault) found = (found ≡ Some None) × (fault ≡ WrongType field)

@@ -1,0 +1,6 @@
+pub mod Texts
+pub mod Values
+pub mod Fields
+pub mod Answers
+pub mod Words
+pub mod Lines

@@ -1,0 +1,761 @@
+//! Lines, and what an independent program says of each: the row that refuses it without its first fields, or what it asks
+//! for.
+
+/// One JSON object with a word.
+pub(crate) const FORMS: [(&str, &str); 25] = [
+    ("[1]", "NotObject"),
+    ("{", "NotJson"),
+    ("{}", "Missing,do"),
+    (r#"{"do":7}"#, "WrongType,do"),
+    (r#"{"do":null}"#, "WrongType,do"),
+    (r#"{"do":"jump"}"#, "UnknownDo,jump"),
+    (r#"{"do":"Look"}"#, "UnknownDo,Look"),
+    ("7", "NotObject"),
+    (r#""look""#, "NotObject"),
+    ("null", "NotObject"),
+    (r#"{"do":"look"}"#, "look"),
+    (r#"{"do":"settle"}"#, "settle"),
+    (r#" {"do" : "look"} "#, "look"),
+    (r#"{"do":"look"} x"#, "NotJson"),
+    (r#"{"do":"look",}"#, "NotJson"),
+    (r#"{"do":"jump","do":"look"}"#, "look"),
+    (r#"{"do":"look","do":7}"#, "WrongType,do"),
+    (r#"{"do":"look","name":7,"more":{"x":[]}}"#, "look"),
+    (r#"{"do":"\u006cook"}"#, "look"),
+    (r#"{"do":"look","x":"\x"}"#, "NotJson"),
+    (r#"{"do":"look","x":"\ud800"}"#, "NotJson"),
+    (r#"{"do":"look","x":1e400}"#, "NotJson"),
+    (r#"{"do":"look","x":01}"#, "NotJson"),
+    (
+        r#"{"do":"look","x":[[[[[[[[[[[[[[[[[[[[[[[[[[[[[[[[[[[[[[[[[[[[[[[[[[[[[[[[[[[[[[[[[[[[[[[[[[[[[[[[[[[[[[[[[[[[[[[[[[[[[[[[[[[[[[[[[[[[[[[[[[[[[[]]]]]]]]]]]]]]]]]]]]]]]]]]]]]]]]]]]]]]]]]]]]]]]]]]]]]]]]]]]]]]]]]]]]]]]]]]]]]]]]]]]]]]]]]]]]]]]]]]]]]]]]]]]]]]]]]]]]]]]]]]]]]]}"#,
+        "look",
+    ),
+    (
+        r#"{"do":"look","x":[[[[[[[[[[[[[[[[[[[[[[[[[[[[[[[[[[[[[[[[[[[[[[[[[[[[[[[[[[[[[[[[[[[[[[[[[[[[[[[[[[[[[[[[[[[[[[[[[[[[[[[[[[[[[[[[[[[[[[[[[[[[[[[]]]]]]]]]]]]]]]]]]]]]]]]]]]]]]]]]]]]]]]]]]]]]]]]]]]]]]]]]]]]]]]]]]]]]]]]]]]]]]]]]]]]]]]]]]]]]]]]]]]]]]]]]]]]]]]]]]]]]]]]]]]]]]]}"#,
+        "NotJson",
+    ),
+];
+
+/// Missing fields, in the order of each word.
+pub(crate) const MISSING: [(&str, &str); 34] = [
+    (r#"{"do":"receiver","name":"r","x":0,"y":0}"#, "Missing,h"),
+    (
+        r#"{"do":"receiver","name":"r","x":0,"y":"0","h":1}"#,
+        "WrongType,y",
+    ),
+    (
+        r#"{"do":"receiver","name":"r","x":0,"y":0,"h":0}"#,
+        "OutOfRange,h,0",
+    ),
+    (r#"{"do":"source"}"#, "Missing,name"),
+    (
+        r#"{"do":"source","x":0,"y":0,"h":1,"lw":[0,0,0,0,0,0,0,0]}"#,
+        "Missing,name",
+    ),
+    (
+        r#"{"do":"source","name":"s","y":0,"h":1,"lw":[0,0,0,0,0,0,0,0]}"#,
+        "Missing,kind",
+    ),
+    (
+        r#"{"do":"source","name":"s","kind":"road","h":1,"lw":[0,0,0,0,0,0,0,0]}"#,
+        "Missing,x",
+    ),
+    (
+        r#"{"do":"source","name":"s","kind":"road","x":0,"lw":[0,0,0,0,0,0,0,0]}"#,
+        "Missing,y",
+    ),
+    (
+        r#"{"do":"source","name":"s","kind":"road","x":0,"y":0}"#,
+        "Missing,h",
+    ),
+    (
+        r#"{"do":"source","name":"s","kind":"road","x":0,"y":0,"h":1,"dc":null}"#,
+        "Missing,lw",
+    ),
+    (
+        r#"{"do":"source","name":7,"kind":"road","x":0,"y":0,"h":1}"#,
+        "Missing,lw",
+    ),
+    (r#"{"do":"barrier","h":1,"density":10}"#, "Missing,name"),
+    (
+        r#"{"do":"barrier","name":"b","density":10}"#,
+        "Missing,points",
+    ),
+    (
+        r#"{"do":"barrier","name":"b","points":[[0,0],[1,0]]}"#,
+        "Missing,h",
+    ),
+    (
+        r#"{"do":"barrier","name":7,"points":[[0,0],[1,0]],"h":1,"rho":null}"#,
+        "Missing,density",
+    ),
+    (r#"{"do":"building","h":1}"#, "Missing,name"),
+    (r#"{"do":"building","name":"b"}"#, "Missing,points"),
+    (
+        r#"{"do":"building","name":7,"points":[[0,0],[1,0],[1,1]],"rho":null}"#,
+        "Missing,h",
+    ),
+    (r#"{"do":"zone","g":0}"#, "Missing,name"),
+    (r#"{"do":"zone","name":"z"}"#, "Missing,points"),
+    (
+        r#"{"do":"zone","name":7,"points":[[0,0],[1,0],[1,1]]}"#,
+        "Missing,g",
+    ),
+    (r#"{"do":"receiver","y":0,"h":1}"#, "Missing,name"),
+    (r#"{"do":"receiver","name":"r","h":1}"#, "Missing,x"),
+    (r#"{"do":"receiver","name":"r","x":0}"#, "Missing,y"),
+    (r#"{"do":"receiver","name":7,"x":0,"y":0}"#, "Missing,h"),
+    (
+        r#"{"do":"grid","y":0,"step":1,"columns":1,"rows":1,"h":1}"#,
+        "Missing,name",
+    ),
+    (
+        r#"{"do":"grid","name":"g","step":1,"columns":1,"rows":1,"h":1}"#,
+        "Missing,x",
+    ),
+    (
+        r#"{"do":"grid","name":"g","x":0,"columns":1,"rows":1,"h":1}"#,
+        "Missing,y",
+    ),
+    (
+        r#"{"do":"grid","name":"g","x":0,"y":0,"rows":1,"h":1}"#,
+        "Missing,step",
+    ),
+    (
+        r#"{"do":"grid","name":"g","x":0,"y":0,"step":1,"h":1}"#,
+        "Missing,columns",
+    ),
+    (
+        r#"{"do":"grid","name":"g","x":0,"y":0,"step":1,"columns":1}"#,
+        "Missing,rows",
+    ),
+    (
+        r#"{"do":"grid","name":7,"x":0,"y":0,"step":1,"columns":1,"rows":1}"#,
+        "Missing,h",
+    ),
+    (r#"{"do":"remove"}"#, "Missing,name"),
+    (r#"{"do":"set"}"#, "set"),
+];
+
+/// Values of a wrong type, in that order; null too.
+pub(crate) const TYPES: [(&str, &str); 42] = [
+    (
+        r#"{"do":"source","name":7,"kind":7,"x":0,"y":0,"h":1,"lw":[0,0,0,0,0,0,0,0]}"#,
+        "WrongType,name",
+    ),
+    (
+        r#"{"do":"source","name":"s","kind":7,"x":"1","y":0,"h":1,"lw":[0,0,0,0,0,0,0,0]}"#,
+        "WrongType,kind",
+    ),
+    (
+        r#"{"do":"source","name":"s","kind":"road","x":"1","y":"1","h":1,"lw":[0,0,0,0,0,0,0,0]}"#,
+        "WrongType,x",
+    ),
+    (
+        r#"{"do":"source","name":"s","kind":"road","x":0,"y":"1","h":"1","lw":[0,0,0,0,0,0,0,0]}"#,
+        "WrongType,y",
+    ),
+    (
+        r#"{"do":"source","name":"s","kind":"road","x":0,"y":0,"h":"1","lw":7}"#,
+        "WrongType,h",
+    ),
+    (
+        r#"{"do":"source","name":"s","kind":"road","x":0,"y":0,"h":1,"lw":7,"dc":"1"}"#,
+        "WrongType,lw",
+    ),
+    (
+        r#"{"do":"source","name":"s","kind":"road","x":0,"y":0,"h":1,"lw":[0,0,0,0,0,0,0,0],"dc":"1"}"#,
+        "WrongType,dc",
+    ),
+    (
+        r#"{"do":"source","name":"s","kind":"road","x":0,"y":0,"h":1,"lw":[0,0,0,0,0,0,0,0],"dc":null}"#,
+        "WrongType,dc",
+    ),
+    (
+        r#"{"do":"source","name":"s","kind":"road","x":4000001,"y":0,"h":1,"lw":[0,0,0,0,0,0,0,0],"dc":"1"}"#,
+        "WrongType,dc",
+    ),
+    (
+        r#"{"do":"barrier","name":7,"points":7,"h":1,"density":10}"#,
+        "WrongType,name",
+    ),
+    (
+        r#"{"do":"barrier","name":"b","points":7,"h":"1","density":10}"#,
+        "WrongType,points",
+    ),
+    (
+        r#"{"do":"barrier","name":"b","points":[[0,0],[1,0]],"h":"1","density":"1"}"#,
+        "WrongType,h",
+    ),
+    (
+        r#"{"do":"barrier","name":"b","points":[[0,0],[1,0]],"h":1,"density":"1","rho":"1"}"#,
+        "WrongType,density",
+    ),
+    (
+        r#"{"do":"barrier","name":"b","points":[[0,0],[1,0]],"h":1,"density":10,"rho":"1"}"#,
+        "WrongType,rho",
+    ),
+    (
+        r#"{"do":"barrier","name":"b","points":[[0,0],[1,0]],"h":1,"density":10,"rho":null}"#,
+        "WrongType,rho",
+    ),
+    (
+        r#"{"do":"building","name":7,"points":7,"h":1}"#,
+        "WrongType,name",
+    ),
+    (
+        r#"{"do":"building","name":"b","points":7,"h":"1"}"#,
+        "WrongType,points",
+    ),
+    (
+        r#"{"do":"building","name":"b","points":[[0,0],[1,0],[1,1]],"h":"1","rho":"1"}"#,
+        "WrongType,h",
+    ),
+    (
+        r#"{"do":"building","name":"b","points":[[0,0],[1,0],[1,1]],"h":1,"rho":null}"#,
+        "WrongType,rho",
+    ),
+    (
+        r#"{"do":"zone","name":7,"points":7,"g":0}"#,
+        "WrongType,name",
+    ),
+    (
+        r#"{"do":"zone","name":"z","points":7,"g":"1"}"#,
+        "WrongType,points",
+    ),
+    (
+        r#"{"do":"zone","name":"z","points":[[0,0],[1,0],[1,1]],"g":null}"#,
+        "WrongType,g",
+    ),
+    (
+        r#"{"do":"receiver","name":7,"x":"1","y":0,"h":1}"#,
+        "WrongType,name",
+    ),
+    (
+        r#"{"do":"receiver","name":"r","x":"1","y":"1","h":1}"#,
+        "WrongType,x",
+    ),
+    (
+        r#"{"do":"receiver","name":"r","x":0,"y":"1","h":"1"}"#,
+        "WrongType,y",
+    ),
+    (
+        r#"{"do":"receiver","name":"r","x":0,"y":0,"h":"1"}"#,
+        "WrongType,h",
+    ),
+    (
+        r#"{"do":"grid","name":7,"x":"1","y":0,"step":1,"columns":1,"rows":1,"h":1}"#,
+        "WrongType,name",
+    ),
+    (
+        r#"{"do":"grid","name":"g","x":"1","y":"1","step":1,"columns":1,"rows":1,"h":1}"#,
+        "WrongType,x",
+    ),
+    (
+        r#"{"do":"grid","name":"g","x":0,"y":"1","step":"1","columns":1,"rows":1,"h":1}"#,
+        "WrongType,y",
+    ),
+    (
+        r#"{"do":"grid","name":"g","x":0,"y":0,"step":"1","columns":"1","rows":1,"h":1}"#,
+        "WrongType,step",
+    ),
+    (
+        r#"{"do":"grid","name":"g","x":0,"y":0,"step":1,"columns":"1","rows":"1","h":1}"#,
+        "WrongType,columns",
+    ),
+    (
+        r#"{"do":"grid","name":"g","x":0,"y":0,"step":1,"columns":1,"rows":"1","h":"1"}"#,
+        "WrongType,rows",
+    ),
+    (
+        r#"{"do":"grid","name":"g","x":0,"y":0,"step":1,"columns":1,"rows":1,"h":"1"}"#,
+        "WrongType,h",
+    ),
+    (r#"{"do":"set","reach":"1","g":"1"}"#, "WrongType,reach"),
+    (r#"{"do":"set","g":"1","air":7}"#, "WrongType,g"),
+    (r#"{"do":"set","air":7,"c0":"1"}"#, "WrongType,air"),
+    (r#"{"do":"set","c0":"1"}"#, "WrongType,c0"),
+    (r#"{"do":"set","reach":null}"#, "WrongType,reach"),
+    (r#"{"do":"set","g":null}"#, "WrongType,g"),
+    (r#"{"do":"set","air":null}"#, "WrongType,air"),
+    (r#"{"do":"set","c0":null}"#, "WrongType,c0"),
+    (r#"{"do":"remove","name":7}"#, "WrongType,name"),
+];
+
+/// Names, whole numbers, powers and points.
+pub(crate) const VALUES: [(&str, &str); 44] = [
+    (
+        r#"{"do":"receiver","name":"","x":0,"y":0,"h":1}"#,
+        "WrongType,name",
+    ),
+    (
+        r#"{"do":"receiver","name":"aaaaaaaaaaaaaaaaaaaaaaaaaaaaaaaa","x":0,"y":0,"h":1}"#,
+        "put",
+    ),
+    (
+        r#"{"do":"receiver","name":"aaaaaaaaaaaaaaaaaaaaaaaaaaaaaaaaa","x":0,"y":0,"h":1}"#,
+        "WrongType,name",
+    ),
+    (
+        r#"{"do":"receiver","name":"aZ09_-.","x":0,"y":0,"h":1}"#,
+        "put",
+    ),
+    (
+        r#"{"do":"receiver","name":"a/1","x":0,"y":0,"h":1}"#,
+        "WrongType,name",
+    ),
+    (
+        r#"{"do":"receiver","name":"a b","x":0,"y":0,"h":1}"#,
+        "WrongType,name",
+    ),
+    (
+        r#"{"do":"receiver","name":"\u00e4","x":0,"y":0,"h":1}"#,
+        "WrongType,name",
+    ),
+    (
+        r#"{"do":"receiver","name":"{","x":0,"y":0,"h":1}"#,
+        "WrongType,name",
+    ),
+    (
+        r#"{"do":"receiver","name":null,"x":0,"y":0,"h":1}"#,
+        "WrongType,name",
+    ),
+    (r#"{"do":"remove","name":""}"#, "WrongType,name"),
+    (
+        r#"{"do":"remove","name":"aaaaaaaaaaaaaaaaaaaaaaaaaaaaaaaaaaaaaaaaa/"}"#,
+        "remove",
+    ),
+    (
+        r#"{"do":"remove","name":"aaaaaaaaaaaaaaaaaaaaaaaaaaaaaaaaaaaaaaaaaa/"}"#,
+        "WrongType,name",
+    ),
+    (r#"{"do":"remove","name":"g/0/63"}"#, "remove"),
+    (r#"{"do":"remove","name":"a b"}"#, "WrongType,name"),
+    (
+        r#"{"do":"receiver","name":"r","x":-0,"y":0,"h":1}"#,
+        "WrongType,x",
+    ),
+    (
+        r#"{"do":"receiver","name":"r","x":1.0,"y":0,"h":1}"#,
+        "WrongType,x",
+    ),
+    (
+        r#"{"do":"receiver","name":"r","x":1e3,"y":0,"h":1}"#,
+        "WrongType,x",
+    ),
+    (
+        r#"{"do":"receiver","name":"r","x":-1E0,"y":0,"h":1}"#,
+        "WrongType,x",
+    ),
+    (
+        r#"{"do":"receiver","name":"r","x":null,"y":0,"h":1}"#,
+        "WrongType,x",
+    ),
+    (
+        r#"{"do":"receiver","name":"r","x":[],"y":0,"h":1}"#,
+        "WrongType,x",
+    ),
+    (
+        r#"{"do":"receiver","name":"r","x":true,"y":0,"h":1}"#,
+        "WrongType,x",
+    ),
+    (
+        r#"{"do":"receiver","name":"r","x":9223372036854775807,"y":0,"h":1}"#,
+        "OutOfRange,x,9223372036854775807",
+    ),
+    (
+        r#"{"do":"receiver","name":"r","x":9223372036854775808,"y":0,"h":1}"#,
+        "WrongType,x",
+    ),
+    (
+        r#"{"do":"receiver","name":"r","x":-9223372036854775808,"y":0,"h":1}"#,
+        "OutOfRange,x,-9223372036854775808",
+    ),
+    (
+        r#"{"do":"receiver","name":"r","x":-9223372036854775809,"y":0,"h":1}"#,
+        "WrongType,x",
+    ),
+    (
+        r#"{"do":"receiver","name":"r","x":1e400,"y":0,"h":1}"#,
+        "NotJson",
+    ),
+    (
+        r#"{"do":"source","name":"s","kind":"road","x":0,"y":0,"h":1,"lw":[]}"#,
+        "WrongType,lw",
+    ),
+    (
+        r#"{"do":"source","name":"s","kind":"road","x":0,"y":0,"h":1,"lw":[0,0,0,0,0,0,0]}"#,
+        "WrongType,lw",
+    ),
+    (
+        r#"{"do":"source","name":"s","kind":"road","x":0,"y":0,"h":1,"lw":[0,0,0,0,0,0,0,0,0]}"#,
+        "WrongType,lw",
+    ),
+    (
+        r#"{"do":"source","name":"s","kind":"road","x":0,"y":0,"h":1,"lw":[null,null,null,null,null,null,null,null]}"#,
+        "put",
+    ),
+    (
+        r#"{"do":"source","name":"s","kind":"road","x":0,"y":0,"h":1,"lw":[0,0,0,0,0,0,0,1.0]}"#,
+        "WrongType,lw",
+    ),
+    (
+        r#"{"do":"source","name":"s","kind":"road","x":0,"y":0,"h":1,"lw":["0",0,0,0,0,0,0,0]}"#,
+        "WrongType,lw",
+    ),
+    (
+        r#"{"do":"source","name":"s","kind":"road","x":0,"y":0,"h":1,"lw":{}}"#,
+        "WrongType,lw",
+    ),
+    (
+        r#"{"do":"barrier","name":"b","points":[],"h":1,"density":10}"#,
+        "FewCorners,0",
+    ),
+    (
+        r#"{"do":"barrier","name":"b","points":[[0,0],[1]],"h":1,"density":10}"#,
+        "WrongType,points",
+    ),
+    (
+        r#"{"do":"barrier","name":"b","points":[[0,0],[1,0,0]],"h":1,"density":10}"#,
+        "WrongType,points",
+    ),
+    (
+        r#"{"do":"barrier","name":"b","points":[[0,0],7],"h":1,"density":10}"#,
+        "WrongType,points",
+    ),
+    (
+        r#"{"do":"barrier","name":"b","points":[[0,0],[1,null]],"h":1,"density":10}"#,
+        "WrongType,points",
+    ),
+    (
+        r#"{"do":"barrier","name":"b","points":[[],[0,0]],"h":1,"density":10}"#,
+        "WrongType,points",
+    ),
+    (
+        r#"{"do":"barrier","name":"b","points":{},"h":1,"density":10}"#,
+        "WrongType,points",
+    ),
+    (
+        r#"{"do":"barrier","name":"b","points":[[0,0],[1,1.0]],"h":1,"density":10}"#,
+        "WrongType,points",
+    ),
+    (
+        r#"{"do":"receiver","name":"r","x":7,"x":8,"y":0,"h":1}"#,
+        "put",
+    ),
+    (
+        r#"{"do":"receiver","name":"r","x":"7","x":8,"y":0,"h":1}"#,
+        "put",
+    ),
+    (
+        r#"{"do":"receiver","name":"r","x":0,"y":0,"h":1,"h":0}"#,
+        "OutOfRange,h,0",
+    ),
+];
+
+/// The least values outside each range, the greatest inside, and the first of two faults.
+pub(crate) const RANGES: [(&str, &str); 81] = [
+    (
+        r#"{"do":"source","name":"aaaaaaaaaaaaaaaaaaaaaaaaaaaaaaaa","kind":"other","x":-4000000,"y":4000000,"h":100000,"lw":[-2000,16000,null,null,null,null,null,null],"dc":-3000}"#,
+        "put",
+    ),
+    (
+        r#"{"do":"source","name":"s","kind":"road","x":4000000,"y":-4000000,"h":1,"lw":[16000,16000,16000,16000,16000,16000,16000,16000],"dc":2000}"#,
+        "put",
+    ),
+    (
+        r#"{"do":"source","name":"s","kind":"road","x":-4000001,"y":0,"h":1,"lw":[0,0,0,0,0,0,0,0]}"#,
+        "OutOfRange,x,-4000001",
+    ),
+    (
+        r#"{"do":"source","name":"s","kind":"road","x":4000001,"y":4000001,"h":1,"lw":[0,0,0,0,0,0,0,0]}"#,
+        "OutOfRange,x,4000001",
+    ),
+    (
+        r#"{"do":"source","name":"s","kind":"road","x":0,"y":-4000001,"h":1,"lw":[0,0,0,0,0,0,0,0]}"#,
+        "OutOfRange,y,-4000001",
+    ),
+    (
+        r#"{"do":"source","name":"s","kind":"road","x":0,"y":4000001,"h":0,"lw":[0,0,0,0,0,0,0,0]}"#,
+        "OutOfRange,y,4000001",
+    ),
+    (
+        r#"{"do":"source","name":"s","kind":"road","x":0,"y":0,"h":0,"lw":[0,0,0,0,0,0,0,16001]}"#,
+        "OutOfRange,h,0",
+    ),
+    (
+        r#"{"do":"source","name":"s","kind":"road","x":0,"y":0,"h":100001,"lw":[0,0,0,0,0,0,0,0]}"#,
+        "OutOfRange,h,100001",
+    ),
+    (
+        r#"{"do":"source","name":"s","kind":"road","x":0,"y":0,"h":1,"lw":[0,0,0,0,0,0,0,16001],"dc":2001}"#,
+        "OutOfRange,lw,16001",
+    ),
+    (
+        r#"{"do":"source","name":"s","kind":"road","x":0,"y":0,"h":1,"lw":[-2001,16001,0,0,0,0,0,0]}"#,
+        "OutOfRange,lw,-2001",
+    ),
+    (
+        r#"{"do":"source","name":"s","kind":"road","x":0,"y":0,"h":1,"lw":[0,0,0,0,0,0,0,0],"dc":-3001}"#,
+        "OutOfRange,dc,-3001",
+    ),
+    (
+        r#"{"do":"source","name":"s","kind":"blast","x":0,"y":0,"h":1,"lw":[0,0,0,0,0,0,0,0],"dc":2001}"#,
+        "OutOfRange,dc,2001",
+    ),
+    (
+        r#"{"do":"source","name":"s","kind":"aircraft","x":0,"y":0,"h":1,"lw":[0,0,0,0,0,0,0,0]}"#,
+        "OutsideMethod,aircraft",
+    ),
+    (
+        r#"{"do":"source","name":"s","kind":"blast","x":0,"y":0,"h":1,"lw":[0,0,0,0,0,0,0,0]}"#,
+        "OutsideMethod,blast",
+    ),
+    (
+        r#"{"do":"source","name":"s","kind":"ship","x":0,"y":0,"h":1,"lw":[0,0,0,0,0,0,0,0]}"#,
+        "UnknownKind,ship",
+    ),
+    (
+        r#"{"do":"source","name":"s","kind":"","x":0,"y":0,"h":1,"lw":[0,0,0,0,0,0,0,0]}"#,
+        "UnknownKind",
+    ),
+    (
+        r#"{"do":"barrier","name":"b","points":[[-4000000,4000000],[-4000000,3999999]],"h":100000,"density":100000,"rho":1000}"#,
+        "put",
+    ),
+    (
+        r#"{"do":"barrier","name":"b","points":[[0,0],[262143,0]],"h":1,"density":10,"rho":201}"#,
+        "put",
+    ),
+    (
+        r#"{"do":"barrier","name":"b","points":[[0,0],[1,0]],"h":1,"density":9}"#,
+        "TooLight,9",
+    ),
+    (
+        r#"{"do":"barrier","name":"b","points":[[0,0],[1,0]],"h":1,"density":-1,"rho":1001}"#,
+        "OutOfRange,density,-1",
+    ),
+    (
+        r#"{"do":"barrier","name":"b","points":[[0,0],[1,0]],"h":1,"density":0,"rho":200}"#,
+        "TooLight,0",
+    ),
+    (
+        r#"{"do":"barrier","name":"b","points":[[0,0],[1,0]],"h":1,"density":100001}"#,
+        "OutOfRange,density,100001",
+    ),
+    (
+        r#"{"do":"barrier","name":"b","points":[[0,0],[1,0]],"h":1,"density":10,"rho":-1}"#,
+        "OutOfRange,rho,-1",
+    ),
+    (
+        r#"{"do":"barrier","name":"b","points":[[0,0],[1,0]],"h":1,"density":10,"rho":1001}"#,
+        "OutOfRange,rho,1001",
+    ),
+    (
+        r#"{"do":"barrier","name":"b","points":[[0,0],[1,0]],"h":1,"density":10,"rho":200}"#,
+        "WeakMirror,200",
+    ),
+    (
+        r#"{"do":"barrier","name":"b","points":[[0,0],[1,0]],"h":1,"density":10,"rho":1}"#,
+        "WeakMirror,1",
+    ),
+    (
+        r#"{"do":"barrier","name":"b","points":[[0,0],[1,0]],"h":1,"density":10,"rho":0}"#,
+        "put",
+    ),
+    (
+        r#"{"do":"barrier","name":"b","points":[[0,0],[1,0]],"h":1,"density":10,"rho":201}"#,
+        "put",
+    ),
+    (
+        r#"{"do":"barrier","name":"b","points":[[0,-4000001],[4000001,0]],"h":0,"density":10}"#,
+        "OutOfRange,points,-4000001",
+    ),
+    (
+        r#"{"do":"barrier","name":"b","points":[[0,0],[0,4000001]],"h":1,"density":10}"#,
+        "OutOfRange,points,4000001",
+    ),
+    (
+        r#"{"do":"barrier","name":"b","points":[[0,0],[1,0]],"h":0,"density":-1}"#,
+        "OutOfRange,h,0",
+    ),
+    (
+        r#"{"do":"barrier","name":"b","points":[[0,0],[1,0]],"h":100001,"density":10}"#,
+        "OutOfRange,h,100001",
+    ),
+    (
+        r#"{"do":"barrier","name":"b","points":[[0,0],[262144,0]],"h":1,"density":10,"rho":200}"#,
+        "SideTooLong,0,262144",
+    ),
+    (
+        r#"{"do":"barrier","name":"b","points":[[0,0]],"h":1,"density":10}"#,
+        "FewCorners,1",
+    ),
+    (
+        r#"{"do":"barrier","name":"b","points":[[0,0],[0,0]],"h":1,"density":10}"#,
+        "FlatShape",
+    ),
+    (
+        r#"{"do":"barrier","name":"b","points":[[0,0],[1,0],[185365,185365]],"h":1,"density":10}"#,
+        "SideTooLong,1,262144",
+    ),
+    (
+        r#"{"do":"building","name":"b","points":[[0,0],[1,0],[1,1]],"h":100000,"rho":1000}"#,
+        "put",
+    ),
+    (
+        r#"{"do":"building","name":"b","points":[[0,0],[1,0],[1,1]],"h":0,"rho":1001}"#,
+        "OutOfRange,h,0",
+    ),
+    (
+        r#"{"do":"building","name":"b","points":[[0,0],[1,0],[1,1]],"h":100001}"#,
+        "OutOfRange,h,100001",
+    ),
+    (
+        r#"{"do":"building","name":"b","points":[[0,0],[1,0],[1,1]],"h":1,"rho":-1}"#,
+        "OutOfRange,rho,-1",
+    ),
+    (
+        r#"{"do":"building","name":"b","points":[[0,0],[1,0],[1,1]],"h":1,"rho":1001}"#,
+        "OutOfRange,rho,1001",
+    ),
+    (
+        r#"{"do":"building","name":"b","points":[[0,0],[1,0]],"h":1}"#,
+        "FewCorners,2",
+    ),
+    (
+        r#"{"do":"building","name":"b","points":[[0,0],[1000,0],[2000,0]],"h":1}"#,
+        "FlatShape",
+    ),
+    (
+        r#"{"do":"building","name":"b","points":[[0,0],[200000,0],[200000,200000]],"h":1}"#,
+        "SideTooLong,2,282842",
+    ),
+    (
+        r#"{"do":"building","name":"b","points":[[0,0],[1,0],[1,1]],"h":1,"rho":200}"#,
+        "WeakMirror,200",
+    ),
+    (
+        r#"{"do":"zone","name":"z","points":[[0,0],[1,0],[1,1]],"g":100}"#,
+        "put",
+    ),
+    (
+        r#"{"do":"zone","name":"z","points":[[0,0],[1,0],[1,1]],"g":-1}"#,
+        "OutOfRange,g,-1",
+    ),
+    (
+        r#"{"do":"zone","name":"z","points":[[0,0],[1,0],[1,1]],"g":101}"#,
+        "OutOfRange,g,101",
+    ),
+    (
+        r#"{"do":"zone","name":"z","points":[[0,0],[1,0]],"g":0}"#,
+        "FewCorners,2",
+    ),
+    (
+        r#"{"do":"zone","name":"z","points":[[0,0],[1,0],[2,0]],"g":0}"#,
+        "FlatShape",
+    ),
+    (
+        r#"{"do":"zone","name":"z","points":[[0,0],[300000,0],[0,300000]],"g":0}"#,
+        "put",
+    ),
+    (
+        r#"{"do":"zone","name":"z","points":[[0,0],[1,0],[1,4000001]],"g":101}"#,
+        "OutOfRange,points,4000001",
+    ),
+    (
+        r#"{"do":"receiver","name":"r","x":-4000000,"y":-4000000,"h":100000}"#,
+        "put",
+    ),
+    (
+        r#"{"do":"receiver","name":"r","x":-4000001,"y":4000001,"h":1}"#,
+        "OutOfRange,x,-4000001",
+    ),
+    (
+        r#"{"do":"receiver","name":"r","x":0,"y":4000001,"h":0}"#,
+        "OutOfRange,y,4000001",
+    ),
+    (
+        r#"{"do":"receiver","name":"r","x":0,"y":0,"h":0}"#,
+        "OutOfRange,h,0",
+    ),
+    (
+        r#"{"do":"receiver","name":"r","x":0,"y":0,"h":100001}"#,
+        "OutOfRange,h,100001",
+    ),
+    (
+        r#"{"do":"grid","name":"g","x":0,"y":0,"step":1000000,"columns":5,"rows":5,"h":1}"#,
+        "grid",
+    ),
+    (
+        r#"{"do":"grid","name":"g","x":0,"y":0,"step":1,"columns":4096,"rows":4096,"h":100000}"#,
+        "grid",
+    ),
+    (
+        r#"{"do":"grid","name":"g","x":4000001,"y":4000001,"step":1,"columns":1,"rows":1,"h":1}"#,
+        "OutOfRange,x,4000001",
+    ),
+    (
+        r#"{"do":"grid","name":"g","x":0,"y":4000001,"step":0,"columns":1,"rows":1,"h":1}"#,
+        "OutOfRange,y,4000001",
+    ),
+    (
+        r#"{"do":"grid","name":"g","x":0,"y":0,"step":0,"columns":0,"rows":1,"h":1}"#,
+        "OutOfRange,step,0",
+    ),
+    (
+        r#"{"do":"grid","name":"g","x":0,"y":0,"step":1000001,"columns":1,"rows":1,"h":1}"#,
+        "OutOfRange,step,1000001",
+    ),
+    (
+        r#"{"do":"grid","name":"g","x":0,"y":0,"step":1,"columns":0,"rows":0,"h":1}"#,
+        "OutOfRange,columns,0",
+    ),
+    (
+        r#"{"do":"grid","name":"g","x":0,"y":0,"step":1,"columns":4097,"rows":1,"h":1}"#,
+        "OutOfRange,columns,4097",
+    ),
+    (
+        r#"{"do":"grid","name":"g","x":0,"y":0,"step":1,"columns":1,"rows":0,"h":0}"#,
+        "OutOfRange,rows,0",
+    ),
+    (
+        r#"{"do":"grid","name":"g","x":0,"y":0,"step":1,"columns":1,"rows":4097,"h":1}"#,
+        "OutOfRange,rows,4097",
+    ),
+    (
+        r#"{"do":"grid","name":"g","x":0,"y":0,"step":1,"columns":1,"rows":1,"h":0}"#,
+        "OutOfRange,h,0",
+    ),
+    (
+        r#"{"do":"grid","name":"g","x":0,"y":0,"step":1,"columns":1,"rows":1,"h":100001}"#,
+        "OutOfRange,h,100001",
+    ),
+    (
+        r#"{"do":"grid","name":"g","x":0,"y":0,"step":1000000,"columns":6,"rows":6,"h":1}"#,
+        "OutOfRange,columns,6",
+    ),
+    (
+        r#"{"do":"grid","name":"g","x":0,"y":0,"step":1000000,"columns":5,"rows":6,"h":0}"#,
+        "OutOfRange,rows,6",
+    ),
+    (
+        r#"{"do":"set","reach":1,"g":0,"air":"15/20","c0":0}"#,
+        "set",
+    ),
+    (
+        r#"{"do":"set","reach":4000000,"g":100,"air":"10/70","c0":1000}"#,
+        "set",
+    ),
+    (r#"{"do":"set","reach":0,"g":101}"#, "OutOfRange,reach,0"),
+    (
+        r#"{"do":"set","reach":4000001}"#,
+        "OutOfRange,reach,4000001",
+    ),
+    (r#"{"do":"set","g":-1}"#, "OutOfRange,g,-1"),
+    (r#"{"do":"set","g":101,"c0":1001}"#, "OutOfRange,g,101"),
+    (r#"{"do":"set","c0":-1}"#, "OutOfRange,c0,-1"),
+    (r#"{"do":"set","c0":1001,"air":"x"}"#, "OutOfRange,c0,1001"),
+    (r#"{"do":"set","air":"10/80"}"#, "UnknownKind,10/80"),
+    (r#"{"do":"set","air":"30/70"}"#, "set"),
+];
