@@ -1,0 +1,10 @@
+//! Paths of sound in plan: their two ends, the plan length, and the legs by which they lead.
+#![tactic(auto)]
+
+mod legs;
+mod path;
+#[cfg(test)]
+mod tests;
+
+pub use legs::Legs;
+pub use path::Path;

@@ -1,0 +1,6 @@
+pub mod Bounds
+pub mod Decaying
+pub mod Same
+pub mod TermBounds
+pub mod Walking
+pub mod Sound

@@ -1,0 +1,167 @@
+-- The formulas of the ground are sound: no divisor of a constant is 0.
+use Rattle.std.proofs.Common.{ℕ, arith, Bool, true, false, List, [], ◌∷◌}
+use Rattle.std.specs.Prelude.{map, pos, int_lt, if◌then◌else◌}
+use Rattle.std.specs.List.{All}
+use Rattle.std.proofs.lemmas.Int.{ints}
+use Rattle.std.proofs.lemmas.List.Elements.{All-cons, All-nil}
+use Rattle.fix_interval.specs.Tree.{Tree, Add, Sub, Neg, Min, IsSound}
+use Rattle.scene_geom.specs.declared.plan.Pt.{Pt}
+use Rattle.scene_geom.specs.declared.fraction.Frac.{Frac}
+use Rattle.scene_geom.specs.declared.direction.Dir.{Dir}
+use Rattle.scene_geom.specs.declared.crossing.Passage.{Passage}
+use Rattle.scene_geom.specs.Outline.{ring, area2_of, passages_of, meets_of}
+use Rattle.scene_parts.specs.Seen.{Zone}
+use Rattle.path_shape.specs.declared.legs.Legs.{Legs}
+use Rattle.path_shape.specs.declared.legs.Legs.TheVariants.{One, Two}
+use Rattle.path_shape.specs.declared.path.Path.{Path}
+use Rattle.term_ground.specs.declared.region.Region.{Region}
+use Rattle.term_ground.specs.declared.region.Region.TheVariants.{Source, Middle, Receiver}
+use Rattle.term_ground.specs.Lengths.{zero_form, one_form, factor, plus_all}
+use Rattle.term_ground.specs.Zones.{place_form, before, signed, counted, left_of_sides, length_inside, rest_of, met_zones, length_on_leg, length_on_legs}
+use Rattle.term_ground.specs.Regions.{region_start, region_end, region_from, zone_term, stretch_share, share_of}
+use Rattle.term_ground.specs.Ground.{near_growth, far_growth, decay_at_125, far_decay_at_125, decay_at_250, decay_at_500, decay_at_1000, shape_at_125, shape_at_250, shape_at_500, shape_at_1000, low_at, high_at, minus_one_and_a_half, middle_part, middle_at_63, middle_above, ground}
+
+sound-sum : {X : Type 0} (f : X → Tree) → ((x : X) → IsSound (f x)) → (total : Tree) → IsSound total → (xs : List X) → IsSound (plus_all total (map f xs))
+sound-sum f each total h [] = h
+sound-sum f each total h (x ∷ xs) = sound-sum f each (Add total (f x)) (h, each x) xs
+
+-- ---- zones
+
+sound-place : (place : Frac) → IsSound (place_form place)
+sound-place place = omega (arith, ints, place.positive)
+
+sound-before : (place : Frac) (a b : Tree) → IsSound a → IsSound b → IsSound (before place a b)
+sound-before place a b h k = (omega arith, ((sound-place place, k), h))
+
+sound-signed : (to_left : Bool) (part : Tree) → IsSound part → IsSound (signed to_left part)
+sound-signed true part h = h
+sound-signed false part h = h
+
+sound-left_of_sides : (passages : List Passage) (a b : Tree) → IsSound a → IsSound b → IsSound (left_of_sides passages a b)
+sound-left_of_sides passages a b h k =
+    sound-sum (counted a b) (λ passage. sound-signed passage.to_left (before passage.place a b) (sound-before passage.place a b h k)) zero_form (omega arith) passages
+
+sound-turned : (negative : Bool) (t : Tree) → IsSound t → IsSound (if negative then Neg t else t)
+sound-turned true t h = h
+sound-turned false t h = h
+
+sound-length_inside : (outline : List Pt) (from : Pt) (dir : Dir) (a b : Tree) → IsSound a → IsSound b → IsSound (length_inside outline from dir a b)
+sound-length_inside outline from dir a b h k =
+    sound-turned (int_lt (area2_of outline) (pos 0)) (left_of_sides (passages_of (ring outline) from dir) a b) (sound-left_of_sides (passages_of (ring outline) from dir) a b h k)
+
+sound-met : (met : Bool) (t : Tree) → IsSound t → IsSound (if met then t else zero_form)
+sound-met true t h = h
+sound-met false t h = omega arith
+
+sound-length_on_leg : (outline : List Pt) (from : Pt) (dir : Dir) (end : Frac) (a b : Tree) → IsSound a → IsSound b → IsSound (length_on_leg outline from dir end a b)
+sound-length_on_leg outline from dir end a b h k = sound-met (meets_of outline from dir end) (length_inside outline from dir a b) (sound-length_inside outline from dir a b h k)
+
+sound-length_on_legs : (legs : Legs) (s r : Pt) (outline : List Pt) (a b : Tree) → IsSound a → IsSound b → IsSound (length_on_legs legs s r outline a b)
+sound-length_on_legs (One dir) s r outline a b h k = sound-length_inside outline s dir a b h k
+sound-length_on_legs (Two first second p) s r outline a b h k = (
+  sound-length_on_leg outline s first p a (Min b (place_form p)) h (k, sound-place p),
+  sound-length_on_leg outline r second (rest_of p) (Sub one_form b) (Min (Sub one_form a) (place_form (rest_of p))) (omega arith, k) ((omega arith, h), sound-place (rest_of p)),
+)
+
+-- ---- shares
+
+sound-zone_term : (g0 : ℕ) (path : Path) (u0 u1 : Tree) → IsSound u0 → IsSound u1 → (zone : Zone) → IsSound (zone_term g0 path u0 u1 zone)
+sound-zone_term g0 path u0 u1 h k zone =
+    (((omega arith, omega arith), sound-length_on_legs path.legs path.s path.r zone.points u0 u1 h k), (k, h))
+
+sound-stretch_share : (zones : List Zone) (g0 : ℕ) (path : Path) (u0 u1 : Tree) → IsSound u0 → IsSound u1 → IsSound (stretch_share zones g0 path u0 u1)
+sound-stretch_share zones g0 path u0 u1 h k =
+    (omega arith, (omega arith, sound-sum (zone_term g0 path u0 u1) (sound-zone_term g0 path u0 u1 h k) (factor g0) (omega arith) (met_zones path zones)))
+
+sound-start : (region : Region) (path : Path) (dp : Tree) → IsSound dp → IsSound (region_start region path dp)
+sound-start Source path dp h = omega arith
+sound-start Middle path dp h = (omega arith, h)
+sound-start Receiver path dp h = (omega arith, (omega arith, (omega arith, h)))
+
+sound-end : (region : Region) (path : Path) (dp : Tree) → IsSound dp → IsSound (region_end region path dp)
+sound-end Source path dp h = (omega arith, (omega arith, h))
+sound-end Middle path dp h = (omega arith, (omega arith, h))
+sound-end Receiver path dp h = omega arith
+
+sound-from : (region : Region) (path : Path) → IsSound (region_from region path)
+sound-from Source path = omega arith
+sound-from Middle path = omega arith
+sound-from Receiver path = omega arith
+
+sound-share : (region : Region) (zones : List Zone) (g0 : ℕ) (path : Path) (dp : Tree) → IsSound dp → IsSound (share_of region zones g0 path dp)
+unfolding share_of
+sound-share region zones g0 path dp h =
+    (h, sound-from region path, sound-stretch_share zones g0 path (region_start region path dp) (region_end region path dp) (sound-start region path dp h) (sound-end region path dp h), omega arith)
+
+-- ---- Table 3
+
+sound-shape_at_125 : (h : ℕ) (dp : Tree) → IsSound dp → IsSound (shape_at_125 h dp)
+unfolding decay_at_125 far_decay_at_125 near_growth far_growth
+sound-shape_at_125 h dp k = search (arith, k)
+
+sound-shape_at_250 : (h : ℕ) (dp : Tree) → IsSound dp → IsSound (shape_at_250 h dp)
+unfolding decay_at_250 near_growth
+sound-shape_at_250 h dp k = search (arith, k)
+
+sound-shape_at_500 : (h : ℕ) (dp : Tree) → IsSound dp → IsSound (shape_at_500 h dp)
+unfolding decay_at_500 near_growth
+sound-shape_at_500 h dp k = search (arith, k)
+
+sound-shape_at_1000 : (h : ℕ) (dp : Tree) → IsSound dp → IsSound (shape_at_1000 h dp)
+unfolding decay_at_1000 near_growth
+sound-shape_at_1000 h dp k = search (arith, k)
+
+sound-part : (path : Path) (dp : Tree) → IsSound dp → IsSound (middle_part path dp)
+unfolding middle_part
+sound-part path dp k = (k, omega arith, (omega arith, (omega arith, k)), omega arith)
+
+all_eight : (a b c d e f g h : Tree) → IsSound a → IsSound b → IsSound c → IsSound d → IsSound e → IsSound f → IsSound g → IsSound h
+    → All IsSound (a ∷ b ∷ c ∷ d ∷ e ∷ f ∷ g ∷ h ∷ [])
+all_eight a b c d e f g h pa pb pc pd pe pf pg ph =
+    All-cons IsSound a (b ∷ c ∷ d ∷ e ∷ f ∷ g ∷ h ∷ []) pa
+    (All-cons IsSound b (c ∷ d ∷ e ∷ f ∷ g ∷ h ∷ []) pb
+    (All-cons IsSound c (d ∷ e ∷ f ∷ g ∷ h ∷ []) pc
+    (All-cons IsSound d (e ∷ f ∷ g ∷ h ∷ []) pd
+    (All-cons IsSound e (f ∷ g ∷ h ∷ []) pe
+    (All-cons IsSound f (g ∷ h ∷ []) pf
+    (All-cons IsSound g (h ∷ []) pg
+    (All-cons IsSound h [] ph (All-nil IsSound))))))))
+
+sound-low : (g shape : Tree) → IsSound g → IsSound shape → IsSound (low_at g shape)
+sound-low g shape h k = (omega arith, (h, k))
+
+sound-high : (g : Tree) → IsSound g → IsSound (high_at g)
+sound-high g h = (omega arith, (omega arith, h))
+
+sound-middle : (q g : Tree) → IsSound q → IsSound g → IsSound (middle_above q g)
+sound-middle q g h k = ((omega arith, h), (omega arith, k))
+
+sound-low_band : (gs gr q gm s r : Tree) → IsSound gs → IsSound gr → IsSound q → IsSound gm → IsSound s → IsSound r
+    → IsSound (Add (Add (low_at gs s) (low_at gr r)) (middle_above q gm))
+sound-low_band gs gr q gm s r hs hr hq hm ss sr = ((sound-low gs s hs ss, sound-low gr r hr sr), sound-middle q gm hq hm)
+
+sound-high_band : (gs gr q gm : Tree) → IsSound gs → IsSound gr → IsSound q → IsSound gm → IsSound (Add (Add (high_at gs) (high_at gr)) (middle_above q gm))
+sound-high_band gs gr q gm hs hr hq hm = ((sound-high gs hs, sound-high gr hr), sound-middle q gm hq hm)
+
+sound-band_63 : (q : Tree) → IsSound q → IsSound (Add (Add minus_one_and_a_half minus_one_and_a_half) (middle_at_63 q))
+sound-band_63 q h = ((omega arith, omega arith), (omega arith, h))
+
+pub ground-sound : (zones : List Zone) (g0 : ℕ) (path : Path) (dp : Tree) → IsSound dp → All IsSound (ground zones g0 path dp)
+unfolding ground
+ground-sound zones g0 path dp h =
+    let gs = share_of Source zones g0 path dp in
+    let gm = share_of Middle zones g0 path dp in
+    let gr = share_of Receiver zones g0 path dp in
+    let q = middle_part path dp in
+    let s : IsSound (share_of Source zones g0 path dp) = sound-share Source zones g0 path dp h in
+    let m : IsSound (share_of Middle zones g0 path dp) = sound-share Middle zones g0 path dp h in
+    let r : IsSound (share_of Receiver zones g0 path dp) = sound-share Receiver zones g0 path dp h in
+    let p : IsSound (middle_part path dp) = sound-part path dp h in
+    let high = sound-high_band gs gr q gm s r p m in
+    all_eight _ _ _ _ _ _ _ _
+    (sound-band_63 q p)
+    (sound-low_band gs gr q gm (shape_at_125 path.hs dp) (shape_at_125 path.hr dp) s r p m (sound-shape_at_125 path.hs dp h) (sound-shape_at_125 path.hr dp h))
+    (sound-low_band gs gr q gm (shape_at_250 path.hs dp) (shape_at_250 path.hr dp) s r p m (sound-shape_at_250 path.hs dp h) (sound-shape_at_250 path.hr dp h))
+    (sound-low_band gs gr q gm (shape_at_500 path.hs dp) (shape_at_500 path.hr dp) s r p m (sound-shape_at_500 path.hs dp h) (sound-shape_at_500 path.hr dp h))
+    (sound-low_band gs gr q gm (shape_at_1000 path.hs dp) (shape_at_1000 path.hr dp) s r p m (sound-shape_at_1000 path.hs dp h) (sound-shape_at_1000 path.hr dp h))
+    high high high

@@ -1,0 +1,135 @@
+-- Sums found zone by zone and side by side.
+use Rattle.std.proofs.Common.{◌≡◌, ℕ, suc, ◌+◌, ◌<◌, refl, sym, ap, ◌∙◌, Bool, true, false, List, [], ◌∷◌, length, get_or, drop, drop-cons, add-one}
+use Rattle.std.specs.Prelude.{Option, None, Some, map, if◌then◌else◌, pos, int_lt}
+use Rattle.std.specs.List.{cons_option}
+use Rattle.std.specs.Option.{option_to_list}
+use Rattle.fix_interval.specs.Interval.{Interval}
+use Rattle.fix_interval.specs.Tree.{Tree, Known, Add, enc}
+use Rattle.fix_interval.specs.Values.{add_of, neg_of, sub_of, mul_of, div_of}
+use Rattle.scene_geom.specs.declared.plan.Pt.{Pt}
+use Rattle.scene_geom.specs.declared.plan.Side.{Side}
+use Rattle.scene_geom.specs.declared.direction.Dir.{Dir}
+use Rattle.scene_geom.specs.declared.crossing.Passage.{Passage}
+use Rattle.scene_geom.specs.Crossing.{passage_of}
+use Rattle.scene_geom.specs.Outline.{passages_of, ring, area2_of, meets_of}
+use Rattle.scene_parts.specs.Seen.{Zone}
+use Rattle.path_shape.specs.declared.legs.Legs.TheVariants.{One}
+use Rattle.path_shape.specs.declared.path.Path.{Path}
+use Rattle.term_ground.specs.declared.stretch.Stretch.{Stretch}
+use Rattle.term_ground.specs.declared.stretch.Stretches.{Stretches}
+use Rattle.term_ground.specs.declared.stretch.Regional.{Regional}
+use Rattle.term_ground.specs.Lengths.{zero_form, factor, plus_all}
+use Rattle.term_ground.specs.Zones.{counted, length_inside, meets_legs, met_zones, whole}
+use Rattle.term_ground.specs.Walks.{of_stretches, nothing, advanced, walked, walked_sides, known_term, summed}
+
+-- a sum goes on from what is known of it
+pub plus_all-known : (total : Tree) (terms : List Tree) → enc (plus_all total terms) ≡ enc (plus_all (Known (enc total)) terms)
+plus_all-known total [] = refl
+plus_all-known total (term ∷ terms) =
+    plus_all-known (Add total term) terms ∙ sym (plus_all-known (Add (Known (enc total)) term) terms)
+
+advanced-step : (first rest all : Interval → Stretch → Interval) → ((quantity : Interval) (stretch : Stretch) → all quantity stretch ≡ rest (first quantity stretch) stretch)
+    → (quantities : Regional) (stretches : Stretches) → advanced all quantities stretches ≡ advanced rest (advanced first quantities stretches) stretches
+advanced-step first rest all step quantities stretches =
+    rw (step quantities.source stretches.source, step quantities.middle stretches.middle, step quantities.receiver stretches.receiver)
+
+pub drop-step : {X : Type 0} (x : X) (xs : List X) (i : ℕ) → x ≡ get_or xs i x → i < length xs → drop i xs ≡ x ∷ drop (i + 1) xs
+drop-step {X = X} x xs i e h = rw (drop-cons xs i x, add-one) (ap (λ (y : X). y ∷ drop (suc i) xs) (sym e))
+
+-- ---- sides
+
+walked-hit : (hit : Option Passage) (passages : List Passage) (length : Interval) (stretch : Stretch)
+    → walked (cons_option hit passages) length stretch ≡ walked passages (walked (option_to_list hit) length stretch) stretch
+walked-hit None passages length stretch = refl
+walked-hit (Some passage) passages length stretch =
+    plus_all-known (Add (Known length) (counted (Known stretch.from) (Known stretch.to) passage)) (map (counted (Known stretch.from) (Known stretch.to)) passages)
+
+pub sides-next : (side : Side) (sides sides' : List Side) (from : Pt) (dir : Dir) (lengths lengths' total : Regional) (stretches : Stretches)
+    → sides ≡ side ∷ sides' → lengths' ≡ advanced (walked (option_to_list (passage_of side from dir))) lengths stretches
+    → advanced (walked_sides sides from dir) lengths stretches ≡ total → advanced (walked_sides sides' from dir) lengths' stretches ≡ total
+sides-next side sides sides' from dir lengths lengths' total stretches e f g =
+    ap (λ (l : Regional). advanced (walked_sides sides' from dir) l stretches) f
+    ∙ sym (advanced-step (walked (option_to_list (passage_of side from dir))) (walked_sides sides' from dir) (walked_sides (side ∷ sides') from dir)
+    (λ length stretch. walked-hit (passage_of side from dir) (passages_of sides' from dir) length stretch) lengths stretches)
+    ∙ ap (λ (s : List Side). advanced (walked_sides s from dir) lengths stretches) (sym e)
+    ∙ g
+
+pub sides-end : (side : Side) (sides : List Side) (from : Pt) (dir : Dir) (lengths lengths' total : Regional) (stretches : Stretches)
+    → sides ≡ side ∷ [] → lengths' ≡ advanced (walked (option_to_list (passage_of side from dir))) lengths stretches
+    → advanced (walked_sides sides from dir) lengths stretches ≡ total → lengths' ≡ total
+sides-end side sides from dir lengths lengths' total stretches e f g = sides-next side sides [] from dir lengths lengths' total stretches e f g
+
+-- the sign by the area
+inside-turned : (outline : List Pt) (from : Pt) (dir : Dir) (stretch : Stretch) → int_lt (area2_of outline) (pos 0) ≡ true
+    → neg_of (walked_sides (ring outline) from dir (enc zero_form) stretch) ≡ enc (length_inside outline from dir (Known stretch.from) (Known stretch.to))
+inside-turned outline from dir stretch h =
+    rw h
+    (ap neg_of (sym (plus_all-known zero_form (map (counted (Known stretch.from) (Known stretch.to)) (passages_of (ring outline) from dir)))))
+
+inside-straight : (outline : List Pt) (from : Pt) (dir : Dir) (stretch : Stretch) → int_lt (area2_of outline) (pos 0) ≡ false
+    → walked_sides (ring outline) from dir (enc zero_form) stretch ≡ enc (length_inside outline from dir (Known stretch.from) (Known stretch.to))
+inside-straight outline from dir stretch h =
+    rw h
+    (sym (plus_all-known zero_form (map (counted (Known stretch.from) (Known stretch.to)) (passages_of (ring outline) from dir))))
+
+pub lengths-turned : (outline : List Pt) (from : Pt) (dir : Dir) (stretches : Stretches) (lengths : Regional)
+    → lengths ≡ advanced (walked_sides (ring outline) from dir) nothing stretches → int_lt (area2_of outline) (pos 0) ≡ true
+    → record { source = neg_of lengths.source; middle = neg_of lengths.middle; receiver = neg_of lengths.receiver }
+    ≡ of_stretches (λ stretch. enc (length_inside outline from dir (Known stretch.from) (Known stretch.to))) stretches
+lengths-turned outline from dir stretches lengths e h =
+    ap (λ (l : Regional). record { source = neg_of l.source; middle = neg_of l.middle; receiver = neg_of l.receiver }) e
+    ∙ rw (← inside-turned outline from dir stretches.source h, ← inside-turned outline from dir stretches.middle h, ← inside-turned outline from dir stretches.receiver h) refl
+
+pub lengths-straight : (outline : List Pt) (from : Pt) (dir : Dir) (stretches : Stretches) (lengths : Regional)
+    → lengths ≡ advanced (walked_sides (ring outline) from dir) nothing stretches → int_lt (area2_of outline) (pos 0) ≡ false
+    → lengths ≡ of_stretches (λ stretch. enc (length_inside outline from dir (Known stretch.from) (Known stretch.to))) stretches
+lengths-straight outline from dir stretches lengths e h =
+    e ∙ rw (← inside-straight outline from dir stretches.source h, ← inside-straight outline from dir stretches.middle h, ← inside-straight outline from dir stretches.receiver h) refl
+
+-- ---- zones
+
+zone-met : (zone : Zone) (outside : Interval) (path : Path) (dir : Dir) (sum : Interval) (stretch : Stretch)
+    → path.legs ≡ One dir → meets_of zone.points path.s dir whole ≡ true
+    → summed (zone ∷ []) outside path sum stretch
+    ≡ add_of sum (div_of (mul_of (sub_of (enc (factor zone.g)) outside) (enc (length_inside zone.points path.s dir (Known stretch.from) (Known stretch.to)))) (sub_of stretch.to stretch.from))
+zone-met zone outside path dir sum stretch e met = rw (e, met) refl
+
+zone-unmet : (zone : Zone) (outside : Interval) (path : Path) (dir : Dir) (sum : Interval) (stretch : Stretch)
+    → path.legs ≡ One dir → meets_of zone.points path.s dir whole ≡ false → summed (zone ∷ []) outside path sum stretch ≡ sum
+zone-unmet zone outside path dir sum stretch e unmet = rw (e, unmet) refl
+
+-- a sum with the term of a zone
+abbrev pub with_term_of : Interval → Interval → Interval → Stretch → Interval
+with_term_of sum difference length stretch = add_of sum (div_of (mul_of difference length) (sub_of stretch.to stretch.from))
+
+pub zones-met : (zone : Zone) (outside : Interval) (path : Path) (dir : Dir) (sums : Regional) (stretches : Stretches) (difference : Interval) (lengths : Regional)
+    → path.legs ≡ One dir → meets_of zone.points path.s dir whole ≡ true → difference ≡ sub_of (enc (factor zone.g)) outside
+    → lengths ≡ of_stretches (λ stretch. enc (length_inside zone.points path.s dir (Known stretch.from) (Known stretch.to))) stretches
+    → record {
+      source = with_term_of sums.source difference lengths.source stretches.source;
+      middle = with_term_of sums.middle difference lengths.middle stretches.middle;
+      receiver = with_term_of sums.receiver difference lengths.receiver stretches.receiver;
+    } ≡ advanced (summed (zone ∷ []) outside path) sums stretches
+zones-met zone outside path dir sums stretches difference lengths e met d l =
+    rw (l, d, zone-met zone outside path dir sums.source stretches.source e met, zone-met zone outside path dir sums.middle stretches.middle e met, zone-met zone outside path dir sums.receiver stretches.receiver e met) refl
+
+pub zones-unmet : (zone : Zone) (outside : Interval) (path : Path) (dir : Dir) (sums : Regional) (stretches : Stretches)
+    → path.legs ≡ One dir → meets_of zone.points path.s dir whole ≡ false → sums ≡ advanced (summed (zone ∷ []) outside path) sums stretches
+zones-unmet zone outside path dir sums stretches e unmet =
+    rw (zone-unmet zone outside path dir sums.source stretches.source e unmet, zone-unmet zone outside path dir sums.middle stretches.middle e unmet, zone-unmet zone outside path dir sums.receiver stretches.receiver e unmet) refl
+
+kept : (term : Zone → Tree) (test : Bool) (zone : Zone) (zones : List Zone) (sum : Interval)
+    → enc (plus_all (Known sum) (map term (if test then zone ∷ zones else zones)))
+    ≡ enc (plus_all (Known (enc (plus_all (Known sum) (map term (if test then zone ∷ [] else []))))) (map term zones))
+kept term true zone zones sum = plus_all-known (Add (Known sum) (term zone)) (map term zones)
+kept term false zone zones sum = refl
+
+pub zones-next : (zone : Zone) (zones zones' : List Zone) (outside : Interval) (path : Path) (sums sums' total : Regional) (stretches : Stretches)
+    → zones ≡ zone ∷ zones' → sums' ≡ advanced (summed (zone ∷ []) outside path) sums stretches
+    → advanced (summed zones outside path) sums stretches ≡ total → advanced (summed zones' outside path) sums' stretches ≡ total
+zones-next zone zones zones' outside path sums sums' total stretches e f g =
+    ap (λ (s : Regional). advanced (summed zones' outside path) s stretches) f
+    ∙ sym (advanced-step (summed (zone ∷ []) outside path) (summed zones' outside path) (summed (zone ∷ zones') outside path)
+    (λ sum stretch. kept (known_term outside path stretch) (meets_legs path.legs path.s path.r zone.points) zone (met_zones path zones') sum) sums stretches)
+    ∙ ap (λ (z : List Zone). advanced (summed z outside path) sums stretches) (sym e)
+    ∙ g

@@ -1,0 +1,192 @@
+//! The attenuation by the ground in the octave bands (ISO 9613-2, equation 9 and Table 3).
+
+ghost use Rattle.std.specs.Prelude.{◌≡◌, ◌≤◌, ◌^◌, pos, neg_ℤ, map, true, Some};
+ghost use Rattle.std.specs.List.{All};
+ghost use Rattle.fix_interval.specs.Bounds.{AreBetween};
+ghost use Rattle.fix_interval.specs.Tree.{Known, Add, Const, Mul, enc};
+ghost use Rattle.path_shape.specs.Shape.{IsPath};
+ghost use Rattle.term_ground.specs.Ground.{ground};
+ghost use Rattle.term_ground.specs.EndRegions.{IsEndRegion, hard};
+ghost use Rattle.term_ground.specs.Ground as form;
+
+use crate::decays::{Decays, Growths, decays_at, growths_over};
+use crate::share::shares;
+use crate::stretch::{Regional, middle_from};
+use fix_interval::{Iv, add, div, exact, less, mul, pick, sub};
+use path_shape::Path;
+use scene_parts::Zone;
+
+/// The attenuation by the ground in dB (ISO 9613-2, 7.3.1), in the octave bands from 63 Hz to 8 kHz, among zones of ground
+/// and with the ground factor `g0`, in hundredths, outside of them. For a ground factor of at most 1 and heights of at most
+/// 100 m all ends are from -16 dB to 2^26 dB.
+pub fn a_gr(zones: &[Zone], g0: u8, path: &Path) -> [Iv; 8]
+    requires { IsPath path.now }
+    ensures value { result ≡ map enc (ground zones.now g0 path.now (Known path.now.dp)) }
+    ensures bounds { g0 ≤ 100 → path.now.hs ≤ 100000 → path.now.hr ≤ 100000 → All (AreBetween (neg_ℤ (pos (2 ^ 36))) (pos (2 ^ 58))) result }
+{
+    a_gr_between(zones, g0, path, &decays_at(path.hs), &decays_at(path.hr))
+}
+
+/// The same, with the decays at the heights of the source and of the receiver at hand.
+pub fn a_gr_between(
+    zones: &[Zone],
+    g0: u8,
+    path: &Path,
+    source: &Decays,
+    receiver: &Decays,
+) -> [Iv; 8]
+    requires path { IsPath path.now }
+    requires source { source.now.h ≡ path.now.hs }
+    requires receiver { receiver.now.h ≡ path.now.hr }
+    ensures value { result ≡ map enc (ground zones.now g0 path.now (Known path.now.dp)) }
+    ensures bounds { g0 ≤ 100 → path.now.hs ≤ 100000 → path.now.hr ≤ 100000 → All (AreBetween (neg_ℤ (pos (2 ^ 36))) (pos (2 ^ 58))) result }
+{
+    attenuations(zones, g0, path, source, receiver)
+}
+
+/// The attenuations in the bands.
+#[tactic(auto, unfolding(crate::specs::Ground::ground))]
+fn attenuations(zones: &[Zone], g0: u8, path: &Path, source: &Decays, receiver: &Decays) -> [Iv; 8]
+    requires path { IsPath path.now }
+    requires source { source.now.h ≡ path.now.hs }
+    requires receiver { receiver.now.h ≡ path.now.hr }
+    ensures { result ≡ map enc (ground zones.now g0 path.now (Known path.now.dp)) }
+{
+    let shares = shares(zones, g0, path);
+    let (near_source, near_receiver) = end_regions(&shares, path, source, receiver);
+    let below = base();
+    let at_63 = middle_at_63(middle_part(path));
+    let middle = middle_above(at_63, shares.middle);
+    let high = sum(near_source.high, near_receiver.high, middle);
+    [
+        sum(below, below, at_63),
+        sum(near_source.at_125, near_receiver.at_125, middle),
+        sum(near_source.at_250, near_receiver.at_250, middle),
+        sum(near_source.at_500, near_receiver.at_500, middle),
+        sum(near_source.at_1000, near_receiver.at_1000, middle),
+        high,
+        high,
+        high,
+    ]
+}
+
+/// A_s + A_r + A_m
+fn sum(source: Iv, receiver: Iv, middle: Iv) -> Iv
+    ensures { result ≡ enc (Add (Add (Known source) (Known receiver)) (Known middle)) }
+{
+    add(add(source, receiver), middle)
+}
+
+/// A_s or A_r in the bands from 125 Hz on.
+#[derive(Clone, Copy, Drop)]
+struct EndRegion {
+    at_125: Iv,
+    at_250: Iv,
+    at_500: Iv,
+    at_1000: Iv,
+    /// In each band from 2 kHz on.
+    high: Iv,
+}
+
+/// A_s and A_r. Where neither region has porous ground, they are the same at every height and distance.
+fn end_regions(
+    shares: &Regional,
+    path: &Path,
+    source: &Decays,
+    receiver: &Decays,
+) -> (EndRegion, EndRegion)
+    requires { IsPath path.now }
+    ensures source { IsEndRegion result.0 shares.now.source source.now.h (Known path.now.dp) }
+    ensures receiver { IsEndRegion result.1 shares.now.receiver receiver.now.h (Known path.now.dp) }
+{
+    if is_hard(shares.source) && is_hard(shares.receiver) {
+        return (hard_region(), hard_region());
+    }
+    let growths = growths_over(path);
+    (
+        end_region(shares.source, source, &growths),
+        end_region(shares.receiver, receiver, &growths),
+    )
+}
+
+/// Whether a ground factor is exactly 0.
+fn is_hard(share: Iv) -> bool
+    ensures { result ≡ true → share ≡ record { lo = Some (pos 0); hi = Some (pos 0) } }
+{
+    share.low() == Some(0) && share.high() == Some(0)
+}
+
+/// A_s and A_r on hard ground.
+fn hard_region() -> EndRegion
+    ensures { result ≡ hard }
+{
+    let base = base();
+    EndRegion {
+        at_125: base,
+        at_250: base,
+        at_500: base,
+        at_1000: base,
+        high: base,
+    }
+}
+
+/// A_s or A_r, with the ground factor of the region.
+fn end_region(share: Iv, decays: &Decays, growths: &Growths) -> EndRegion
+    ensures { IsEndRegion result share decays.now.h (Known growths.now.dp) }
+{
+    let base = base();
+    let late = one_and_a_half();
+    let near = growths.near;
+    let first = add(late, mul(decays.at_125, near));
+    let at_125 = add(first, mul(decays.far_at_125, growths.far));
+    let at_250 = add(late, mul(decays.at_250, near));
+    let at_500 = add(late, mul(decays.at_500, near));
+    let at_1000 = add(late, mul(decays.at_1000, near));
+    EndRegion {
+        at_125: add(base, mul(share, at_125)),
+        at_250: add(base, mul(share, at_250)),
+        at_500: add(base, mul(share, at_500)),
+        at_1000: add(base, mul(share, at_1000)),
+        high: mul(base, sub(exact(1), share)),
+    }
+}
+
+/// A_s and A_r on hard ground, in dB.
+#[tactic(auto, unfolding(fix_interval::specs::Values::ratio_of, fix_interval::specs::Units::unit))]
+fn base() -> Iv
+    ensures { result ≡ enc form.minus_one_and_a_half }
+{
+    Iv::of_ends(Some(-6_442_450_944), Some(-6_442_450_944))
+}
+
+/// 1.5, in the functions below Table 3.
+#[tactic(auto, unfolding(fix_interval::specs::Values::ratio_of, fix_interval::specs::Units::unit))]
+fn one_and_a_half() -> Iv
+    ensures { result ≡ enc form.one_and_a_half }
+{
+    Iv::of_ends(Some(6_442_450_944), Some(6_442_450_944))
+}
+
+/// q, the part of a path that is its middle region.
+#[tactic(auto, unfolding(crate::specs::Ground::middle_part))]
+fn middle_part(path: &Path) -> Iv
+    ensures { result ≡ enc (form.middle_part path.now (Known path.now.dp)) }
+{
+    let from = middle_from(path);
+    let part = sub(exact(1), div(from, path.dp));
+    pick(less(from, path.dp), part, exact(0))
+}
+
+/// A_m at 63 Hz.
+fn middle_at_63(q: Iv) -> Iv
+    ensures { result ≡ enc (form.middle_at_63 (Known q)) }
+{
+    mul(exact(-3), q)
+}
+
+/// A_m in the bands from 125 Hz on, with the ground factor of the middle region.
+fn middle_above(at_63: Iv, share: Iv) -> Iv
+    ensures { result ≡ enc (Mul (Known at_63) (form.rest (Known share))) }
+{
+    mul(at_63, sub(exact(1), share))
+}

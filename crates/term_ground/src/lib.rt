@@ -1,0 +1,21 @@
+//! The attenuation by the ground (ISO 9613-2, 7.3.1), as enclosing intervals.
+//!
+//! A path has a source region, a middle region and a receiver region. Each has a ground factor G, the part of it that is
+//! porous, of which Table 3 makes the attenuation in each octave band.
+#![tactic(auto)]
+
+mod attenuation;
+mod covering;
+mod decays;
+pub mod laws;
+mod lengths;
+mod region;
+mod share;
+mod stretch;
+#[cfg(test)]
+mod tests;
+
+pub use attenuation::{a_gr, a_gr_between};
+pub use decays::{Decays, decays_at};
+pub use region::Region;
+pub use share::region_share;

@@ -1,0 +1,136 @@
+//! The ground factors of the regions of a path.
+
+ghost use Rattle.std.specs.Prelude.{◌≡◌, [], ◌∷◌};
+ghost use Rattle.fix_interval.specs.Tree.{Known, Pick, Max, Min, Add, enc};
+ghost use Rattle.scene_geom.specs.Direction.{FitsDirection};
+ghost use Rattle.path_shape.specs.Shape.{IsPath};
+ghost use Rattle.path_shape.specs.declared.legs.Legs.TheVariants.{One};
+ghost use Rattle.term_ground.specs.Lengths.{zero_form, one_form};
+ghost use Rattle.term_ground.specs.Lengths as form;
+ghost use Rattle.term_ground.specs.Zones.{length_inside};
+ghost use Rattle.term_ground.specs.Regions.{share_of};
+ghost use Rattle.term_ground.specs.Regions as regions;
+ghost use Rattle.term_ground.specs.declared.region.Region.TheVariants.{Source, Middle, Receiver};
+ghost use Rattle.term_ground.specs.Walks.{advanced, summed, same, stretches_of, term_of};
+
+use crate::covering::lengths_inside;
+use crate::lengths::factor;
+use crate::region::Region;
+use crate::stretch::{Regional, Stretch, Stretches, middle_from, regions_of};
+use fix_interval::{Iv, add, div, exact, less, max, min, mul, pick, sub};
+use path_shape::{Legs, Path};
+use scene_geom::{Dir, Frac, meets};
+use scene_parts::Zone;
+
+/// The ground factor G of a region of a path (ISO 9613-2, 7.3.1), from 0 to 1: the part of it that is porous, where a
+/// zone is porous by its own factor and the ground outside of zones by `g0` hundredths.
+pub fn region_share(zones: &[Zone], g0: u8, path: &Path, region: Region) -> Iv
+    requires { IsPath path.now }
+    ensures { result ≡ enc (share_of region zones.now g0 path.now (Known path.now.dp)) }
+{
+    let all = shares(zones, g0, path);
+    match region {
+        Region::Source => all.source,
+        Region::Middle => all.middle,
+        Region::Receiver => all.receiver,
+    }
+}
+
+/// The ground factors of the three regions.
+pub(crate) fn shares(zones: &[Zone], g0: u8, path: &Path) -> Regional
+    requires { IsPath path.now }
+    ensures source { result.source ≡ enc (share_of Source zones.now g0 path.now (Known path.now.dp)) }
+    ensures middle { result.middle ≡ enc (share_of Middle zones.now g0 path.now (Known path.now.dp)) }
+    ensures receiver { result.receiver ≡ enc (share_of Receiver zones.now g0 path.now (Known path.now.dp)) }
+{
+    let outside = factor(g0);
+    let sums = sums(zones, outside, path);
+    let zero = exact(0);
+    Regional {
+        source: share(sums.source, outside, zero, path.dp),
+        middle: share(sums.middle, outside, middle_from(path), path.dp),
+        receiver: share(sums.receiver, outside, zero, path.dp),
+    }
+}
+
+/// A sum kept within 0 and 1, where the plan length is greater than a limit, and else the ground factor outside of zones.
+fn share(sum: Iv, outside: Iv, limit: Iv, dp: Iv) -> Iv
+    ensures { result ≡ enc (Pick (Known dp) (Known limit) (Max zero_form (Min one_form (Known sum))) (Known outside)) }
+{
+    pick(less(limit, dp), max(exact(0), min(exact(1), sum)), outside)
+}
+
+/// The ground factor outside of zones and what each zone that meets the path adds to it in each region.
+fn sums(zones: &[Zone], outside: Iv, path: &Path) -> Regional
+    requires { IsPath path.now }
+    ensures { result ≡ advanced (summed zones.now outside path.now) (same outside) (stretches_of path.now) }
+{
+    let mut total = Regional {
+        source: outside,
+        middle: outside,
+        receiver: outside,
+    };
+    if zones.is_empty() {
+        return total;
+    }
+    let stretches = regions_of(path);
+    let dir = direction(path);
+    for zone in zones {
+        total = with_zone(total, zone, outside, path, dir, &stretches);
+    }
+    total
+}
+
+/// The direction of a direct path.
+fn direction(path: &Path) -> Dir
+    requires { IsPath path.now }
+    ensures legs { path.now.legs ≡ One result }
+    ensures fits { FitsDirection result }
+{
+    match path.legs {
+        Legs::One(dir) => dir,
+        Legs::Two(..) => unreachable!(),
+    }
+}
+
+/// The sums with what a zone adds to them, which is nothing where it doesn't meet the path.
+fn with_zone(
+    total: Regional,
+    zone: &Zone,
+    outside: Iv,
+    path: &Path,
+    dir: Dir,
+    stretches: &Stretches,
+) -> Regional
+    requires legs { path.now.legs ≡ One dir }
+    requires fits { FitsDirection dir }
+    ensures { result ≡ advanced (summed (zone.now ∷ []) outside path.now) total stretches.now }
+{
+    let outline = zone.points.items();
+    if meets(outline, path.s, dir, Frac { n: 1, d: 1 }) {
+        let difference = sub(factor(zone.g), outside);
+        let lengths = lengths_inside(outline, path.s, dir, stretches);
+        Regional {
+            source: with_term(total.source, difference, lengths.source, stretches.source),
+            middle: with_term(total.middle, difference, lengths.middle, stretches.middle),
+            receiver: with_term(
+                total.receiver,
+                difference,
+                lengths.receiver,
+                stretches.receiver,
+            ),
+        }
+    } else {
+        total
+    }
+}
+
+/// A sum with the term of a zone: the difference that it makes over a length, as a part of the whole stretch.
+fn with_term(sum: Iv, difference: Iv, length: Iv, stretch: Stretch) -> Iv
+    ensures { result ≡ enc (Add (Known sum) (term_of difference length stretch)) }
+{
+    add(
+        sum,
+        div(mul(difference, length), sub(stretch.to, stretch.from)),
+    )
+}
