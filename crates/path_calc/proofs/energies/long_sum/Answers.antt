@@ -1,0 +1,33 @@
+use Rattle.std.proofs.Common.{◌∙◌, ◌≡◌, ◌<◌, ◌≤◌, ap, sym, subst, List, arith, ◌+◌, ℕ, length, refl}
+use Rattle.fix_interval.specs.Values.{add_of}
+use Rattle.std.proofs.lemmas.List.{take_all}
+use Rattle.path_calc.specs.declared.path.Heard.{Heard}
+use Rattle.path_calc.specs.Ranges.{IsSumOf}
+use Rattle.path_calc.proofs.Sums.{summed, no-sum, next-sum, sums-added}
+use Rattle.path_calc.proofs.energies.long_sum.Goals as goal
+
+pub loop-heard-init : goal.loop-heard-init
+loop-heard-init c = record { value = c.exact-sum.ensures; bounds = subst (IsSumOf 0) (sym c.exact-sum.ensures) (no-sum 0) }
+
+pub loop-heard-preserved : goal.loop-heard-preserved
+loop-heard-preserved c =
+    let i = c.loop-heard.heard-index in
+    let xs = c.args.bands.now in
+    let h = c.heard-item.result in
+    let below : i < length xs = omega arith in
+    let long = subst (λ (x : Heard). IsSumOf 1 x.long) (sym c.heard-item.is) (c.requires i h below) in
+    let next = c.add-sum.ensures ∙ ap (λ (x : Heard). add_of c.loop-heard.sum x.long) (sym c.heard-item.is) in
+    record {
+      value = next-sum (λ (x : Heard). x.long) xs i h c.loop-heard.sum c.add-sum.result h.long below c.heard-item.is c.loop-heard.invariant.value refl next;
+      bounds = subst (IsSumOf (i + 1)) (sym next) (sums-added c.loop-heard.sum h.long i 1 (omega arith) c.loop-heard.invariant.bounds long);
+    }
+
+pub returns-clause-value : goal.returns-clause-value
+returns-clause-value c =
+    let all : length c.args.bands.now ≤ c.loop-heard.heard-index = omega arith in
+    c.loop-heard.invariant.value ∙ ap (λ (xs : List Heard). summed (λ (h : Heard). h.long) xs) (take_all c.loop-heard.heard-index c.args.bands.now all)
+
+pub returns-clause-bounds : goal.returns-clause-bounds
+returns-clause-bounds c =
+    let all : c.loop-heard.heard-index ≡ 8 = omega arith in
+    subst (λ (n : ℕ). IsSumOf n c.loop-heard.sum) all c.loop-heard.invariant.bounds

@@ -1,0 +1,12 @@
+-- The sum is that of the bands so far.
+use Rattle.std.proofs.Common.{◌≡◌, take}
+use Rattle.path_calc.specs.declared.path.Heard.{Heard}
+use Rattle.path_calc.specs.Ranges.{IsSumOf}
+use Rattle.path_calc.proofs.Sums.{summed}
+use Rattle.path_calc.proofs.energies.long_sum.Given as goal
+
+abbrev pub invariant-loop-heard : goal.invariant-loop-heard
+invariant-loop-heard l = record {
+  value : l.sum ≡ summed (λ (h : Heard). h.long) (take l.heard-index l.bands);
+  bounds : IsSumOf l.heard-index l.sum;
+}

@@ -1,0 +1,41 @@
+-- The eight octave bands.
+use Rattle.std.specs.Prelude.{ℕ, ℤ, pos, neg_ℤ, List, [], ◌∷◌}
+use Rattle.path_calc.specs.declared.band.Band.{Band}
+use Rattle.path_calc.specs.declared.band.Band.TheVariants.{Hz63, Hz125, Hz250, Hz500, Hz1000, Hz2000, Hz4000, Hz8000}
+
+-- from the lowest
+abbrev pub all_bands : List Band
+all_bands = Hz63 ∷ Hz125 ∷ Hz250 ∷ Hz500 ∷ Hz1000 ∷ Hz2000 ∷ Hz4000 ∷ Hz8000 ∷ []
+
+-- the place of a band among the eight
+abbrev pub place_of : Band → ℕ
+place_of Hz63 = 0
+place_of Hz125 = 1
+place_of Hz250 = 2
+place_of Hz500 = 3
+place_of Hz1000 = 4
+place_of Hz2000 = 5
+place_of Hz4000 = 6
+place_of Hz8000 = 7
+
+-- the nominal midband frequency in Hz
+abbrev pub frequency_of : Band → ℕ
+frequency_of Hz63 = 63
+frequency_of Hz125 = 125
+frequency_of Hz250 = 250
+frequency_of Hz500 = 500
+frequency_of Hz1000 = 1000
+frequency_of Hz2000 = 2000
+frequency_of Hz4000 = 4000
+frequency_of Hz8000 = 8000
+
+-- the A-weighting A_f of equation (5), in tenths of a decibel
+abbrev pub weight_in : Band → ℤ
+weight_in Hz63 = neg_ℤ (pos 262)
+weight_in Hz125 = neg_ℤ (pos 161)
+weight_in Hz250 = neg_ℤ (pos 86)
+weight_in Hz500 = neg_ℤ (pos 32)
+weight_in Hz1000 = pos 0
+weight_in Hz2000 = pos 12
+weight_in Hz4000 = pos 10
+weight_in Hz8000 = neg_ℤ (pos 11)

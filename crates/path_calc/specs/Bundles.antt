@@ -1,0 +1,59 @@
+-- Bundles: all that a receiver has from one source.
+use Rattle.std.specs.Prelude.{◌≡◌, ℕ, ◌<◌, ◌≤◌, ◌^◌, ◌⊎◌, pos, ◌≤ℤ◌, ◌<ℤ◌, List, length, map, sum_by, All, IsSomeAnd, slice_index_or}
+use Rattle.scene_geom.specs.declared.plan.Pt.{Pt}
+use Rattle.scene_parts.specs.Seen.{Source, Receiver, Zone, Globals}
+use Rattle.scene_book.specs.Book.{Book}
+use Rattle.fix_interval.specs.Interval.{Interval}
+use Rattle.fix_interval.specs.Tree.{enc}
+use Rattle.energy_sum.specs.Sums.{units_of}
+use Rattle.path_calc.specs.declared.band.Band.{Band}
+use Rattle.path_calc.specs.Bands.{all_bands, place_of}
+use Rattle.path_calc.specs.Contributions.{zones_between}
+use Rattle.path_calc.specs.Energies.{band_energy, long_energy}
+
+-- the name, the place and the height in mm of the source, the energy in each band, and the long-term energy
+-- over all bands
+pub record Bundle : Type 0 where
+  pub source : List ℕ
+  pub at : Pt
+  pub h : ℕ
+  pub energy : List Interval
+  pub long : Interval
+
+-- the bundle of a source and a receiver, of what holds of the whole scene and the zones of ground between them
+abbrev pub bundle_over : Globals → List Zone → Source → Receiver → Bundle
+bundle_over globals zones s r = record {
+  source = s.name;
+  at = s.at;
+  h = s.h;
+  energy = map (λ band. enc (band_energy globals zones s r band)) all_bands;
+  long = enc (long_energy globals zones s r);
+}
+
+-- the bundle of a source and a receiver in a scene
+abbrev pub bundle_of : Book → Source → Receiver → Bundle
+bundle_of book s r = bundle_over book.globals (zones_between book.zones s r) s r
+
+-- an energy isn't below 0, and is below 2^114 units of 2^-32
+pub record IsEnergy (e : Interval) : Type 0 where
+  pub low : IsSomeAnd e.lo (λ z. pos 0 ≤ℤ z)
+  pub high : IsSomeAnd e.hi (λ z. (pos 0 ≤ℤ z) × (z <ℤ pos (2 ^ 114)))
+
+-- what every bundle keeps
+pub record IsBundle (bundle : Bundle) : Type 0 where
+  pub bands : length bundle.energy ≡ 8
+  pub energy : All IsEnergy bundle.energy
+  pub long : IsEnergy bundle.long
+
+-- the energy in a band
+abbrev pub energy_in : Band → Bundle → Interval
+energy_in band bundle = slice_index_or bundle.energy (place_of band) bundle.long
+
+-- the sums of high ends over some bundles stay below 2^126, in each band and over all bands
+pub record HighEndsFit (bundles : List Bundle) : Type 0 where
+  pub bands : (band : Band) → sum_by (λ bundle. units_of (energy_in band bundle).hi) bundles < 2 ^ 126
+  pub long : sum_by (λ bundle. units_of bundle.long.hi) bundles < 2 ^ 126
+
+-- so few bundles that their energies can be added whatever they are, or energies that can be added
+abbrev pub CanBeAdded : List Bundle → Type 0
+CanBeAdded bundles = (length bundles ≤ 4096) ⊎ HighEndsFit bundles

@@ -1,0 +1,9 @@
+pub mod Bands
+pub mod Absorption
+pub mod Lengths
+pub mod Contributions
+pub mod Energies
+pub mod Bundles
+pub mod Levels
+pub mod Show
+pub mod Ranges

@@ -1,0 +1,73 @@
+//! Distances between a source and a receiver.
+ghost use Rattle.std.specs.Prelude.{◌≡◌, ◌≤◌, ◌<◌, ◌^◌, ◌*◌, ◌-ℤ◌, pos, ◌≤ℤ◌, unsigned_abs, IsSomeAnd};
+ghost use Rattle.scene_geom.specs.Plan.{InPlan};
+ghost use Rattle.scene_parts.specs.Ranges.{IsHeight};
+ghost use Rattle.fix_interval.specs.Tree.{enc};
+ghost use Rattle.path_shape.specs.Shape as shape;
+ghost use Rattle.path_calc.specs.Lengths as lengths;
+
+use fix_interval::{Iv, ratio, root};
+use scene_geom::Pt;
+
+#[tactic(auto, unfolding(path_shape::specs::Shape::squared))]
+fn square(mm: u32) -> u64
+    ensures value { result ≡ shape.squared mm }
+    ensures small { mm ≤ 8000000 → result ≤ 64000000000000 }
+{
+    u64::from(mm) * u64::from(mm)
+}
+
+/// How far two coordinates are apart, in mm.
+fn apart(a: i32, b: i32) -> u32
+    requires a_in_plan { InPlan a }
+    requires b_in_plan { InPlan b }
+    ensures value { result ≡ unsigned_abs (b -ℤ a) }
+    ensures bound { result ≤ 8000000 }
+{
+    b.abs_diff(a)
+}
+
+/// The square of the distance in plan, in mm².
+fn plan_square(s: Pt, r: Pt) -> u64
+    ensures value { result ≡ shape.plan_square s r }
+    ensures bound { result ≤ 128000000000000 }
+{
+    square(apart(s.x, r.x)) + square(apart(s.y, r.y))
+}
+
+/// The square of the distance in space, in mm².
+fn space_square(s: Pt, hs: u32, r: Pt, hr: u32) -> u64
+    requires source_height { IsHeight hs }
+    requires receiver_height { IsHeight hr }
+    ensures value { result ≡ lengths.space_square s hs r hr }
+    ensures bound { result < 2 ^ 66 }
+{
+    plan_square(s, r) + square(hs.abs_diff(hr))
+}
+
+/// The distance in metres, as the root of its square.
+fn root_of_square(s: Pt, hs: u32, r: Pt, hr: u32) -> Iv
+    requires source_height { IsHeight hs }
+    requires receiver_height { IsHeight hr }
+    ensures value { result ≡ enc (lengths.distance s hs r hr) }
+    ensures small { lengths.space_square s hs r hr < 2 ^ 66 }
+{
+    root(ratio(space_square(s, hs, r, hr) as i128, 1_000_000))
+}
+
+/// The distance d in metres between two points at heights in mm, at most 2^28 m.
+pub(crate) fn distance(s: Pt, hs: u32, r: Pt, hr: u32) -> Iv
+    requires source_height { IsHeight hs }
+    requires receiver_height { IsHeight hr }
+    ensures value { result ≡ enc (lengths.distance s hs r hr) }
+    ensures bound { IsSomeAnd result.hi (λ z. z ≤ℤ pos (2 ^ 60)) }
+{
+    root_of_square(s, hs, r, hr)
+}
+
+/// Whether two points are within reach of each other: not farther apart in plan than this many mm.
+pub fn within(reach: u32, s: Pt, r: Pt) -> bool
+    ensures { result ≡ lengths.is_within reach s r }
+{
+    plan_square(s, r) <= square(reach)
+}

@@ -1,0 +1,219 @@
+//! Bundles and levels with ends from outside, by an independent program.
+ghost use Rattle.std.specs.Prelude.{◌≡◌, ◌<◌};
+
+use super::{Band, Bundle, Steps, bundle, levels};
+use fix_interval::Iv;
+use scene_book::{Edit, Scene};
+use scene_geom::Pt;
+use scene_parts::{
+    Air, Checked, Kind, Name, Part, PlainName, PointSource, RawPart, RawPoints, RawPt, Receiver,
+    SetSpec, check,
+};
+use std::alloc::{AllocError, Global};
+use std::marker::Brand;
+use std::process::Abort;
+use std::sync::ledger::{Blank, Ledger};
+use std::test::Fail;
+
+fn fan(alloc: Global) -> Option<PointSource> {
+    Some(PointSource {
+        name: Name::from_vec(b"fan".to_vec(alloc).ok()?),
+        kind: Kind::Industry,
+        at: Pt::new(0, 0),
+        h: 2000,
+        lw: [
+            Some(9500),
+            Some(9800),
+            Some(10_100),
+            Some(10_200),
+            Some(10_000),
+            Some(9600),
+            Some(9000),
+            None,
+        ],
+        dc: -150,
+    })
+}
+
+fn gate(alloc: Global) -> Option<PointSource> {
+    Some(PointSource {
+        name: Name::from_vec(b"gate".to_vec(alloc).ok()?),
+        kind: Kind::Road,
+        at: Pt::new(-40_000, 25_000),
+        h: 500,
+        lw: [
+            Some(8800),
+            Some(9000),
+            Some(9100),
+            Some(9300),
+            Some(9500),
+            Some(9200),
+            Some(8500),
+            Some(7600),
+        ],
+        dc: 300,
+    })
+}
+
+fn receiver(alloc: Global) -> Option<Receiver> {
+    Some(Receiver {
+        name: Name::from_vec(b"r".to_vec(alloc).ok()?),
+        at: Pt::new(100_000, 30_001),
+        h: 4000,
+    })
+}
+
+fn yard(alloc: Global) -> Option<Part> {
+    let mut points = Vec::new(alloc);
+    for (x, y) in [
+        (-30_000, -20_000),
+        (50_000, -20_000),
+        (50_000, 40_000),
+        (-30_000, 40_000),
+    ] {
+        points.push(RawPt { x, y }).ok()?;
+    }
+    let zone = RawPart::Zone {
+        name: PlainName::from_vec(b"yard".to_vec(alloc).ok()?),
+        points: RawPoints::from_vec(points),
+        g: 80,
+    };
+    match check(alloc, zone) {
+        Ok(Checked::Part(part)) => Some(part),
+        _ => None,
+    }
+}
+
+/// A scene with this air, and a zone of ground.
+fn scene(alloc: Global, air: Air) -> Option<Scene> {
+    let mut scene = Scene::empty(alloc).ok()?;
+    let setting = SetSpec {
+        reach: None,
+        g: Some(20),
+        air: Some(air),
+        c0: None,
+    };
+    scene.apply(alloc, &Edit::Set(setting)).ok()?;
+    let yard = yard(alloc)?;
+    scene.apply(alloc, &Edit::Put(yard)).ok()?;
+    Some(scene)
+}
+
+fn counted<L: Ledger>(
+    alloc: Global,
+    scene: &Scene,
+    source: &PointSource,
+    receiver: &Receiver,
+    blank: Blank,
+) -> Result<Bundle, AllocError>
+    requires name { blank.name ≡ L.name }
+    requires parts { blank.parts ≡ L.parts }
+    requires some { 0 < blank.parts }
+{
+    let mut steps = Steps::<L>::of(blank);
+    bundle(alloc, scene, source, receiver, &mut steps)
+}
+
+fn path(alloc: Global, scene: &Scene, source: &PointSource, receiver: &Receiver) -> Option<Bundle> {
+    counted::<Brand>(alloc, scene, source, receiver, Blank::new(1)).ok()
+}
+
+/// The bundle of a source in this air.
+fn in_air(alloc: Global, air: Air, source: &PointSource) -> Option<Bundle> {
+    let scene = scene(alloc, air)?;
+    let receiver = receiver(alloc)?;
+    path(alloc, &scene, source, &receiver)
+}
+
+fn fan_in(alloc: Global, air: Air) -> Option<Bundle> {
+    let fan = fan(alloc)?;
+    in_air(alloc, air, &fan)
+}
+
+fn gate_in(alloc: Global, air: Air) -> Option<Bundle> {
+    let gate = gate(alloc)?;
+    in_air(alloc, air, &gate)
+}
+
+fn has_ends(rt: &impl Abort, found: Iv, (lo, hi): (i128, i128)) {
+    assert_eq!(rt; (found.low(), found.high()), (Some(lo), Some(hi)));
+}
+
+/// Each air with the ends of the energies at 4 kHz and over all bands.
+const ENERGIES: [(Air, (i128, i128), (i128, i128)); 6] = [
+    (
+        Air::Celsius10Humidity70,
+        (13169318177004, 13169318205246),
+        (568584962821241, 568584964630357),
+    ),
+    (
+        Air::Celsius20Humidity70,
+        (16708658112775, 16708658148607),
+        (563804865935390, 563804867711447),
+    ),
+    (
+        Air::Celsius30Humidity70,
+        (16628501822016, 16628501866590),
+        (538126104355941, 538126106011783),
+    ),
+    (
+        Air::Celsius15Humidity20,
+        (3426078034182, 3426078041530),
+        (483434090302574, 483434091928080),
+    ),
+    (
+        Air::Celsius15Humidity50,
+        (12135554867676, 12135554893701),
+        (559856185372228, 559856187018908),
+    ),
+    (
+        Air::Celsius15Humidity80,
+        (16390332804266, 16390332848203),
+        (572428789806763, 572428791538317),
+    ),
+];
+
+#[test]
+fn energies_in_each_air(rt: HostRuntime) -> Result<(), Fail> {
+    let alloc = rt.alloc();
+    for (air, energy, long) in ENERGIES {
+        let Some(bundle) = fan_in(alloc, air) else {
+            return Err("no memory".into());
+        };
+        has_ends(&rt, bundle.energy_in(Band::Hz4000), energy);
+        has_ends(&rt, bundle.long_energy(), long);
+    }
+    Ok(())
+}
+
+/// The ends of the levels of both sources together in each band.
+const LEVELS: [(i128, i128); 8] = [
+    (198939319250, 198939319290),
+    (195178559680, 195178559770),
+    (194386912710, 194386912850),
+    (210877853260, 210877853370),
+    (211424785160, 211424785260),
+    (195051263200, 195051263270),
+    (156253369170, 156253369240),
+    (44113816690, 44113816800),
+];
+
+#[test]
+fn levels_of_none_and_of_two_sources(rt: HostRuntime) -> Result<(), Fail> {
+    let silent = levels(&[]);
+    has_ends(&rt, silent.total, (0, 0));
+    has_ends(&rt, silent.bands[4], (0, 0));
+    let alloc = rt.alloc();
+    let Some(fan) = fan_in(alloc, Air::Celsius10Humidity70) else {
+        return Err("no memory".into());
+    };
+    let Some(gate) = gate_in(alloc, Air::Celsius10Humidity70) else {
+        return Err("no memory".into());
+    };
+    let found = levels(&[fan, gate]);
+    has_ends(&rt, found.total, (225660748370, 225660748460));
+    for band in Band::all() {
+        has_ends(&rt, found.bands[band.place()], LEVELS[band.place()]);
+    }
+    Ok(())
+}
