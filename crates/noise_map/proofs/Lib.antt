@@ -1,5 +1,5 @@
-pub mod Utf8
 pub mod Fronts
+pub mod Hearing
+pub mod Versions
+pub mod Refusing
 pub mod Steps
-pub mod Levels
-pub mod Totals

@@ -14,49 +14,51 @@ use Rattle.map_io.specs.declared.reader.Next.TheVariants as next
 use Rattle.map_io.specs.Lines.{IsPlain, lines, whole_lines, ended, all_but_last}
 use Rattle.map_io.specs.LineLaws as laws
 use Rattle.map_io.specs.Reading.{Reading, fresh, ahead, PassesLine, NothingAhead, Ends, BreaksOff, ReachesLimit, NextGives, answer_of, bytes_read, input_limit}
-use Rattle.noise_map.specs.declared.step.Stopped.{Stopped}
-use Rattle.noise_map.specs.declared.step.Stopped.TheVariants as stops
+use Rattle.noise_map.specs.declared.stopped.Stopped.{Stopped}
+use Rattle.noise_map.specs.declared.stopped.Stopped.TheVariants as stops
 use Rattle.noise_map.specs.declared.status.Status.{Status}
 use Rattle.noise_map.specs.declared.status.Status.TheVariants as status
-use Rattle.noise_map.specs.Sheet.{Sheet, empty_sheet}
+use Rattle.noise_map.specs.declared.project.Project.{Project}
+use Rattle.noise_map.specs.Run.{empty_project}
 use Rattle.noise_map.specs.Run.{Done, quiet, line_done, lines_done, followed}
 use Rattle.noise_map.specs.Taking.{TakesFront, Does}
+use Rattle.noise_map.proofs.Versions.{line_done-version}
 use Rattle.noise_map.specs.Outcome.{run_of, CoversAll, CoversFront, TakesPartOf, Outcome}
 use Rattle.noise_map.specs.Progress.{status_at_end, status_of, ending_of, IsTextOf, HandedOut, Progress}
 
-abbrev done_with : Sheet → List ℕ → Bool → Done
-done_with sheet text refused = record { sheet = sheet; text = text; refused = refused }
+abbrev done_with : Project → List ℕ → Bool → Done
+done_with project text refused = record { project = project; text = text; refused = refused }
 
-with_text : (sheet : Sheet) (s t : List ℕ) (refused : Bool) → s ≡ t → done_with sheet s refused ≡ done_with sheet t refused
-with_text sheet s t refused e = ap (λ u. done_with sheet u refused) e
+with_text : (project : Project) (s t : List ℕ) (refused : Bool) → s ≡ t → done_with project s refused ≡ done_with project t refused
+with_text project s t refused e = ap (λ u. done_with project u refused) e
 
-with_refused : (sheet : Sheet) (text : List ℕ) (a b : Bool) → a ≡ b → done_with sheet text a ≡ done_with sheet text b
-with_refused sheet text a b e = ap (λ c. done_with sheet text c) e
+with_refused : (project : Project) (text : List ℕ) (a b : Bool) → a ≡ b → done_with project text a ≡ done_with project text b
+with_refused project text a b e = ap (λ c. done_with project text c) e
 
 -- nothing more, and nothing before
-followed-quiet : (first : Done) → followed first (quiet first.sheet) ≡ first
+followed-quiet : (first : Done) → followed first (quiet first.project) ≡ first
 followed-quiet first =
-    with_text first.sheet _ _ (first.refused || false) (append-nil first.text) ∙ with_refused first.sheet first.text _ _ (or-false first.refused)
+    with_text first.project _ _ (first.refused || false) (append-nil first.text) ∙ with_refused first.project first.text _ _ (or-false first.refused)
 
 followed-assoc : (first second third : Done) → followed (followed first second) third ≡ followed first (followed second third)
 followed-assoc first second third =
-    with_text third.sheet _ _ ((first.refused || second.refused) || third.refused) (append_assoc first.text second.text third.text)
-    ∙ with_refused third.sheet (first.text ++ (second.text ++ third.text)) _ _ (or_assoc first.refused second.refused third.refused)
+    with_text third.project _ _ ((first.refused || second.refused) || third.refused) (append_assoc first.text second.text third.text)
+    ∙ with_refused third.project (first.text ++ (second.text ++ third.text)) _ _ (or_assoc first.refused second.refused third.refused)
 
 -- one more line after others
-pub lines_done-push : (bands : Bool) → (number : ℕ) (sheet : Sheet) (done : List (List ℕ)) (line : List ℕ) → lines_done bands number sheet (done ++ line ∷ []) ≡ followed (lines_done bands number sheet done) (line_done bands (number + length done) (lines_done bands number sheet done).sheet line)
+pub lines_done-push : (bands : Bool) → (number : ℕ) (project : Project) (done : List (List ℕ)) (line : List ℕ) → lines_done bands number project (done ++ line ∷ []) ≡ followed (lines_done bands number project done) (line_done bands (number + length done) (lines_done bands number project done).project line)
 unfolding lines_done
-lines_done-push bands number sheet [] line =
-    followed-quiet (line_done bands number sheet line) ∙ ap (λ n. line_done bands n sheet line) (sym (add-zero number))
-lines_done-push bands number sheet (first ∷ more) line =
-    let one = line_done bands number sheet first in
-    let rest = lines_done bands (number + 1) one.sheet more in
-    ap (followed one) (lines_done-push bands (number + 1) one.sheet more line)
-    ∙ sym (followed-assoc one rest (line_done bands (number + 1 + length more) rest.sheet line))
-    ∙ ap (λ n. followed (followed one rest) (line_done bands n rest.sheet line)) (omega arith)
+lines_done-push bands number project [] line =
+    followed-quiet (line_done bands number project line) ∙ ap (λ n. line_done bands n project line) (sym (add-zero number))
+lines_done-push bands number project (first ∷ more) line =
+    let one = line_done bands number project first in
+    let rest = lines_done bands (number + 1) one.project more in
+    ap (followed one) (lines_done-push bands (number + 1) one.project more line)
+    ∙ sym (followed-assoc one rest (line_done bands (number + 1 + length more) rest.project line))
+    ∙ ap (λ n. followed (followed one rest) (line_done bands n rest.project line)) (omega arith)
 
-pub run_of-push : (bands : Bool) → (done : List (List ℕ)) (line : List ℕ) → run_of bands (done ++ line ∷ []) ≡ followed (run_of bands done) (line_done bands (length done + 1) (run_of bands done).sheet line)
-run_of-push bands done line = lines_done-push bands 1 empty_sheet done line ∙ ap (λ n. followed (run_of bands done) (line_done bands n (run_of bands done).sheet line)) (omega arith)
+pub run_of-push : (bands : Bool) → (done : List (List ℕ)) (line : List ℕ) → run_of bands (done ++ line ∷ []) ≡ followed (run_of bands done) (line_done bands (length done + 1) (run_of bands done).project line)
+run_of-push bands done line = lines_done-push bands 1 empty_project done line ∙ ap (λ n. followed (run_of bands done) (line_done bands n (run_of bands done).project line)) (omega arith)
 
 pub all_but_last-push : (done : List (List ℕ)) (line : List ℕ) → all_but_last (done ++ line ∷ []) ≡ done
 all_but_last-push [] line = refl
@@ -71,14 +73,15 @@ none_plain : All IsPlain []
 none_plain = All-nil IsPlain
 
 -- a run that has just begun
-pub started : (bands : Bool) → (left taken : Option (List ℕ)) → Progress bands fresh empty_sheet 0 false left left taken taken
+pub started : (bands : Bool) → (left taken : Option (List ℕ)) → Progress bands fresh empty_project 0 false left left taken taken
 unfolding lines_done
 started bands left taken = record {
   done = [];
   plain = none_plain;
   counted = refl;
   few = omega arith;
-  sheet_is = refl;
+  versions = omega arith;
+  project_is = refl;
   refused_is = refl;
   written = Appends-nil taken;
   handed_out = (begun left, refl);
@@ -124,24 +127,25 @@ passed_more AtEnd r r' now after line passes = omega (arith, passes.0, passes.1.
 passed_more AfterFault r r' now after line passes = absurd passes
 passed_more AtLimit r r' now after line passes = absurd passes
 
-run_of-next : (bands : Bool) → (done : List (List ℕ)) (line : List ℕ) (count : ℕ) (sheet : Sheet) → length done ≡ count → (run_of bands done).sheet ≡ sheet → run_of bands (done ++ line ∷ []) ≡ followed (run_of bands done) (line_done bands (count + 1) sheet line)
-run_of-next bands done line count sheet counted is =
-    run_of-push bands done line ∙ ap (λ n. followed (run_of bands done) (line_done bands (n + 1) (run_of bands done).sheet line)) counted ∙ ap (λ s. followed (run_of bands done) (line_done bands (count + 1) s line)) is
+run_of-next : (bands : Bool) → (done : List (List ℕ)) (line : List ℕ) (count : ℕ) (project : Project) → length done ≡ count → (run_of bands done).project ≡ project → run_of bands (done ++ line ∷ []) ≡ followed (run_of bands done) (line_done bands (count + 1) project line)
+run_of-next bands done line count project counted is =
+    run_of-push bands done line ∙ ap (λ n. followed (run_of bands done) (line_done bands (n + 1) (run_of bands done).project line)) counted ∙ ap (λ s. followed (run_of bands done) (line_done bands (count + 1) s line)) is
 
-pub went_on : (bands : Bool) → (r r' : Reading) (sheet sheet' : Sheet) (count : ℕ) (refused was : Bool) (left now after taken_before taken_now taken_after : Option (List ℕ)) (line : List ℕ)
-    → (p : Progress bands r sheet count refused left now taken_before taken_now) → HandedOut Going r left now p.done → IsPlain line → PassesLine r'.stop r r' now after line → r'.passed ≤ input_limit
-    → Does (Ok was) (line_done bands (count + 1) sheet line) sheet sheet' taken_now taken_after
-    → Progress bands r' sheet' (count + 1) (refused || was) left after taken_before taken_after
-went_on bands r r' sheet sheet' count refused was left now after taken_before taken_now taken_after line p handed line_plain passes within does =
-    let next = run_of-next bands p.done line count sheet p.counted p.sheet_is in
+pub went_on : (bands : Bool) → (r r' : Reading) (project project' : Project) (count : ℕ) (refused was : Bool) (left now after taken_before taken_now taken_after : Option (List ℕ)) (line : List ℕ)
+    → (p : Progress bands r project count refused left now taken_before taken_now) → HandedOut Going r left now p.done → IsPlain line → PassesLine r'.stop r r' now after line → r'.passed ≤ input_limit
+    → Does (Ok was) (line_done bands (count + 1) project line) project project' taken_now taken_after
+    → Progress bands r' project' (count + 1) (refused || was) left after taken_before taken_after
+went_on bands r r' project project' count refused was left now after taken_before taken_now taken_after line p handed line_plain passes within does =
+    let next = run_of-next bands p.done line count project p.counted p.project_is in
     record {
       done = p.done ++ line ∷ [];
       plain = All-push IsPlain p.done line p.plain line_plain;
       counted = length-append p.done (line ∷ []) ∙ ap (λ n. n + 1) p.counted;
       few = omega (arith, p.few, passed_more r'.stop r r' now after line passes);
-      sheet_is = ap (λ (d : Done). d.sheet) next ∙ sym does.1;
-      refused_is = ap (λ (d : Done). d.refused) next ∙ ap (λ b. b || (line_done bands (count + 1) sheet line).refused) p.refused_is ∙ ap (λ b. refused || b) (sym does.0);
-      written = subst (Appends taken_before taken_after) (sym (ap (λ (d : Done). d.text) next)) (Appends-trans taken_before taken_now taken_after (run_of bands p.done).text (line_done bands (count + 1) sheet line).text p.written does.2);
+      versions = omega (arith, p.versions, ap (λ (q : Project). q.version) does.1, line_done-version bands (count + 1) project line);
+      project_is = ap (λ (d : Done). d.project) next ∙ sym does.1;
+      refused_is = ap (λ (d : Done). d.refused) next ∙ ap (λ b. b || (line_done bands (count + 1) project line).refused) p.refused_is ∙ ap (λ b. refused || b) (sym does.0);
+      written = subst (Appends taken_before taken_after) (sym (ap (λ (d : Done). d.text) next)) (Appends-trans taken_before taken_now taken_after (run_of bands p.done).text (line_done bands (count + 1) project line).text p.written does.2);
       handed_out = more_handed_out r'.stop r r' left now after p.done line p.plain line_plain handed within passes;
     }
 
@@ -159,10 +163,10 @@ at_end bands true count left after taken_before taken_after done counted covers 
 at_end bands false count left after taken_before taken_after done counted covers told written =
     record { done = done; counted = counted; covers = covers; refused = told; writes = written }
 
-pub ended_now : (bands : Bool) → (r r' : Reading) (sheet : Sheet) (count : ℕ) (refused : Bool) (left now after taken_before taken_now : Option (List ℕ))
-    → (p : Progress bands r sheet count refused left now taken_before taken_now) → HandedOut Going r left now p.done → Ends r r' now after → r'.passed ≤ input_limit
+pub ended_now : (bands : Bool) → (r r' : Reading) (project : Project) (count : ℕ) (refused : Bool) (left now after taken_before taken_now : Option (List ℕ))
+    → (p : Progress bands r project count refused left now taken_before taken_now) → HandedOut Going r left now p.done → Ends r r' now after → r'.passed ≤ input_limit
     → Outcome bands (status_at_end refused) count left after taken_before taken_now
-ended_now bands r r' sheet count refused left now after taken_before taken_now p handed ends within =
+ended_now bands r r' project count refused left now after taken_before taken_now p handed ends within =
     let all : lines (ended p.done ++ []) ≡ p.done = laws.lines-ended p.done [] p.plain ∙ ap (λ ls. p.done ++ ls) laws.lines-empty ∙ append-nil p.done in
     let few : length (ended p.done ++ []) ≤ input_limit = omega (arith, length-append (ended p.done) [], handed.1, ends.passes.counted) in
     let consumed = Consumes-trans left (ahead r now) (ahead r' after) (ended p.done) [] handed.0 ends.passes.taken in
@@ -170,20 +174,20 @@ ended_now bands r r' sheet count refused left now after taken_before taken_now p
     (record { ended = ends.nothing.left; all = Consumes-whole left (ahead r' after) (ended p.done ++ []) (AllDone p.done) consumed (nothing_ahead r' after ends.nothing) (all, few) })
     p.refused_is p.written
 
-pub ended_before : (bands : Bool) → (r : Reading) (sheet : Sheet) (count : ℕ) (refused : Bool) (left now taken_before taken_now : Option (List ℕ))
-    → (p : Progress bands r sheet count refused left now taken_before taken_now) → HandedOut AtEnd r left now p.done
+pub ended_before : (bands : Bool) → (r : Reading) (project : Project) (count : ℕ) (refused : Bool) (left now taken_before taken_now : Option (List ℕ))
+    → (p : Progress bands r project count refused left now taken_before taken_now) → HandedOut AtEnd r left now p.done
     → Outcome bands (status_at_end refused) count left now taken_before taken_now
-ended_before bands r sheet count refused left now taken_before taken_now p handed =
+ended_before bands r project count refused left now taken_before taken_now p handed =
     at_end bands refused count left now taken_before taken_now p.done p.counted (record { ended = handed.1.left; all = handed.0 }) p.refused_is p.written
 
 -- the whole lines of what was read
 whole : (done : List (List ℕ)) (rest : List ℕ) → All IsPlain done → IsPlain rest → whole_lines (ended done ++ rest) ≡ done
 whole done rest plain rest_plain = laws.whole_lines-ended done rest plain ∙ ap (λ ls. done ++ ls) (laws.whole_lines-plain rest rest_plain) ∙ append-nil done
 
-pub failed_to_read : (bands : Bool) → (r r' : Reading) (sheet : Sheet) (count : ℕ) (refused : Bool) (left now after taken_before taken_now : Option (List ℕ))
-    → (p : Progress bands r sheet count refused left now taken_before taken_now) → HandedOut Going r left now p.done → BreaksOff r r' now after → r'.passed ≤ input_limit
+pub failed_to_read : (bands : Bool) → (r r' : Reading) (project : Project) (count : ℕ) (refused : Bool) (left now after taken_before taken_now : Option (List ℕ))
+    → (p : Progress bands r project count refused left now taken_before taken_now) → HandedOut Going r left now p.done → BreaksOff r r' now after → r'.passed ≤ input_limit
     → Outcome bands status.ReadFault count left after taken_before taken_now
-failed_to_read bands r r' sheet count refused left now after taken_before taken_now p handed breaks within = record {
+failed_to_read bands r r' project count refused left now after taken_before taken_now p handed breaks within = record {
   done = p.done;
   counted = p.counted;
   covers = record {
@@ -196,10 +200,10 @@ failed_to_read bands r r' sheet count refused left now after taken_before taken_
   writes = p.written;
 }
 
-pub reached_limit : (bands : Bool) → (r r' : Reading) (sheet : Sheet) (count : ℕ) (refused : Bool) (left now after taken_before taken_now : Option (List ℕ))
-    → (p : Progress bands r sheet count refused left now taken_before taken_now) → HandedOut Going r left now p.done → ReachesLimit r r' now after
+pub reached_limit : (bands : Bool) → (r r' : Reading) (project : Project) (count : ℕ) (refused : Bool) (left now after taken_before taken_now : Option (List ℕ))
+    → (p : Progress bands r project count refused left now taken_before taken_now) → HandedOut Going r left now p.done → ReachesLimit r r' now after
     → Outcome bands status.InputLimit count left after taken_before taken_now
-reached_limit bands r r' sheet count refused left now after taken_before taken_now p handed reaches = record {
+reached_limit bands r r' project count refused left now after taken_before taken_now p handed reaches = record {
   done = p.done;
   counted = p.counted;
   covers = record {
@@ -229,18 +233,18 @@ first_lines AtEnd r (Some bytes) after done plain handed = ap (take (length done
 first_lines AfterFault r before after done plain handed = absurd handed
 first_lines AtLimit r before after done plain handed = absurd handed
 
-broken_front : (bands : Bool) → (r r' : Reading) (sheet : Sheet) (count : ℕ) (refused : Bool) (left now after taken_before taken_now : Option (List ℕ)) (line : List ℕ)
-    → (p : Progress bands r sheet count refused left now taken_before taken_now) → HandedOut Going r left now p.done → IsPlain line → PassesLine r'.stop r r' now after line → r'.passed ≤ input_limit
+broken_front : (bands : Bool) → (r r' : Reading) (project : Project) (count : ℕ) (refused : Bool) (left now after taken_before taken_now : Option (List ℕ)) (line : List ℕ)
+    → (p : Progress bands r project count refused left now taken_before taken_now) → HandedOut Going r left now p.done → IsPlain line → PassesLine r'.stop r r' now after line → r'.passed ≤ input_limit
     → CoversFront left (p.done ++ line ∷ [])
-broken_front bands r r' sheet count refused left now after taken_before taken_now line p handed line_plain passes within =
+broken_front bands r r' project count refused left now after taken_before taken_now line p handed line_plain passes within =
     first_lines r'.stop r' left after (p.done ++ line ∷ []) (All-push IsPlain p.done line p.plain line_plain)
     (more_handed_out r'.stop r r' left now after p.done line p.plain line_plain handed within passes)
 
-broken_text : (bands : Bool) → (r : Reading) (sheet : Sheet) (count : ℕ) (refused : Bool) (left now taken_before taken_now taken_after : Option (List ℕ)) (line : List ℕ)
-    → (p : Progress bands r sheet count refused left now taken_before taken_now) → TakesFront taken_now taken_after (line_done bands (count + 1) sheet line).text
+broken_text : (bands : Bool) → (r : Reading) (project : Project) (count : ℕ) (refused : Bool) (left now taken_before taken_now taken_after : Option (List ℕ)) (line : List ℕ)
+    → (p : Progress bands r project count refused left now taken_before taken_now) → TakesFront taken_now taken_after (line_done bands (count + 1) project line).text
     → TakesPartOf bands taken_before taken_after (p.done ++ line ∷ [])
-broken_text bands r sheet count refused left now taken_before taken_now taken_after line p takes =
-    let next = run_of-next bands p.done line count sheet p.counted p.sheet_is in
+broken_text bands r project count refused left now taken_before taken_now taken_after line p takes =
+    let next = run_of-next bands p.done line count project p.counted p.project_is in
     let before = (run_of bands p.done).text in
     record {
       part = before ++ takes.front;
@@ -251,23 +255,23 @@ broken_text bands r sheet count refused left now taken_before taken_now taken_af
       taken = Appends-trans taken_before taken_now taken_after before takes.front p.written takes.taken;
     }
 
-pub broken_off : (bands : Bool) → (stopped : Stopped) (r r' : Reading) (sheet sheet' : Sheet) (count : ℕ) (refused : Bool) (left now after taken_before taken_now taken_after : Option (List ℕ)) (line : List ℕ)
-    → (p : Progress bands r sheet count refused left now taken_before taken_now) → HandedOut Going r left now p.done → IsPlain line → PassesLine r'.stop r r' now after line → r'.passed ≤ input_limit
-    → Does (Err stopped) (line_done bands (count + 1) sheet line) sheet sheet' taken_now taken_after
+pub broken_off : (bands : Bool) → (stopped : Stopped) (r r' : Reading) (project project' : Project) (count : ℕ) (refused : Bool) (left now after taken_before taken_now taken_after : Option (List ℕ)) (line : List ℕ)
+    → (p : Progress bands r project count refused left now taken_before taken_now) → HandedOut Going r left now p.done → IsPlain line → PassesLine r'.stop r r' now after line → r'.passed ≤ input_limit
+    → Does (Err stopped) (line_done bands (count + 1) project line) project project' taken_now taken_after
     → Outcome bands (status_of stopped) (count + 1) left after taken_before taken_after
-broken_off bands stops.WriteFault r r' sheet sheet' count refused left now after taken_before taken_now taken_after line p handed line_plain passes within does = record {
+broken_off bands stops.WriteFault r r' project project' count refused left now after taken_before taken_now taken_after line p handed line_plain passes within does = record {
   done = p.done ++ line ∷ [];
   counted = length-append p.done (line ∷ []) ∙ ap (λ n. n + 1) p.counted;
-  covers = broken_front bands r r' sheet count refused left now after taken_before taken_now line p handed line_plain passes within;
+  covers = broken_front bands r r' project count refused left now after taken_before taken_now line p handed line_plain passes within;
   refused = tt;
-  writes = broken_text bands r sheet count refused left now taken_before taken_now taken_after line p does.1;
+  writes = broken_text bands r project count refused left now taken_before taken_now taken_after line p does.1;
 }
-broken_off bands stops.NoMemory r r' sheet sheet' count refused left now after taken_before taken_now taken_after line p handed line_plain passes within does = record {
+broken_off bands stops.NoMemory r r' project project' count refused left now after taken_before taken_now taken_after line p handed line_plain passes within does = record {
   done = p.done ++ line ∷ [];
   counted = length-append p.done (line ∷ []) ∙ ap (λ n. n + 1) p.counted;
-  covers = broken_front bands r r' sheet count refused left now after taken_before taken_now line p handed line_plain passes within;
+  covers = broken_front bands r r' project count refused left now after taken_before taken_now line p handed line_plain passes within;
   refused = tt;
-  writes = broken_text bands r sheet count refused left now taken_before taken_now taken_after line p does.1;
+  writes = broken_text bands r project count refused left now taken_before taken_now taken_after line p does.1;
 }
 
 -- a run that had no memory for its reader
@@ -290,9 +294,9 @@ never_begun bands left taken = record {
 some_injective : {X : Type 0} {x y : X} → Some x ≡ Some y → x ≡ y
 some_injective e = cc
 
-pub started_as : (bands : Bool) → (r : Reading) (sheet : Sheet) (left taken : Option (List ℕ)) → r ≡ fresh → sheet ≡ empty_sheet → Progress bands r sheet 0 false left left taken taken
-started_as bands r sheet left taken r_is sheet_is =
-    subst (λ (s : Sheet). Progress bands r s 0 false left left taken taken) (sym sheet_is) (subst (λ (q : Reading). Progress bands q empty_sheet 0 false left left taken taken) (sym r_is) (started bands left taken))
+pub started_as : (bands : Bool) → (r : Reading) (project : Project) (left taken : Option (List ℕ)) → r ≡ fresh → project ≡ empty_project → Progress bands r project 0 false left left taken taken
+started_as bands r project left taken r_is project_is =
+    subst (λ (s : Project). Progress bands r s 0 false left left taken taken) (sym project_is) (subst (λ (q : Reading). Progress bands q empty_project 0 false left left taken taken) (sym r_is) (started bands left taken))
 
 pub within_at_start : (r : Reading) → r ≡ fresh → bytes_read r ≤ input_limit
 within_at_start r is = let P : Reading → Type 0 = λ q. bytes_read q ≤ input_limit in subst P (sym is) fresh_within
@@ -304,32 +308,32 @@ within_at_start r is = let P : Reading → Type 0 = λ q. bytes_read q ≤ input
 abbrev pub StaysStopped : Next → Reading → Reading → Option (List ℕ) → Option (List ℕ) → Type 0
 StaysStopped answer r r' now after = (r.stop ≢ Going) → (answer ≡ answer_of r.stop) × (r' ≡ r) × (after ≡ now)
 
-ended_by : (bands : Bool) → (stop : Stop) (answer : Next) (status : Status) (r r' : Reading) (sheet : Sheet) (count : ℕ) (refused : Bool) (left now after taken_before taken_now : Option (List ℕ))
-    → r.stop ≡ stop → (p : Progress bands r sheet count refused left now taken_before taken_now) → HandedOut stop r left now p.done → bytes_read r' ≤ input_limit
+ended_by : (bands : Bool) → (stop : Stop) (answer : Next) (status : Status) (r r' : Reading) (project : Project) (count : ℕ) (refused : Bool) (left now after taken_before taken_now : Option (List ℕ))
+    → r.stop ≡ stop → (p : Progress bands r project count refused left now taken_before taken_now) → HandedOut stop r left now p.done → bytes_read r' ≤ input_limit
     → ending_of answer refused ≡ Some status → (r.stop ≡ Going → NextGives answer r r' now after) → StaysStopped answer r r' now after
     → Outcome bands status count left after taken_before taken_now
-ended_by bands Going (next.Line n) status r r' sheet count refused left now after taken_before taken_now is p handed within ends gives stays = cc
-ended_by bands Going next.LongLine status r r' sheet count refused left now after taken_before taken_now is p handed within ends gives stays = cc
-ended_by bands Going next.End status r r' sheet count refused left now after taken_before taken_now is p handed within ends gives stays =
-    subst (λ (s : Status). Outcome bands s count left after taken_before taken_now) (some_injective ends) (ended_now bands r r' sheet count refused left now after taken_before taken_now p handed (gives is) (omega arith))
-ended_by bands Going next.ReadFault status r r' sheet count refused left now after taken_before taken_now is p handed within ends gives stays =
-    subst (λ (s : Status). Outcome bands s count left after taken_before taken_now) (some_injective ends) (failed_to_read bands r r' sheet count refused left now after taken_before taken_now p handed (gives is) (omega arith))
-ended_by bands Going next.InputLimit status r r' sheet count refused left now after taken_before taken_now is p handed within ends gives stays =
-    subst (λ (s : Status). Outcome bands s count left after taken_before taken_now) (some_injective ends) (reached_limit bands r r' sheet count refused left now after taken_before taken_now p handed (gives is))
-ended_by bands AtEnd answer status r r' sheet count refused left now after taken_before taken_now is p handed within ends gives stays =
+ended_by bands Going (next.Line n) status r r' project count refused left now after taken_before taken_now is p handed within ends gives stays = cc
+ended_by bands Going next.LongLine status r r' project count refused left now after taken_before taken_now is p handed within ends gives stays = cc
+ended_by bands Going next.End status r r' project count refused left now after taken_before taken_now is p handed within ends gives stays =
+    subst (λ (s : Status). Outcome bands s count left after taken_before taken_now) (some_injective ends) (ended_now bands r r' project count refused left now after taken_before taken_now p handed (gives is) (omega arith))
+ended_by bands Going next.ReadFault status r r' project count refused left now after taken_before taken_now is p handed within ends gives stays =
+    subst (λ (s : Status). Outcome bands s count left after taken_before taken_now) (some_injective ends) (failed_to_read bands r r' project count refused left now after taken_before taken_now p handed (gives is) (omega arith))
+ended_by bands Going next.InputLimit status r r' project count refused left now after taken_before taken_now is p handed within ends gives stays =
+    subst (λ (s : Status). Outcome bands s count left after taken_before taken_now) (some_injective ends) (reached_limit bands r r' project count refused left now after taken_before taken_now p handed (gives is))
+ended_by bands AtEnd answer status r r' project count refused left now after taken_before taken_now is p handed within ends gives stays =
     let kept = stays (λ going. let clash : AtEnd ≡ Going = sym is ∙ going in cc) in
     let end : status_at_end refused ≡ status = some_injective (sym (ap (λ a. ending_of a refused) (kept.0 ∙ ap answer_of is)) ∙ ends) in
     subst (λ (o : Option (List ℕ)). Outcome bands status count left o taken_before taken_now) (sym kept.2)
-    (subst (λ (s : Status). Outcome bands s count left now taken_before taken_now) end (ended_before bands r sheet count refused left now taken_before taken_now p handed))
-ended_by bands AfterFault answer status r r' sheet count refused left now after taken_before taken_now is p handed within ends gives stays = absurd handed
-ended_by bands AtLimit answer status r r' sheet count refused left now after taken_before taken_now is p handed within ends gives stays = absurd handed
+    (subst (λ (s : Status). Outcome bands s count left now taken_before taken_now) end (ended_before bands r project count refused left now taken_before taken_now p handed))
+ended_by bands AfterFault answer status r r' project count refused left now after taken_before taken_now is p handed within ends gives stays = absurd handed
+ended_by bands AtLimit answer status r r' project count refused left now after taken_before taken_now is p handed within ends gives stays = absurd handed
 
-pub run_ended : (bands : Bool) → (answer : Next) (status : Status) (r r' : Reading) (sheet : Sheet) (count : ℕ) (refused : Bool) (left now after taken_before taken_now : Option (List ℕ))
-    → Progress bands r sheet count refused left now taken_before taken_now → bytes_read r' ≤ input_limit
+pub run_ended : (bands : Bool) → (answer : Next) (status : Status) (r r' : Reading) (project : Project) (count : ℕ) (refused : Bool) (left now after taken_before taken_now : Option (List ℕ))
+    → Progress bands r project count refused left now taken_before taken_now → bytes_read r' ≤ input_limit
     → ending_of answer refused ≡ Some status → (r.stop ≡ Going → NextGives answer r r' now after) → StaysStopped answer r r' now after
     → Outcome bands status count left after taken_before taken_now
-run_ended bands answer status r r' sheet count refused left now after taken_before taken_now p within ends gives stays =
-    ended_by bands r.stop answer status r r' sheet count refused left now after taken_before taken_now refl p p.handed_out within ends gives stays
+run_ended bands answer status r r' project count refused left now after taken_before taken_now p within ends gives stays =
+    ended_by bands r.stop answer status r r' project count refused left now after taken_before taken_now refl p p.handed_out within ends gives stays
 
 -- A line was handed out, or a long one passed over, by a reader that goes on.
 pub record Handed (answer : Next) (r r' : Reading) (left now after : Option (List ℕ)) (done : List (List ℕ)) : Type 0 where
@@ -355,39 +359,39 @@ handed_by AtEnd answer r r' refused left now after done is handed goes gives sta
 handed_by AfterFault answer r r' refused left now after done is handed goes gives stays = absurd handed
 handed_by AtLimit answer r r' refused left now after done is handed goes gives stays = absurd handed
 
-pub line_handed : (bands : Bool) → (answer : Next) (r r' : Reading) (sheet : Sheet) (count : ℕ) (refused : Bool) (left now after taken_before taken_now : Option (List ℕ))
-    → (p : Progress bands r sheet count refused left now taken_before taken_now) → ending_of answer refused ≡ None → (r.stop ≡ Going → NextGives answer r r' now after) → StaysStopped answer r r' now after
+pub line_handed : (bands : Bool) → (answer : Next) (r r' : Reading) (project : Project) (count : ℕ) (refused : Bool) (left now after taken_before taken_now : Option (List ℕ))
+    → (p : Progress bands r project count refused left now taken_before taken_now) → ending_of answer refused ≡ None → (r.stop ≡ Going → NextGives answer r r' now after) → StaysStopped answer r r' now after
     → Handed answer r r' left now after p.done
-line_handed bands answer r r' sheet count refused left now after taken_before taken_now p goes gives stays = handed_by r.stop answer r r' refused left now after p.done refl p.handed_out goes gives stays
+line_handed bands answer r r' project count refused left now after taken_before taken_now p goes gives stays = handed_by r.stop answer r r' refused left now after p.done refl p.handed_out goes gives stays
 
 -- what a line that the reader holds has done, or one that is too long
-abbrev pub DoesNext : Bool → Result Bool Stopped → Next → List ℕ → ℕ → Sheet → Sheet → Option (List ℕ) → Option (List ℕ) → Type 0
+abbrev pub DoesNext : Bool → Result Bool Stopped → Next → List ℕ → ℕ → Project → Project → Option (List ℕ) → Option (List ℕ) → Type 0
 DoesNext bands result answer held number old new before after = (text : List ℕ) → IsTextOf answer held text → Does result (line_done bands number old text) old new before after
 
 text_held : (answer : Next) (r r' : Reading) (left now after : Option (List ℕ)) (done : List (List ℕ)) (held : List ℕ) → held ≡ r'.line → (h : Handed answer r r' left now after done) → IsTextOf answer held h.line
 text_held answer r r' left now after done held is h = subst (λ (t : List ℕ). IsTextOf answer t h.line) (sym is) h.text
 
-pub turned : (bands : Bool) → (answer : Next) (held : List ℕ) (r r' : Reading) (sheet sheet' : Sheet) (count : ℕ) (refused was : Bool) (left now after taken_before taken_now taken_after : Option (List ℕ))
-    → Progress bands r sheet count refused left now taken_before taken_now → ending_of answer refused ≡ None → (r.stop ≡ Going → NextGives answer r r' now after) → StaysStopped answer r r' now after
-    → bytes_read r' ≤ input_limit → held ≡ r'.line → DoesNext bands (Ok was) answer held (count + 1) sheet sheet' taken_now taken_after
-    → Progress bands r' sheet' (count + 1) (refused || was) left after taken_before taken_after
-turned bands answer held r r' sheet sheet' count refused was left now after taken_before taken_now taken_after p goes gives stays within is does =
-    let h = line_handed bands answer r r' sheet count refused left now after taken_before taken_now p goes gives stays in
-    went_on bands r r' sheet sheet' count refused was left now after taken_before taken_now taken_after h.line p h.so_far h.plain h.passes (omega arith)
+pub turned : (bands : Bool) → (answer : Next) (held : List ℕ) (r r' : Reading) (project project' : Project) (count : ℕ) (refused was : Bool) (left now after taken_before taken_now taken_after : Option (List ℕ))
+    → Progress bands r project count refused left now taken_before taken_now → ending_of answer refused ≡ None → (r.stop ≡ Going → NextGives answer r r' now after) → StaysStopped answer r r' now after
+    → bytes_read r' ≤ input_limit → held ≡ r'.line → DoesNext bands (Ok was) answer held (count + 1) project project' taken_now taken_after
+    → Progress bands r' project' (count + 1) (refused || was) left after taken_before taken_after
+turned bands answer held r r' project project' count refused was left now after taken_before taken_now taken_after p goes gives stays within is does =
+    let h = line_handed bands answer r r' project count refused left now after taken_before taken_now p goes gives stays in
+    went_on bands r r' project project' count refused was left now after taken_before taken_now taken_after h.line p h.so_far h.plain h.passes (omega arith)
     (does h.line (text_held answer r r' left now after p.done held is h))
 
-pub turned_off : (bands : Bool) → (stopped : Stopped) (answer : Next) (held : List ℕ) (r r' : Reading) (sheet sheet' : Sheet) (count : ℕ) (refused : Bool) (left now after taken_before taken_now taken_after : Option (List ℕ))
-    → Progress bands r sheet count refused left now taken_before taken_now → ending_of answer refused ≡ None → (r.stop ≡ Going → NextGives answer r r' now after) → StaysStopped answer r r' now after
-    → bytes_read r' ≤ input_limit → held ≡ r'.line → DoesNext bands (Err stopped) answer held (count + 1) sheet sheet' taken_now taken_after
+pub turned_off : (bands : Bool) → (stopped : Stopped) (answer : Next) (held : List ℕ) (r r' : Reading) (project project' : Project) (count : ℕ) (refused : Bool) (left now after taken_before taken_now taken_after : Option (List ℕ))
+    → Progress bands r project count refused left now taken_before taken_now → ending_of answer refused ≡ None → (r.stop ≡ Going → NextGives answer r r' now after) → StaysStopped answer r r' now after
+    → bytes_read r' ≤ input_limit → held ≡ r'.line → DoesNext bands (Err stopped) answer held (count + 1) project project' taken_now taken_after
     → Outcome bands (status_of stopped) (count + 1) left after taken_before taken_after
-turned_off bands stopped answer held r r' sheet sheet' count refused left now after taken_before taken_now taken_after p goes gives stays within is does =
-    let h = line_handed bands answer r r' sheet count refused left now after taken_before taken_now p goes gives stays in
-    broken_off bands stopped r r' sheet sheet' count refused left now after taken_before taken_now taken_after h.line p h.so_far h.plain h.passes (omega arith)
+turned_off bands stopped answer held r r' project project' count refused left now after taken_before taken_now taken_after p goes gives stays within is does =
+    let h = line_handed bands answer r r' project count refused left now after taken_before taken_now p goes gives stays in
+    broken_off bands stopped r r' project project' count refused left now after taken_before taken_now taken_after h.line p h.so_far h.plain h.passes (omega arith)
     (does h.line (text_held answer r r' left now after p.done held is h))
 
-pub passes_on : (bands : Bool) → (answer : Next) (r r' : Reading) (sheet : Sheet) (count : ℕ) (refused : Bool) (left now after taken_before taken_now : Option (List ℕ))
-    → Progress bands r sheet count refused left now taken_before taken_now → ending_of answer refused ≡ None → (r.stop ≡ Going → NextGives answer r r' now after) → StaysStopped answer r r' now after
+pub passes_on : (bands : Bool) → (answer : Next) (r r' : Reading) (project : Project) (count : ℕ) (refused : Bool) (left now after taken_before taken_now : Option (List ℕ))
+    → Progress bands r project count refused left now taken_before taken_now → ending_of answer refused ≡ None → (r.stop ≡ Going → NextGives answer r r' now after) → StaysStopped answer r r' now after
     → bytes_read r' ≤ input_limit → input_limit - r'.passed < input_limit - r.passed
-passes_on bands answer r r' sheet count refused left now after taken_before taken_now p goes gives stays within =
-    let h = line_handed bands answer r r' sheet count refused left now after taken_before taken_now p goes gives stays in
+passes_on bands answer r r' project count refused left now after taken_before taken_now p goes gives stays within =
+    let h = line_handed bands answer r r' project count refused left now after taken_before taken_now p goes gives stays in
     omega (arith, passed_more r'.stop r r' now after h.line h.passes)

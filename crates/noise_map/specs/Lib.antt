@@ -1,11 +1,6 @@
-pub mod Parts
-pub mod Reading
-pub mod Sheet
+pub mod Faults
 pub mod Rows
-pub mod Bands
-pub mod Tallies
-pub mod Energies
-pub mod Sums
+pub mod Heard
 pub mod Level
 pub mod Run
 pub mod Outcome

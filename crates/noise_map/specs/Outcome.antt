@@ -5,12 +5,12 @@ use Rattle.map_io.specs.Lines.{lines, whole_lines, all_but_last}
 use Rattle.map_io.specs.Reading.{input_limit}
 use Rattle.noise_map.specs.declared.status.Status.{Status}
 use Rattle.noise_map.specs.declared.status.Status.TheVariants.{Done, SomeRefused, Usage, ReadFault, WriteFault, NoMemory, InputLimit}
-use Rattle.noise_map.specs.Sheet.{empty_sheet}
+use Rattle.noise_map.specs.Run.{empty_project}
 use Rattle.noise_map.specs.Run as run
 
 -- what these lines do, from an empty scene on, where the rows of bands are asked for or not
 abbrev pub run_of : Bool → List (List ℕ) → run.Done
-run_of bands done = run.lines_done bands 1 empty_sheet done
+run_of bands done = run.lines_done bands 1 empty_project done
 
 -- the input was read to its end, and these are all its lines
 pub record CoversAll (before after : Option (List ℕ)) (done : List (List ℕ)) : Type 0 where

@@ -9,9 +9,9 @@ use Rattle.map_io.specs.Lines.{IsPlain, lines, ended}
 use Rattle.map_io.specs.Reading.{Reading, NothingAhead, ahead, input_limit, line_limit}
 use Rattle.noise_map.specs.declared.status.Status.{Status}
 use Rattle.noise_map.specs.declared.status.Status.TheVariants as status
-use Rattle.noise_map.specs.declared.step.Stopped.{Stopped}
-use Rattle.noise_map.specs.declared.step.Stopped.TheVariants as stops
-use Rattle.noise_map.specs.Sheet.{Sheet}
+use Rattle.noise_map.specs.declared.stopped.Stopped.{Stopped}
+use Rattle.noise_map.specs.declared.stopped.Stopped.TheVariants as stops
+use Rattle.noise_map.specs.declared.project.Project.{Project}
 use Rattle.noise_map.specs.Outcome.{run_of}
 
 -- the status of a run whose input has ended
@@ -34,12 +34,13 @@ HandedOut AfterFault reader before now done = ⊥
 HandedOut AtLimit reader before now done = ⊥
 
 -- These lines were done, and the run may go on.
-pub record Progress (bands : Bool) (reader : Reading) (sheet : Sheet) (count : ℕ) (refused : Bool) (left_before left_now taken_before taken_now : Option (List ℕ)) : Type 0 where
+pub record Progress (bands : Bool) (reader : Reading) (project : Project) (count : ℕ) (refused : Bool) (left_before left_now taken_before taken_now : Option (List ℕ)) : Type 0 where
   pub done : List (List ℕ)
   pub plain : All IsPlain done
   pub counted : length done ≡ count
   pub few : count ≤ reader.passed
-  pub sheet_is : (run_of bands done).sheet ≡ sheet
+  pub versions : project.version ≤ count
+  pub project_is : (run_of bands done).project ≡ project
   pub refused_is : (run_of bands done).refused ≡ refused
   pub written : Appends taken_before taken_now (run_of bands done).text
   pub handed_out : HandedOut reader.stop reader left_before left_now done

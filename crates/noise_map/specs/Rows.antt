@@ -1,8 +1,8 @@
 -- The rows that go out (RFC 4180): seven fields each, and a line feed.
 use Rattle.std.specs.Prelude.{ℕ, ◌/◌, ◌%◌, List, [], ◌∷◌, ◌++◌, decimal, codes}
 use Rattle.csv.specs.Writing.{row_text, default_writer}
-use Rattle.noise_map.specs.declared.rows.Fault.{Fault}
-use Rattle.noise_map.specs.declared.rows.Fault.TheVariants.{LongLine, NotBuilt}
+use Rattle.noise_map.specs.declared.refusal.Refusal.{Refusal}
+use Rattle.noise_map.specs.Faults.{FaultText, refusal_text}
 
 -- the text of a row
 unfoldable pub row : List (List ℕ) → List ℕ
@@ -30,10 +30,15 @@ band_row_fields version name frequency low high = codes "band" ∷ version ∷ n
 unfoldable pub band_level_row : ℕ → List ℕ → ℕ → ℕ → ℕ → List ℕ
 band_level_row version name frequency low high = row (band_row_fields (decimal version) name (decimal frequency) (hundredths_text low) (hundredths_text high))
 
-abbrev pub fault_name : Fault → List ℕ
-fault_name LongLine = codes "LongLine"
-fault_name NotBuilt = codes "NotBuilt"
+abbrev pub fault_row_fields : List ℕ → List ℕ → List ℕ → List ℕ → List ℕ → List (List ℕ)
+fault_row_fields version line fault first second = codes "refused" ∷ version ∷ line ∷ fault ∷ first ∷ second ∷ [] ∷ []
 
--- a line that was refused, by its number from 1
-unfoldable pub refused_row : ℕ → ℕ → Fault → List ℕ
-refused_row version line fault = row (codes "refused" ∷ decimal version ∷ decimal line ∷ fault_name fault ∷ [] ∷ [] ∷ [] ∷ [])
+-- a line that was refused, by its number from 1: the fault's name, and two texts that say more of it
+unfoldable pub fault_row : ℕ → ℕ → List ℕ → List ℕ → List ℕ → List ℕ
+fault_row version line fault first second = row (fault_row_fields (decimal version) (decimal line) fault first second)
+
+abbrev pub said_row : ℕ → ℕ → FaultText → List ℕ
+said_row version line said = fault_row version line said.fault said.first said.second
+
+abbrev pub refused_row : ℕ → ℕ → Refusal → List ℕ
+refused_row version line refusal = said_row version line (refusal_text refusal)

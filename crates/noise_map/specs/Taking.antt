@@ -2,9 +2,9 @@
 use Rattle.std.specs.Prelude.{◌≡◌, ℕ, ◌≤◌, Bool, List, ◌++◌, Option, Result, Ok, Err, IsErrOf}
 use Rattle.std.specs.Io.KnownBytes.{Appends}
 use Rattle.map_io.specs.Causes.{Rose}
-use Rattle.noise_map.specs.declared.step.Stopped.{Stopped}
-use Rattle.noise_map.specs.declared.step.Stopped.TheVariants.{WriteFault}
-use Rattle.noise_map.specs.Sheet.{Sheet}
+use Rattle.noise_map.specs.declared.stopped.Stopped.{Stopped}
+use Rattle.noise_map.specs.declared.stopped.Stopped.TheVariants.{WriteFault}
+use Rattle.noise_map.specs.declared.project.Project.{Project}
 use Rattle.noise_map.specs.Run.{Done}
 
 -- the sink has taken a front of the text, where it tells
@@ -25,6 +25,6 @@ pub record Stops {X : Type 0} (result : Result X Stopped) (before after : ℕ) :
   pub fault : IsErrOf result WriteFault → Rose before after
 
 -- a line was done, or was broken off and left the scene as it was; the answer says whether it was refused
-abbrev pub Does : Result Bool Stopped → Done → Sheet → Sheet → Option (List ℕ) → Option (List ℕ) → Type 0
-Does (Ok refused) done old new before after = (refused ≡ done.refused) × (new ≡ done.sheet) × Appends before after done.text
+abbrev pub Does : Result Bool Stopped → Done → Project → Project → Option (List ℕ) → Option (List ℕ) → Type 0
+Does (Ok refused) done old new before after = (refused ≡ done.refused) × (new ≡ done.project) × Appends before after done.text
 Does (Err stopped) done old new before after = (new ≡ old) × TakesFront before after done.text

@@ -1,46 +1,61 @@
 //! `noisemap`: a noise mapper by ISO 9613-2, from JSON lines to CSV rows.
 #![tactic(auto)]
 
-mod band;
-mod command;
-mod energies;
+mod faults;
+mod heard;
 mod level;
-mod parts;
-mod path;
+mod project;
+mod refusal;
 mod rows;
 mod run;
-mod scene;
+mod settle;
 mod status;
 mod step;
-mod sums;
+mod stopped;
+#[cfg(test)]
+mod test_rows;
 #[cfg(test)]
 mod tests;
+mod unbuilt;
 mod words;
 
+use crate::status::{Report, Status};
 use map_io::{OpenGate, StdSink, StdSource};
 use std::env::{self, Env};
-use std::io;
+use std::io::{self, ErrorKind};
 use std::process::ExitCode;
 
-/// The words of the command line. Words that can't be read as text are no command line, as an empty list is.
-fn words_of(rt: &(impl Env + AllocGlobal)) -> Vec<String> {
+/// The words of the command line, if there is memory for them. Words that can't be read as text are no command line, as an
+/// empty list is.
+fn words_of(rt: &(impl Env + AllocGlobal)) -> Option<Vec<String>> {
     match env::args(rt) {
-        Ok(words) => words.collect(rt.alloc()).unwrap_or(Vec::new(rt.alloc())),
-        Err(_) => Vec::new(rt.alloc()),
+        Ok(words) => words.collect(rt.alloc()).ok(),
+        Err(error) if error.kind() == ErrorKind::OutOfMemory => None,
+        Err(_) => Some(Vec::new(rt.alloc())),
     }
 }
 
-fn main(rt: HostRuntime) -> ExitCode {
-    let words = words_of(&rt);
+/// The run over the words of the command line, standard input and standard output.
+fn report_of(rt: &HostRuntime) -> Report {
+    let Some(words) = words_of(rt) else {
+        return Report {
+            status: Status::NoMemory,
+            lines: 0,
+        };
+    };
     let mut input = StdSource::new(rt.reader());
-    let mut out = StdSink::new(io::writer(&rt));
-    let report = run::run(
+    let mut out = StdSink::new(io::writer(rt));
+    run::run(
         rt.alloc(),
         words.as_slice(),
         &mut input,
         &mut out,
         &OpenGate,
-    );
+    )
+}
+
+fn main(rt: HostRuntime) -> ExitCode {
+    let report = report_of(&rt);
     if let Some(fault) = report.status.fault() {
         let _ = eprintln!(rt; "noisemap: {fault}");
     }

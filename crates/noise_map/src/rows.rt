@@ -1,36 +1,12 @@
 //! The rows that go out, as CSV.
 ghost use Rattle.std.specs.Prelude.{◌≡◌, IfOk, map, string_bytes};
-ghost use Rattle.noise_map.specs.Sums.{sums_of};
-ghost use Rattle.noise_map.specs.Run.{receiver_row, band_row};
-ghost use Rattle.noise_map.specs.Rows.{band_level_row, band_row_fields, row, settle_row, current_row, current_row_fields, refused_row, hundredths_text, fault_name};
+ghost use Rattle.noise_map.specs.Run.{level_row, band_row};
+ghost use Rattle.noise_map.specs.Rows.{band_level_row, band_row_fields, row, settle_row, current_row, current_row_fields, fault_row, fault_row_fields, hundredths_text};
 
-use crate::band::Band;
-use crate::parts::Receiver;
-use crate::scene::Scene;
-use crate::sums::Sums;
+use crate::level::{high_in_hundredths, low_in_hundredths};
 use csv::WriterBuilder;
+use path_calc::{Band, Levels};
 use std::alloc::{AllocError, Global};
-
-/// Why a line is refused.
-#[derive(Clone, Copy, Debug, PartialEq, Eq)]
-pub enum Fault {
-    /// It has more than 65,536 bytes.
-    LongLine,
-    /// It is no command that this program has.
-    NotBuilt,
-}
-
-impl Fault {
-    /// The fault's name in a row.
-    pub fn name(self) -> &'static str
-        ensures { result.now ≡ fault_name self }
-    {
-        match self {
-            Fault::LongLine => "LongLine",
-            Fault::NotBuilt => "NotBuilt",
-        }
-    }
-}
 
 /// The row at the head of a settle: the version, and how many receivers there are.
 #[tactic(auto, unfolding(crate::specs::Rows::settle_row))]
@@ -127,29 +103,43 @@ fn band_fields(
     row_text(alloc, &[b"band", version, name, frequency, b"", low, high])
 }
 
-/// The row of a refused line, by its number from 1.
-#[tactic(auto, unfolding(crate::specs::Rows::refused_row))]
-pub fn refused_text(
+/// The row of a refused line, by its number from 1: the fault's name, and two texts that say more of it.
+#[tactic(auto, unfolding(crate::specs::Rows::fault_row))]
+pub fn fault_text(
     alloc: Global,
     version: u64,
     line: u64,
-    fault: Fault,
+    fault: &[u8],
+    first: &[u8],
+    second: &[u8],
 ) -> Result<Vec<u8>, AllocError>
-    ensures { IfOk result (λ text. text.items ≡ refused_row version line fault) }
+    ensures { IfOk result (λ text. text.items ≡ fault_row version line fault.now first.now second.now) }
 {
     let version = format!(in alloc; "{version}")?;
     let line = format!(in alloc; "{line}")?;
+    fault_fields(
+        alloc,
+        version.as_bytes(),
+        line.as_bytes(),
+        fault,
+        first,
+        second,
+    )
+}
+
+fn fault_fields(
+    alloc: Global,
+    version: &[u8],
+    line: &[u8],
+    fault: &[u8],
+    first: &[u8],
+    second: &[u8],
+) -> Result<Vec<u8>, AllocError>
+    ensures { IfOk result (λ text. text.items ≡ row (fault_row_fields version.now line.now fault.now first.now second.now)) }
+{
     row_text(
         alloc,
-        &[
-            b"refused",
-            version.as_bytes(),
-            line.as_bytes(),
-            fault.name().as_bytes(),
-            b"",
-            b"",
-            b"",
-        ],
+        &[b"refused", version, line, fault, first, second, b""],
     )
 }
 
@@ -174,46 +164,43 @@ fn row_text(alloc: Global, fields: &[&[u8]]) -> Result<Vec<u8>, AllocError>
     writer.into_inner().map_err(|_| AllocError)
 }
 
-/// The row of a receiver of the scene, with its A-weighted level there.
-#[tactic(auto, unfolding(crate::specs::Run::receiver_row))]
-pub fn total_text(
+/// The row of a receiver, with its A-weighted long-term level.
+#[tactic(auto, unfolding(crate::specs::Run::level_row))]
+pub fn level_text(
     alloc: Global,
-    scene: &Scene,
-    receiver: &Receiver,
-    sums: &Sums,
+    version: u64,
+    name: &[u8],
+    levels: &Levels,
 ) -> Result<Vec<u8>, AllocError>
-    requires { sums.now ≡ sums_of scene.now.sources receiver.now }
-    ensures { IfOk result (λ text. text.items ≡ receiver_row scene.now receiver.now) }
+    ensures { IfOk result (λ text. text.items ≡ level_row version name.now levels.now) }
 {
-    let level = sums.total_level();
     current_text(
         alloc,
-        scene.version(),
-        receiver.name.as_bytes(),
-        level.low_in_hundredths(),
-        level.high_in_hundredths(),
+        version,
+        name,
+        low_in_hundredths(levels.total),
+        high_in_hundredths(levels.total),
     )
 }
 
-/// The row of a band of a receiver of the scene, with its level there.
+/// The row of a band of a receiver, with its level there.
 #[tactic(auto, unfolding(crate::specs::Run::band_row))]
 pub fn band_text(
     alloc: Global,
-    scene: &Scene,
-    receiver: &Receiver,
-    sums: &Sums,
+    version: u64,
+    name: &[u8],
+    levels: &Levels,
     band: Band,
 ) -> Result<Vec<u8>, AllocError>
-    requires { sums.now ≡ sums_of scene.now.sources receiver.now }
-    ensures { IfOk result (λ text. text.items ≡ band_row scene.now receiver.now band) }
+    ensures { IfOk result (λ text. text.items ≡ band_row version name.now levels.now band) }
 {
-    let level = sums.band_level(band);
+    let level = levels.bands[band.place()];
     band_level_text(
         alloc,
-        scene.version(),
-        receiver.name.as_bytes(),
+        version,
+        name,
         band.frequency(),
-        level.low_in_hundredths(),
-        level.high_in_hundredths(),
+        low_in_hundredths(level),
+        high_in_hundredths(level),
     )
 }

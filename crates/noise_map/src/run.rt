@@ -1,17 +1,17 @@
 //! The top call: all that the program does.
-ghost use Rattle.std.specs.Prelude.{◌≡◌, ◌↔◌, ◌≤◌, ℕ, List, length, map, string_bytes, None, IfSome};
+ghost use Rattle.std.specs.Prelude.{◌≡◌, ◌↔◌, ◌≤◌, ◌<◌, ℕ, List, length, map, string_bytes, None, IfSome};
 ghost use Rattle.map_io.specs.Causes.{Rose};
-ghost use Rattle.map_io.specs.Reading.{HandsOut, PassesOver};
+ghost use Rattle.map_io.specs.Reading.{fresh};
 ghost use Rattle.noise_map.specs.Words as command_words;
-ghost use Rattle.noise_map.specs.Run.{line_done, refusal};
+ghost use Rattle.noise_map.specs.Run.{empty_project, line_done};
 ghost use Rattle.noise_map.specs.Taking.{Does, Stops};
 ghost use Rattle.noise_map.specs.Progress.{ending_of, status_of, IsLineOf, IsTextOf};
 ghost use Rattle.noise_map.specs.Outcome.{Outcome};
 
-use crate::rows::Fault;
-use crate::scene::Scene;
+use crate::project::Project;
 use crate::status::{Report, Status};
-use crate::step::{Stopped, do_line, refuse_long};
+use crate::step::{do_line, refuse_long};
+use crate::stopped::Stopped;
 use crate::words::bands_asked;
 use map_io::{Gate, LineReader, Next, Sink, Source};
 use std::alloc::Global;
@@ -42,24 +42,60 @@ fn status_when(stopped: Stopped) -> Status
 fn do_next<K: Sink>(
     alloc: Global,
     bands: bool,
-    scene: &mut Scene,
+    project: &mut Project,
     number: u64,
     next: Next,
     line: &[u8],
     out: &mut K,
 ) -> Result<bool, Stopped>
-    requires { IsLineOf next line.now }
-    ensures done { (text : List ℕ) → IsTextOf next line.now text → Does result (line_done bands number scene.old text) scene.old scene.new (K.taken out.old) (K.taken out.new) }
+    requires version { project.old.version < number }
+    requires line { IsLineOf next line.now }
+    ensures done { (text : List ℕ) → IsTextOf next line.now text → Does result (line_done bands number project.old text) project.old project.new (K.taken out.old) (K.taken out.new) }
     ensures cause { Stops result (K.faults out.old) (K.faults out.new) }
 {
     if matches!(next, Next::LongLine) {
-        refuse_long(alloc, bands, scene, number, out)
+        refuse_long(alloc, bands, project, number, out)
     } else {
-        do_line(alloc, bands, scene, number, line, out)
+        do_line(alloc, bands, project, number, line, out)
     }
 }
 
 /// Reads line after line and does each, until the input ends or something stops it.
+fn do_lines<S: Source, K: Sink>(
+    alloc: Global,
+    bands: bool,
+    reader: &mut LineReader,
+    project: &mut Project,
+    input: &mut S,
+    out: &mut K,
+) -> Report
+    requires reader { reader.old ≡ fresh }
+    requires project { project.old ≡ empty_project }
+    ensures outcome { Outcome bands result.status result.lines (S.left input.old) (S.left input.new) (K.taken out.old) (K.taken out.new) }
+    ensures read_fault { result.status ≡ Status.ReadFault → Rose (S.faults input.old) (S.faults input.new) }
+    ensures write_fault { result.status ≡ Status.WriteFault → Rose (K.faults out.old) (K.faults out.new) }
+{
+    let mut lines = 0;
+    let mut refused = false;
+    loop {
+        let next = reader.next(input);
+        if let Some(status) = ending(next, refused) {
+            return Report { status, lines };
+        }
+        lines += 1;
+        match do_next(alloc, bands, project, lines, next, reader.line(), out) {
+            Ok(was_refused) => refused |= was_refused,
+            Err(stopped) => {
+                return Report {
+                    status: status_when(stopped),
+                    lines,
+                };
+            }
+        }
+    }
+}
+
+/// A run with an empty scene over all lines of the input.
 fn run_lines<S: Source, K: Sink>(alloc: Global, bands: bool, input: &mut S, out: &mut K) -> Report
     ensures outcome { Outcome bands result.status result.lines (S.left input.old) (S.left input.new) (K.taken out.old) (K.taken out.new) }
     ensures read_fault { result.status ≡ Status.ReadFault → Rose (S.faults input.old) (S.faults input.new) }
@@ -71,25 +107,13 @@ fn run_lines<S: Source, K: Sink>(alloc: Global, bands: bool, input: &mut S, out:
             lines: 0,
         };
     };
-    let mut scene = Scene::empty(alloc);
-    let mut lines = 0;
-    let mut refused = false;
-    loop {
-        let next = reader.next(input);
-        if let Some(status) = ending(next, refused) {
-            return Report { status, lines };
-        }
-        lines += 1;
-        match do_next(alloc, bands, &mut scene, lines, next, reader.line(), out) {
-            Ok(was_refused) => refused |= was_refused,
-            Err(stopped) => {
-                return Report {
-                    status: status_when(stopped),
-                    lines,
-                };
-            }
-        }
-    }
+    let Ok(mut project) = Project::empty(alloc) else {
+        return Report {
+            status: Status::NoMemory,
+            lines: 0,
+        };
+    };
+    do_lines(alloc, bands, &mut reader, &mut project, input, out)
 }
 
 /// All that the program does: it reads the words of the command line, then line after line of the input, and writes the

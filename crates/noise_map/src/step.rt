@@ -1,282 +1,127 @@
 //! One line after another: what each does to the scene, and what it writes.
-ghost use Rattle.std.specs.Prelude.{◌≡◌, ◌<◌, ◌≤◌, ℕ, List, flat_map, length};
-ghost use Rattle.std.specs.List.{list_all};
-ghost use Rattle.noise_map.specs.Taking.{Takes, Stops, Does};
-ghost use Rattle.noise_map.specs.Bands.{all_bands};
-ghost use Rattle.noise_map.specs.Sums.{sums_of};
-ghost use Rattle.noise_map.specs.Rows.{settle_row};
-ghost use Rattle.noise_map.specs.Reading.{command_of};
-ghost use Rattle.noise_map.specs.Run.{quiet, refusal, receiver_row, band_row, band_rows, receiver_rows, settle_rows, may_put_source, may_put_receiver, obeyed, is_blank, is_blank_byte, obeyed_or_refused, line_done};
-ghost use Rattle.noise_map.specs.declared.step.Stopped.TheVariants.{NoMemory, WriteFault};
+ghost use Rattle.std.specs.Prelude.{◌≡◌, ◌<◌, ◌≤◌, ℕ, List, length, Option, Result, Err};
+ghost use Rattle.scene_parts.specs.declared.parts.Part.{Part};
+ghost use Rattle.scene_book.specs.Book.{Book};
+ghost use Rattle.scene_book.specs.Applying as applying;
+ghost use Rattle.command_lines.specs.declared.commands.Command.{Command as CommandSaid};
+ghost use Rattle.command_lines.specs.Answers as answers;
+ghost use Rattle.noise_map.specs.Faults.{edit_lacks_memory, line_lacks_memory};
+ghost use Rattle.noise_map.specs.Taking.{Stops, Does};
+ghost use Rattle.scene_book.specs.Applying.{apply_of};
+ghost use Rattle.command_lines.specs.Lines.{command_of};
+ghost use Rattle.noise_map.specs.Run.{refusal, applied, edited, obeyed, is_blank, is_blank_byte, obeyed_or_refused, line_done};
 
-use crate::band::Band;
-use crate::command::{Command, LineError, read_command};
-use crate::parts::{PointSource, Receiver};
-use crate::rows::{Fault, band_text, refused_text, settle_text, total_text};
-use crate::scene::Scene;
-use crate::sums::{Sums, sums_at};
-use map_io::{Failed, Sink, put_all};
-use std::alloc::{AllocError, Global};
-
-/// Why a line could not be done to its end.
-#[derive(Clone, Copy, Debug, PartialEq, Eq)]
-pub enum Stopped {
-    WriteFault,
-    NoMemory,
-}
-
-impl From<Failed> for Stopped {
-    ghost from_gives = { λ _ stopped. stopped ≡ WriteFault };
-
-    fn from(_: Failed) -> Self {
-        Stopped::WriteFault
-    }
-}
-
-impl From<AllocError> for Stopped {
-    ghost from_gives = { λ _ stopped. stopped ≡ NoMemory };
-
-    fn from(_: AllocError) -> Self {
-        Stopped::NoMemory
-    }
-}
-
-fn write_row<K: Sink>(out: &mut K, row: &[u8]) -> Result<(), Stopped>
-    ensures taken { Takes result (K.taken out.old) (K.taken out.new) row.now }
-    ensures cause { Stops result (K.faults out.old) (K.faults out.new) }
-{
-    put_all(out, row)?;
-    Ok(())
-}
+use crate::faults::refused_text;
+use crate::project::Project;
+use crate::refusal::Refusal;
+use crate::settle::{settle, write_row};
+use crate::stopped::Stopped;
+use crate::unbuilt::is_unbuilt;
+use command_lines::{Command, LineFault, command};
+use map_io::Sink;
+use scene_book::{Edit, EditFault};
+use std::alloc::Global;
 
 /// Refuses a line: its row names the fault, and the scene stays.
 fn refuse<K: Sink>(
     alloc: Global,
-    scene: &Scene,
+    project: &Project,
     number: u64,
-    fault: Fault,
+    fault: &Refusal,
     out: &mut K,
 ) -> Result<bool, Stopped>
-    ensures done { Does result (refusal number scene.now fault) scene.now scene.now (K.taken out.old) (K.taken out.new) }
+    ensures done { Does result (refusal number project.now fault.now) project.now project.now (K.taken out.old) (K.taken out.new) }
     ensures cause { Stops result (K.faults out.old) (K.faults out.new) }
 {
-    let row = refused_text(alloc, scene.version(), number, fault)?;
+    let row = refused_text(alloc, project.version, number, fault)?;
     write_row(out, row.as_slice())?;
     Ok(true)
 }
 
-fn write_total<K: Sink>(
-    alloc: Global,
-    scene: &Scene,
-    receiver: &Receiver,
-    sums: &Sums,
-    out: &mut K,
-) -> Result<(), Stopped>
-    requires { sums.now ≡ sums_of scene.now.sources receiver.now }
-    ensures taken { Takes result (K.taken out.old) (K.taken out.new) (receiver_row scene.now receiver.now) }
-    ensures cause { Stops result (K.faults out.old) (K.faults out.new) }
+fn edit_lacks_memory(fault: &EditFault) -> bool
+    ensures { result ≡ edit_lacks_memory fault.now }
 {
-    let row = total_text(alloc, scene, receiver, sums)?;
-    write_row(out, row.as_slice())
+    matches!(fault, EditFault::NoMemory)
 }
 
-fn write_band<K: Sink>(
+/// Refuses an edit that the scene can't take, unless it had no memory for it.
+fn refuse_edit<K: Sink>(
     alloc: Global,
-    scene: &Scene,
-    receiver: &Receiver,
-    sums: &Sums,
-    band: Band,
+    project: &Project,
+    number: u64,
+    fault: EditFault,
     out: &mut K,
-) -> Result<(), Stopped>
-    requires { sums.now ≡ sums_of scene.now.sources receiver.now }
-    ensures taken { Takes result (K.taken out.old) (K.taken out.new) (band_row scene.now receiver.now band) }
+) -> Result<bool, Stopped>
+    ensures done { (after : Book) (said : Result (Book × Option Part) EditFault) → applying.Gives after (Err fault) said → Does result (applied number project.now said) project.now project.now (K.taken out.old) (K.taken out.new) }
     ensures cause { Stops result (K.faults out.old) (K.faults out.new) }
 {
-    let row = band_text(alloc, scene, receiver, sums, band)?;
-    write_row(out, row.as_slice())
-}
-
-fn write_bands<K: Sink>(
-    alloc: Global,
-    scene: &Scene,
-    receiver: &Receiver,
-    sums: &Sums,
-    bands: &[Band],
-    out: &mut K,
-) -> Result<(), Stopped>
-    requires { sums.now ≡ sums_of scene.now.sources receiver.now }
-    ensures taken { Takes result (K.taken out.old) (K.taken out.new) (flat_map (band_row scene.now receiver.now) bands.now) }
-    ensures cause { Stops result (K.faults out.old) (K.faults out.new) }
-{
-    for band in bands {
-        write_band(alloc, scene, receiver, sums, *band, out)?;
+    if edit_lacks_memory(&fault) {
+        return Err(Stopped::NoMemory);
     }
-    Ok(())
+    refuse(alloc, project, number, &Refusal::Edit(fault), out)
 }
 
-fn write_all_bands<K: Sink>(
+/// Applies an edit: where the scene takes it, this is the next version.
+fn apply<K: Sink>(
     alloc: Global,
-    scene: &Scene,
-    receiver: &Receiver,
-    sums: &Sums,
+    project: &mut Project,
+    number: u64,
+    edit: &Edit,
     out: &mut K,
-) -> Result<(), Stopped>
-    requires { sums.now ≡ sums_of scene.now.sources receiver.now }
-    ensures taken { Takes result (K.taken out.old) (K.taken out.new) (flat_map (band_row scene.now receiver.now) all_bands) }
+) -> Result<bool, Stopped>
+    requires { project.old.version < number }
+    ensures done { Does result (applied number project.old (apply_of edit.now project.old.scene)) project.old project.new (K.taken out.old) (K.taken out.new) }
     ensures cause { Stops result (K.faults out.old) (K.faults out.new) }
 {
-    let bands = Band::all();
-    write_bands(alloc, scene, receiver, sums, bands.as_slice(), out)
+    match project.scene.apply(alloc, edit) {
+        Ok(_) => {
+            project.version += 1;
+            Ok(false)
+        }
+        Err(fault) => refuse_edit(alloc, project, number, fault, out),
+    }
 }
 
-/// Writes the rows of the bands of a receiver, where they are asked for.
-fn write_bands_asked<K: Sink>(
+/// Applies an edit, or refuses one that asks for what the calculation doesn't have yet.
+#[tactic(auto, unfolding(crate::specs::Run::edited))]
+fn edit<K: Sink>(
     alloc: Global,
-    bands: bool,
-    scene: &Scene,
-    receiver: &Receiver,
-    sums: &Sums,
+    project: &mut Project,
+    number: u64,
+    edit: &Edit,
     out: &mut K,
-) -> Result<(), Stopped>
-    requires { sums.now ≡ sums_of scene.now.sources receiver.now }
-    ensures taken { Takes result (K.taken out.old) (K.taken out.new) (band_rows bands scene.now receiver.now) }
+) -> Result<bool, Stopped>
+    requires { project.old.version < number }
+    ensures done { Does result (edited number project.old edit.now) project.old project.new (K.taken out.old) (K.taken out.new) }
     ensures cause { Stops result (K.faults out.old) (K.faults out.new) }
 {
-    if bands {
-        write_all_bands(alloc, scene, receiver, sums, out)
+    if is_unbuilt(edit) {
+        refuse(alloc, project, number, &Refusal::NotBuilt, out)
     } else {
-        Ok(())
+        apply(alloc, project, number, edit, out)
     }
-}
-
-/// Writes the row of a receiver, and those of its bands where they are asked for.
-fn write_receiver<K: Sink>(
-    alloc: Global,
-    bands: bool,
-    scene: &Scene,
-    receiver: &Receiver,
-    out: &mut K,
-) -> Result<(), Stopped>
-    ensures taken { Takes result (K.taken out.old) (K.taken out.new) (receiver_rows bands scene.now receiver.now) }
-    ensures cause { Stops result (K.faults out.old) (K.faults out.new) }
-{
-    let sums = sums_at(scene, receiver);
-    write_total(alloc, scene, receiver, &sums, out)?;
-    write_bands_asked(alloc, bands, scene, receiver, &sums, out)
-}
-
-fn write_receivers<K: Sink>(
-    alloc: Global,
-    bands: bool,
-    scene: &Scene,
-    out: &mut K,
-) -> Result<(), Stopped>
-    ensures taken { Takes result (K.taken out.old) (K.taken out.new) (flat_map (receiver_rows bands scene.now) scene.now.receivers) }
-    ensures cause { Stops result (K.faults out.old) (K.faults out.new) }
-{
-    for receiver in scene.receivers() {
-        write_receiver(alloc, bands, scene, receiver, out)?;
-    }
-    Ok(())
-}
-
-fn write_head<K: Sink>(alloc: Global, scene: &Scene, out: &mut K) -> Result<(), Stopped>
-    ensures taken { Takes result (K.taken out.old) (K.taken out.new) (settle_row scene.now.version (length scene.now.receivers)) }
-    ensures cause { Stops result (K.faults out.old) (K.faults out.new) }
-{
-    let head = settle_text(alloc, scene.version(), scene.receivers().len())?;
-    write_row(out, head.as_slice())
-}
-
-/// Writes the rows of a settle, each as soon as it is there.
-fn settle<K: Sink>(alloc: Global, bands: bool, scene: &Scene, out: &mut K) -> Result<(), Stopped>
-    ensures taken { Takes result (K.taken out.old) (K.taken out.new) (settle_rows bands scene.now) }
-    ensures cause { Stops result (K.faults out.old) (K.faults out.new) }
-{
-    write_head(alloc, scene, out)?;
-    write_receivers(alloc, bands, scene, out)
-}
-
-fn may_put_source(scene: &Scene, source: &PointSource) -> bool
-    ensures { result ≡ may_put_source source.now scene.now }
-{
-    scene.sources().len() < 128 && !scene.holds(&source.name)
-}
-
-fn may_put_receiver(scene: &Scene, receiver: &Receiver) -> bool
-    ensures { result ≡ may_put_receiver receiver.now scene.now }
-{
-    scene.receivers().len() < 4096 && !scene.holds(&receiver.name)
 }
 
 #[tactic(auto, unfolding(crate::specs::Run::obeyed))]
-fn put_source<K: Sink>(
-    alloc: Global,
-    bands: bool,
-    scene: &mut Scene,
-    number: u64,
-    source: PointSource,
-    out: &mut K,
-) -> Result<bool, Stopped>
-    ensures done { Does result (obeyed bands number scene.old (Command.Source source)) scene.old scene.new (K.taken out.old) (K.taken out.new) }
-    ensures cause { Stops result (K.faults out.old) (K.faults out.new) }
-{
-    if !may_put_source(scene, &source) {
-        return refuse(alloc, scene, number, Fault::NotBuilt, out);
-    }
-    scene.put_source(source)?;
-    Ok(false)
-}
-
-#[tactic(auto, unfolding(crate::specs::Run::obeyed))]
-fn put_receiver<K: Sink>(
-    alloc: Global,
-    bands: bool,
-    scene: &mut Scene,
-    number: u64,
-    receiver: Receiver,
-    out: &mut K,
-) -> Result<bool, Stopped>
-    ensures done { Does result (obeyed bands number scene.old (Command.Receiver receiver)) scene.old scene.new (K.taken out.old) (K.taken out.new) }
-    ensures cause { Stops result (K.faults out.old) (K.faults out.new) }
-{
-    if !may_put_receiver(scene, &receiver) {
-        return refuse(alloc, scene, number, Fault::NotBuilt, out);
-    }
-    scene.put_receiver(receiver)?;
-    Ok(false)
-}
-
-#[tactic(auto, unfolding(crate::specs::Run::obeyed))]
-fn obey_settle<K: Sink>(
-    alloc: Global,
-    bands: bool,
-    scene: &Scene,
-    number: u64,
-    out: &mut K,
-) -> Result<bool, Stopped>
-    ensures done { Does result (obeyed bands number scene.now Command.Settle) scene.now scene.now (K.taken out.old) (K.taken out.new) }
-    ensures cause { Stops result (K.faults out.old) (K.faults out.new) }
-{
-    settle(alloc, bands, scene, out)?;
-    Ok(false)
-}
-
 fn obey<K: Sink>(
     alloc: Global,
     bands: bool,
-    scene: &mut Scene,
+    project: &mut Project,
     number: u64,
-    command: Command,
+    command: &Command,
     out: &mut K,
 ) -> Result<bool, Stopped>
-    ensures done { Does result (obeyed bands number scene.old command) scene.old scene.new (K.taken out.old) (K.taken out.new) }
+    requires { project.old.version < number }
+    ensures done { Does result (obeyed bands number project.old command.now) project.old project.new (K.taken out.old) (K.taken out.new) }
     ensures cause { Stops result (K.faults out.old) (K.faults out.new) }
 {
     match command {
-        Command::Source(source) => put_source(alloc, bands, scene, number, source, out),
-        Command::Receiver(receiver) => put_receiver(alloc, bands, scene, number, receiver, out),
-        Command::Settle => obey_settle(alloc, bands, scene, number, out),
+        Command::Edit(change) => edit(alloc, project, number, change, out),
+        Command::Settle => {
+            settle(alloc, bands, project, out)?;
+            Ok(false)
+        }
+        Command::Look => refuse(alloc, project, number, &Refusal::NotBuilt, out),
     }
 }
 
@@ -292,22 +137,46 @@ fn is_blank_char(byte: u8) -> bool
     byte == b' ' || byte == b'\t' || byte == b'\r'
 }
 
+fn line_lacks_memory(fault: &LineFault) -> bool
+    ensures { result ≡ line_lacks_memory fault.now }
+{
+    matches!(fault, LineFault::NoMemory)
+}
+
+/// Refuses a line that says no command, unless there was no memory to read it.
+fn refuse_line<K: Sink>(
+    alloc: Global,
+    bands: bool,
+    project: &Project,
+    number: u64,
+    fault: LineFault,
+    out: &mut K,
+) -> Result<bool, Stopped>
+    ensures done { (said : Result CommandSaid LineFault) → answers.Gives (Err fault) said → Does result (obeyed_or_refused bands number project.now said) project.now project.now (K.taken out.old) (K.taken out.new) }
+    ensures cause { Stops result (K.faults out.old) (K.faults out.new) }
+{
+    if line_lacks_memory(&fault) {
+        return Err(Stopped::NoMemory);
+    }
+    refuse(alloc, project, number, &Refusal::Line(fault), out)
+}
+
 #[tactic(auto, unfolding(crate::specs::Run::obeyed_or_refused))]
 fn read_and_obey<K: Sink>(
     alloc: Global,
     bands: bool,
-    scene: &mut Scene,
+    project: &mut Project,
     number: u64,
     line: &[u8],
     out: &mut K,
 ) -> Result<bool, Stopped>
-    ensures done { Does result (obeyed_or_refused bands number scene.old (command_of line.now)) scene.old scene.new (K.taken out.old) (K.taken out.new) }
+    requires { project.old.version < number }
+    ensures done { Does result (obeyed_or_refused bands number project.old (command_of line.now)) project.old project.new (K.taken out.old) (K.taken out.new) }
     ensures cause { Stops result (K.faults out.old) (K.faults out.new) }
 {
-    match read_command(alloc, line) {
-        Ok(command) => obey(alloc, bands, scene, number, command, out),
-        Err(LineError::NoMemory) => Err(Stopped::NoMemory),
-        Err(LineError::NotBuilt) => refuse(alloc, scene, number, Fault::NotBuilt, out),
+    match command(alloc, line) {
+        Ok(command) => obey(alloc, bands, project, number, &command, out),
+        Err(fault) => refuse_line(alloc, bands, project, number, fault, out),
     }
 }
 
@@ -316,19 +185,20 @@ fn read_and_obey<K: Sink>(
 pub fn do_line<K: Sink>(
     alloc: Global,
     bands: bool,
-    scene: &mut Scene,
+    project: &mut Project,
     number: u64,
     line: &[u8],
     out: &mut K,
 ) -> Result<bool, Stopped>
-    requires { length line.now ≤ 65536 }
-    ensures done { Does result (line_done bands number scene.old line.now) scene.old scene.new (K.taken out.old) (K.taken out.new) }
+    requires version { project.old.version < number }
+    requires length { length line.now ≤ 65536 }
+    ensures done { Does result (line_done bands number project.old line.now) project.old project.new (K.taken out.old) (K.taken out.new) }
     ensures cause { Stops result (K.faults out.old) (K.faults out.new) }
 {
     if is_blank_text(line) {
         Ok(false)
     } else {
-        read_and_obey(alloc, bands, scene, number, line, out)
+        read_and_obey(alloc, bands, project, number, line, out)
     }
 }
 
@@ -337,12 +207,12 @@ pub fn do_line<K: Sink>(
 pub fn refuse_long<K: Sink>(
     alloc: Global,
     bands: bool,
-    scene: &Scene,
+    project: &Project,
     number: u64,
     out: &mut K,
 ) -> Result<bool, Stopped>
-    ensures done { (line : List ℕ) → 65536 < length line → Does result (line_done bands number scene.now line) scene.now scene.now (K.taken out.old) (K.taken out.new) }
+    ensures done { (line : List ℕ) → 65536 < length line → Does result (line_done bands number project.now line) project.now project.now (K.taken out.old) (K.taken out.new) }
     ensures cause { Stops result (K.faults out.old) (K.faults out.new) }
 {
-    refuse(alloc, scene, number, Fault::LongLine, out)
+    refuse(alloc, project, number, &Refusal::LongLine, out)
 }

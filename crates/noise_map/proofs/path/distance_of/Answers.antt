@@ -1,9 +1,0 @@
-use Rattle.std.proofs.Common.{subst, sym, pos, ◌^◌, ◌≤ℤ◌, ℤ}
-use Rattle.std.specs.Prelude.{IsSomeAnd}
-use Rattle.fix_interval.specs.Interval.{Interval}
-use Rattle.noise_map.proofs.Levels.{distance-bounded}
-use Rattle.noise_map.proofs.path.distance_of.Goals as goal
-
-pub returns-clause-bound : goal.returns-clause-bound
-returns-clause-bound c =
-    subst (λ (i : Interval). IsSomeAnd i.hi (λ (z : ℤ). z ≤ℤ pos (2 ^ 60))) (sym c.root_of_square.ensures.value) (distance-bounded _ c.root_of_square.ensures.small)

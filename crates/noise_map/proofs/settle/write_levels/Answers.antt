@@ -1,0 +1,12 @@
+use Rattle.std.proofs.Common.{refl}
+use Rattle.std.proofs.lemmas.Result.{err_from_is_err_and}
+use Rattle.noise_map.proofs.Fronts.{front_first, takes_after}
+use Rattle.noise_map.proofs.settle.write_levels.Goals as goal
+
+pub returns-in_err-write_level-clause-taken : goal.returns-in_err-write_level-clause-taken
+returns-in_err-write_level-clause-taken g c =
+    let p = err_from_is_err_and c.from_residual.result c.from_residual.ensures.1 in
+    rw p.1 (front_first _ _ _ _ _ c.in_err-write_level.ensures.taken refl)
+
+pub returns-clause-taken : goal.returns-clause-taken
+returns-clause-taken g c = takes_after _ _ _ _ _ _ _ c.in_ok-write_level.ensures.taken c.write_bands_asked.ensures.taken refl

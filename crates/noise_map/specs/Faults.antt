@@ -1,0 +1,73 @@
+-- What the row of a refused line says of its fault: the fault's name, and up to two texts.
+use Rattle.std.specs.Prelude.{ℕ, Bool, true, false, List, [], decimal, codes}
+use Rattle.std.specs.Fmt.{signed_decimal}
+use Rattle.scene_parts.specs.declared.faults.PartFault.{PartFault}
+use Rattle.scene_parts.specs.declared.faults.PartFault.TheVariants as parts
+use Rattle.scene_book.specs.declared.edits.EditFault.{EditFault}
+use Rattle.scene_book.specs.declared.edits.EditFault.TheVariants as edits
+use Rattle.command_lines.specs.Texts.{field_name, class_name}
+use Rattle.command_lines.specs.declared.faults.LineFault.{LineFault}
+use Rattle.command_lines.specs.declared.faults.LineFault.TheVariants as lines
+use Rattle.noise_map.specs.declared.refusal.Refusal.{Refusal}
+use Rattle.noise_map.specs.declared.refusal.Refusal.TheVariants as refusals
+
+pub record FaultText : Type 0 where
+  pub fault : List ℕ
+  pub first : List ℕ
+  pub second : List ℕ
+
+-- a fault of which nothing more is said, and one with one text
+abbrev pub plain : List ℕ → FaultText
+plain fault = record { fault = fault; first = []; second = [] }
+
+abbrev pub about : List ℕ → List ℕ → FaultText
+about fault first = record { fault = fault; first = first; second = [] }
+
+abbrev pub part_fault_text : PartFault → FaultText
+part_fault_text parts.NoMemory = plain []
+part_fault_text (parts.OutOfRange field value) = record { fault = codes "OutOfRange"; first = field_name field; second = signed_decimal value }
+part_fault_text (parts.OutsideMethod kind) = about (codes "OutsideMethod") kind
+part_fault_text (parts.UnknownKind kind) = about (codes "UnknownKind") kind
+part_fault_text (parts.TooLight density) = about (codes "TooLight") (decimal density)
+part_fault_text (parts.FewCorners count) = about (codes "FewCorners") (decimal count)
+part_fault_text parts.FlatShape = plain (codes "FlatShape")
+part_fault_text (parts.SideTooLong side mm) = record { fault = codes "SideTooLong"; first = decimal side; second = decimal mm }
+part_fault_text (parts.WeakMirror rho) = about (codes "WeakMirror") (decimal rho)
+
+abbrev pub line_fault_text : LineFault → FaultText
+line_fault_text lines.NoMemory = plain []
+line_fault_text lines.NotJson = plain (codes "NotJson")
+line_fault_text lines.NotObject = plain (codes "NotObject")
+line_fault_text (lines.UnknownDo word) = about (codes "UnknownDo") word
+line_fault_text (lines.Missing field) = about (codes "Missing") (field_name field)
+line_fault_text (lines.WrongType field) = about (codes "WrongType") (field_name field)
+line_fault_text (lines.Part fault) = part_fault_text fault
+
+abbrev pub edit_fault_text : EditFault → FaultText
+edit_fault_text edits.NoMemory = plain []
+edit_fault_text (edits.NoSuchName name) = about (codes "NoSuchName") name
+edit_fault_text (edits.OtherClass name class) = record { fault = codes "OtherClass"; first = name; second = class_name class }
+edit_fault_text (edits.Full class limit) = record { fault = codes "Full"; first = class_name class; second = decimal limit }
+
+-- Want of memory is no refusal, and its texts are never written.
+abbrev pub refusal_text : Refusal → FaultText
+refusal_text refusals.LongLine = plain (codes "LongLine")
+refusal_text (refusals.Line fault) = line_fault_text fault
+refusal_text refusals.NotBuilt = plain (codes "NotBuilt")
+refusal_text (refusals.Edit fault) = edit_fault_text fault
+
+-- want of memory, which is no refusal
+abbrev pub edit_lacks_memory : EditFault → Bool
+edit_lacks_memory edits.NoMemory = true
+edit_lacks_memory (edits.NoSuchName name) = false
+edit_lacks_memory (edits.OtherClass name class) = false
+edit_lacks_memory (edits.Full class limit) = false
+
+abbrev pub line_lacks_memory : LineFault → Bool
+line_lacks_memory lines.NoMemory = true
+line_lacks_memory lines.NotJson = false
+line_lacks_memory lines.NotObject = false
+line_lacks_memory (lines.UnknownDo word) = false
+line_lacks_memory (lines.Missing field) = false
+line_lacks_memory (lines.WrongType field) = false
+line_lacks_memory (lines.Part fault) = false
