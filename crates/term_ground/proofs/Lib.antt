@@ -4,3 +4,4 @@ pub mod Same
 pub mod TermBounds
 pub mod Walking
 pub mod Sound
+pub mod Shares

@@ -24,7 +24,9 @@ pub fn a_gr(zones: &[Zone], g0: u8, path: &Path) -> [Iv; 8]
     ensures value { result ≡ map enc (ground zones.now g0 path.now (Known path.now.dp)) }
     ensures bounds { g0 ≤ 100 → path.now.hs ≤ 100000 → path.now.hr ≤ 100000 → All (AreBetween (neg_ℤ (pos (2 ^ 36))) (pos (2 ^ 58))) result }
 {
-    a_gr_between(zones, g0, path, &decays_at(path.hs), &decays_at(path.hr))
+    let shares = shares(zones, g0, path);
+    let ends = end_regions(&shares, path);
+    in_bands(path, &shares, &ends)
 }
 
 /// The same, with the decays at the heights of the source and of the receiver at hand.
@@ -41,29 +43,29 @@ pub fn a_gr_between(
     ensures value { result ≡ map enc (ground zones.now g0 path.now (Known path.now.dp)) }
     ensures bounds { g0 ≤ 100 → path.now.hs ≤ 100000 → path.now.hr ≤ 100000 → All (AreBetween (neg_ℤ (pos (2 ^ 36))) (pos (2 ^ 58))) result }
 {
-    attenuations(zones, g0, path, source, receiver)
+    let shares = shares(zones, g0, path);
+    let ends = end_regions_between(&shares, path, source, receiver);
+    in_bands(path, &shares, &ends)
 }
 
-/// The attenuations in the bands.
-#[tactic(auto, unfolding(crate::specs::Ground::ground))]
-fn attenuations(zones: &[Zone], g0: u8, path: &Path, source: &Decays, receiver: &Decays) -> [Iv; 8]
-    requires path { IsPath path.now }
-    requires source { source.now.h ≡ path.now.hs }
-    requires receiver { receiver.now.h ≡ path.now.hr }
-    ensures { result ≡ map enc (ground zones.now g0 path.now (Known path.now.dp)) }
+/// The attenuations in the bands, with A_s and A_r.
+fn in_bands(path: &Path, shares: &Regional, ends: &EndRegions) -> [Iv; 8]
+    requires source { IsEndRegion ends.now.source shares.now.source path.now.hs (Known path.now.dp) }
+    requires receiver { IsEndRegion ends.now.receiver shares.now.receiver path.now.hr (Known path.now.dp) }
+    ensures { result ≡ map enc (form.attenuations (Known shares.now.source) (Known shares.now.middle) (Known shares.now.receiver) path.now (Known path.now.dp)) }
 {
-    let shares = shares(zones, g0, path);
-    let (near_source, near_receiver) = end_regions(&shares, path, source, receiver);
+    let source = &ends.source;
+    let receiver = &ends.receiver;
     let below = base();
     let at_63 = middle_at_63(middle_part(path));
     let middle = middle_above(at_63, shares.middle);
-    let high = sum(near_source.high, near_receiver.high, middle);
+    let high = sum(source.high, receiver.high, middle);
     [
         sum(below, below, at_63),
-        sum(near_source.at_125, near_receiver.at_125, middle),
-        sum(near_source.at_250, near_receiver.at_250, middle),
-        sum(near_source.at_500, near_receiver.at_500, middle),
-        sum(near_source.at_1000, near_receiver.at_1000, middle),
+        sum(source.at_125, receiver.at_125, middle),
+        sum(source.at_250, receiver.at_250, middle),
+        sum(source.at_500, receiver.at_500, middle),
+        sum(source.at_1000, receiver.at_1000, middle),
         high,
         high,
         high,
@@ -88,25 +90,78 @@ struct EndRegion {
     high: Iv,
 }
 
-/// A_s and A_r. Where neither region has porous ground, they are the same at every height and distance.
-fn end_regions(
+/// A_s and A_r in the bands from 125 Hz on.
+#[derive(Clone, Copy, Drop)]
+struct EndRegions {
+    source: EndRegion,
+    receiver: EndRegion,
+}
+
+/// A_s and A_r. Where neither region has porous ground, they are the same at every height and distance, and no decay is
+/// calculated.
+fn end_regions(shares: &Regional, path: &Path) -> EndRegions
+    requires { IsPath path.now }
+    ensures source { IsEndRegion result.source shares.now.source path.now.hs (Known path.now.dp) }
+    ensures receiver { IsEndRegion result.receiver shares.now.receiver path.now.hr (Known path.now.dp) }
+{
+    if are_hard(shares) {
+        hard_regions(shares, path, path.hs, path.hr)
+    } else {
+        porous_regions(shares, path, &decays_at(path.hs), &decays_at(path.hr))
+    }
+}
+
+/// The same, with the decays at hand.
+fn end_regions_between(
     shares: &Regional,
     path: &Path,
     source: &Decays,
     receiver: &Decays,
-) -> (EndRegion, EndRegion)
+) -> EndRegions
     requires { IsPath path.now }
-    ensures source { IsEndRegion result.0 shares.now.source source.now.h (Known path.now.dp) }
-    ensures receiver { IsEndRegion result.1 shares.now.receiver receiver.now.h (Known path.now.dp) }
+    ensures source { IsEndRegion result.source shares.now.source source.now.h (Known path.now.dp) }
+    ensures receiver { IsEndRegion result.receiver shares.now.receiver receiver.now.h (Known path.now.dp) }
 {
-    if is_hard(shares.source) && is_hard(shares.receiver) {
-        return (hard_region(), hard_region());
+    if are_hard(shares) {
+        hard_regions(shares, path, source.h, receiver.h)
+    } else {
+        porous_regions(shares, path, source, receiver)
     }
+}
+
+/// A_s and A_r by the decays at the heights of the source and of the receiver.
+fn porous_regions(shares: &Regional, path: &Path, source: &Decays, receiver: &Decays) -> EndRegions
+    requires { IsPath path.now }
+    ensures source { IsEndRegion result.source shares.now.source source.now.h (Known path.now.dp) }
+    ensures receiver { IsEndRegion result.receiver shares.now.receiver receiver.now.h (Known path.now.dp) }
+{
     let growths = growths_over(path);
-    (
-        end_region(shares.source, source, &growths),
-        end_region(shares.receiver, receiver, &growths),
-    )
+    EndRegions {
+        source: end_region(shares.source, source, &growths),
+        receiver: end_region(shares.receiver, receiver, &growths),
+    }
+}
+
+/// A_s and A_r on hard ground, whatever the heights.
+fn hard_regions(shares: &Regional, path: &Path, hs: u32, hr: u32) -> EndRegions
+    requires path { IsPath path.now }
+    requires source { shares.now.source ≡ record { lo = Some (pos 0); hi = Some (pos 0) } }
+    requires receiver { shares.now.receiver ≡ record { lo = Some (pos 0); hi = Some (pos 0) } }
+    ensures source { IsEndRegion result.source shares.now.source hs (Known path.now.dp) }
+    ensures receiver { IsEndRegion result.receiver shares.now.receiver hr (Known path.now.dp) }
+{
+    EndRegions {
+        source: hard_region(),
+        receiver: hard_region(),
+    }
+}
+
+/// Whether the ground factors of both end regions are exactly 0.
+fn are_hard(shares: &Regional) -> bool
+    ensures source { result ≡ true → shares.now.source ≡ record { lo = Some (pos 0); hi = Some (pos 0) } }
+    ensures receiver { result ≡ true → shares.now.receiver ≡ record { lo = Some (pos 0); hi = Some (pos 0) } }
+{
+    is_hard(shares.source) && is_hard(shares.receiver)
 }
 
 /// Whether a ground factor is exactly 0.
