@@ -51,7 +51,7 @@ unfolding unit
 power-within z p =
     ratio-between (neg_ℤ (pos 2000)) (pos 16000) z (neg_ℤ (pos (20 * 2 ^ 32))) (pos (160 * 2 ^ 32)) 100 (lit< tt) (omega (arith, ints, p.low)) (omega (arith, ints, p.high)) p.low p.high refl refl refl refl
 
-directivity-within : (z : ℤ) → IsDirectivity z → AreBetween (neg_ℤ (pos (30 * 2 ^ 32))) (pos (20 * 2 ^ 32)) (ratio_of z 100)
+pub directivity-within : (z : ℤ) → IsDirectivity z → AreBetween (neg_ℤ (pos (30 * 2 ^ 32))) (pos (20 * 2 ^ 32)) (ratio_of z 100)
 unfolding unit
 directivity-within z p =
     ratio-between (neg_ℤ (pos 3000)) (pos 2000) z (neg_ℤ (pos (30 * 2 ^ 32))) (pos (20 * 2 ^ 32)) 100 (lit< tt) (omega (arith, ints, p.low)) (omega (arith, ints, p.high)) p.low p.high refl refl refl refl
@@ -89,10 +89,10 @@ pub neg-between : (l h : ℤ) (a : Interval) → AreBetween l h a → AreBetween
 unfolding neg_of
 neg-between l h a p = record { lo = neg-end l h a.hi p.hi; hi = neg-end l h a.lo p.lo }
 
-pub sound-within : (p d : ℤ) → IsPower p → IsDirectivity d → AreBetween (neg_ℤ (pos (50 * 2 ^ 32))) (pos (180 * 2 ^ 32)) (add_of (ratio_of p 100) (ratio_of d 100))
-sound-within p d hp hd =
-    add-between (neg_ℤ (pos (20 * 2 ^ 32))) (pos (160 * 2 ^ 32)) (neg_ℤ (pos (30 * 2 ^ 32))) (pos (20 * 2 ^ 32)) (neg_ℤ (pos (50 * 2 ^ 32))) (pos (180 * 2 ^ 32)) (ratio_of p 100) (ratio_of d 100)
-    (power-within p hp) (directivity-within d hd) (omega (arith, ints)) (omega (arith, ints)) (omega (arith, ints)) (omega (arith, ints))
+pub sound-within : (p : ℤ) (directivity : Interval) → IsPower p → AreBetween (neg_ℤ (pos (30 * 2 ^ 32))) (pos (20 * 2 ^ 32)) directivity → AreBetween (neg_ℤ (pos (50 * 2 ^ 32))) (pos (180 * 2 ^ 32)) (add_of (ratio_of p 100) directivity)
+sound-within p directivity hp hd =
+    add-between (neg_ℤ (pos (20 * 2 ^ 32))) (pos (160 * 2 ^ 32)) (neg_ℤ (pos (30 * 2 ^ 32))) (pos (20 * 2 ^ 32)) (neg_ℤ (pos (50 * 2 ^ 32))) (pos (180 * 2 ^ 32)) (ratio_of p 100) directivity
+    (power-within p hp) hd (omega (arith, ints)) (omega (arith, ints)) (omega (arith, ints)) (omega (arith, ints))
 
 level-before-ground : (sound divergence absorption : Interval) → AreBetween (neg_ℤ (pos (50 * 2 ^ 32))) (pos (180 * 2 ^ 32)) sound → AreBetween (pos (11 * 2 ^ 32)) (pos (600 * 2 ^ 32)) divergence → AreBetween (pos 0) (pos (2 ^ 60)) absorption
     → AreBetween (neg_ℤ (pos (650 * 2 ^ 32 + 2 ^ 60))) (pos (169 * 2 ^ 32)) (add_of (add_of sound (neg_of divergence)) (neg_of absorption))

@@ -19,7 +19,7 @@ use Rattle.path_calc.specs.declared.band.Band.TheVariants.{Hz63, Hz125, Hz250, H
 use Rattle.path_calc.specs.declared.path.Way.{Way}
 use Rattle.path_calc.specs.Bands.{weight_in, place_of}
 use Rattle.path_calc.specs.Contributions.{direct_level, levels_over, power_in, path_of, zones_between, ground_in}
-use Rattle.path_calc.specs.Energies.{weighted, energy_of, long_energy_of}
+use Rattle.path_calc.specs.Energies.{sum_form, weighted, energy_of, long_energy_of}
 use Rattle.path_calc.specs.Ranges.{ground_at, energy_over, long_energy_over, energy_at_end, long_energy_at_end}
 use Rattle.path_calc.proofs.Sums.{and-nothing, nothing-and}
 
@@ -31,17 +31,17 @@ unweighted band level energy is weight energy-is =
     ∙ ap (λ (w : ℤ). enc (energy_form (Add (Known level) (Const w 10)))) (sym weight)
 
 -- the sum of one energy is that energy
-pub one-energy : (air : Air) (d gr : Tree) (band : Band) (directivity p : ℤ) (power : Option ℤ) (level e : Interval) → power ≡ Some p → level ≡ enc (direct_level air d gr band directivity p) → e ≡ enc (energy_form (Known level)) → IsInterval e → e ≡ enc (energy_of (levels_over air d gr band directivity power))
-one-energy air d gr band directivity p power level e power-is level-is e-is is =
+pub one-energy : (air : Air) (directivity d gr : Tree) (band : Band) (p : ℤ) (power : Option ℤ) (level e : Interval) → power ≡ Some p → level ≡ enc (direct_level air directivity d gr band p) → e ≡ enc (energy_form (Known level)) → IsInterval e → e ≡ enc (energy_of (levels_over air directivity d gr band power))
+one-energy air directivity d gr band p power level e power-is level-is e-is is =
     sym (nothing-and e is)
     ∙ ap (add_of (ratio_of (pos 0) 1)) (e-is ∙ ap (λ (i : Interval). enc (energy_form (Known i))) level-is)
-    ∙ ap (λ (o : Option ℤ). enc (energy_of (levels_over air d gr band directivity o))) (sym power-is)
+    ∙ ap (λ (o : Option ℤ). enc (energy_of (levels_over air directivity d gr band o))) (sym power-is)
 
-pub one-long-energy : (air : Air) (d gr : Tree) (band : Band) (directivity p : ℤ) (power : Option ℤ) (level e : Interval) → power ≡ Some p → level ≡ enc (direct_level air d gr band directivity p) → e ≡ enc (energy_form (weighted band (Known level))) → IsInterval e → e ≡ enc (long_energy_of band (levels_over air d gr band directivity power))
-one-long-energy air d gr band directivity p power level e power-is level-is e-is is =
+pub one-long-energy : (air : Air) (directivity d gr : Tree) (band : Band) (p : ℤ) (power : Option ℤ) (level e : Interval) → power ≡ Some p → level ≡ enc (direct_level air directivity d gr band p) → e ≡ enc (energy_form (weighted band (Known level))) → IsInterval e → e ≡ enc (long_energy_of band (levels_over air directivity d gr band power))
+one-long-energy air directivity d gr band p power level e power-is level-is e-is is =
     sym (nothing-and e is)
     ∙ ap (add_of (ratio_of (pos 0) 1)) (e-is ∙ ap (λ (i : Interval). enc (energy_form (weighted band (Known i)))) level-is)
-    ∙ ap (λ (o : Option ℤ). enc (long_energy_of band (levels_over air d gr band directivity o))) (sym power-is)
+    ∙ ap (λ (o : Option ℤ). enc (long_energy_of band (levels_over air directivity d gr band o))) (sym power-is)
 
 -- ---- lists of eight
 
@@ -60,35 +60,44 @@ all-eight P a b c d e f g h pa pb pc pd pe pf pg ph =
 
 -- ---- at the end of the way from source to receiver
 
-at-end : (w : Way) (d : Tree) (gr : Band → Tree) (s : Source) (band : Band) → w.distance ≡ enc d → ground_at w band ≡ enc (gr band) → energy_at_end w s band ≡ energy_over w.air d gr s band
-at-end w d gr s band far ground = at (power_in band s) where
-  at : (power : Option ℤ) → enc (energy_of (levels_over w.air (Known w.distance) (Known (ground_at w band)) band s.dc power)) ≡ enc (energy_of (levels_over w.air d (gr band) band s.dc power))
-  at None = refl
-  at (Some p) =
-      ap (λ (i : Interval). enc (energy_of (levels_over w.air (Known i) (Known (ground_at w band)) band s.dc (Some p)))) far
-      ∙ ap (λ (j : Interval). enc (energy_of (levels_over w.air d (Known j) band s.dc (Some p)))) ground
+-- what is known of a way is what these formulas say
+pub record Fits (w : Way) (a : Air) (c d : Tree) (gr : Band → Tree) : Type 0 where
+  pub air : w.air ≡ a
+  pub directivity : w.directivity ≡ enc c
+  pub distance : w.distance ≡ enc d
+  pub ground : (band : Band) → ground_at w band ≡ enc (gr band)
 
-long-at-end : (w : Way) (d : Tree) (gr : Band → Tree) (s : Source) (band : Band) → w.distance ≡ enc d → ground_at w band ≡ enc (gr band) → long_energy_at_end w s band ≡ long_energy_over w.air d gr s band
-long-at-end w d gr s band far ground = at (power_in band s) where
-  at : (power : Option ℤ) → enc (long_energy_of band (levels_over w.air (Known w.distance) (Known (ground_at w band)) band s.dc power)) ≡ enc (long_energy_of band (levels_over w.air d (gr band) band s.dc power))
-  at None = refl
-  at (Some p) =
-      ap (λ (i : Interval). enc (long_energy_of band (levels_over w.air (Known i) (Known (ground_at w band)) band s.dc (Some p)))) far
-      ∙ ap (λ (j : Interval). enc (long_energy_of band (levels_over w.air d (Known j) band s.dc (Some p)))) ground
+-- what is made of the levels of all sounds
+at-end-by : (f : Tree → Tree) → ((t u : Tree) → enc t ≡ enc u → enc (f t) ≡ enc (f u)) → (w : Way) (directivity d : Tree) (gr : Band → Tree) (band : Band) (power : Option ℤ) → Fits w w.air directivity d gr
+    → enc (sum_form (map f (levels_over w.air (Known w.directivity) (Known w.distance) (Known (ground_at w band)) band power))) ≡ enc (sum_form (map f (levels_over w.air directivity d (gr band) band power)))
+at-end-by f same w directivity d gr band None fits = refl
+at-end-by f same w directivity d gr band (Some p) fits =
+    ap (add_of (ratio_of (pos 0) 1)) (same (direct_level w.air (Known w.directivity) (Known w.distance) (Known (ground_at w band)) band p) (direct_level w.air directivity d (gr band) band p) (
+    ap (λ (i : Interval). enc (direct_level w.air (Known i) (Known w.distance) (Known (ground_at w band)) band p)) fits.directivity
+    ∙ ap (λ (i : Interval). enc (direct_level w.air directivity (Known i) (Known (ground_at w band)) band p)) fits.distance
+    ∙ ap (λ (i : Interval). enc (direct_level w.air directivity d (Known i) band p)) (fits.ground band)))
 
-pub bands-at : (w : Way) (air : Air) (d : Tree) (gr : Band → Tree) (s : Source) (bands : List Band) → w.air ≡ air → w.distance ≡ enc d → ((band : Band) → ground_at w band ≡ enc (gr band)) → map (energy_at_end w s) bands ≡ map (energy_over air d gr s) bands
-bands-at w air d gr s [] air-is far ground = refl
-bands-at w air d gr s (band ∷ bands) air-is far ground =
-    both _ _ _ _ (at-end w d gr s band far (ground band) ∙ ap (λ (a : Air). energy_over a d gr s band) air-is) (bands-at w air d gr s bands air-is far ground)
+at-end : (w : Way) (air : Air) (directivity d : Tree) (gr : Band → Tree) (s : Source) (band : Band) → Fits w air directivity d gr → energy_at_end w s band ≡ energy_over air directivity d gr s band
+at-end w air directivity d gr s band fits =
+    at-end-by energy_form (λ t u is. ap (λ (i : Interval). enc (energy_form (Known i))) is) w directivity d gr band (power_in band s) (record { air = refl; directivity = fits.directivity; distance = fits.distance; ground = fits.ground })
+    ∙ ap (λ (a : Air). energy_over a directivity d gr s band) fits.air
 
-pub long-bands-at : (w : Way) (air : Air) (d : Tree) (gr : Band → Tree) (s : Source) (bands : List Band) → w.air ≡ air → w.distance ≡ enc d → ((band : Band) → ground_at w band ≡ enc (gr band)) → map (long_energy_at_end w s) bands ≡ map (long_energy_over air d gr s) bands
-long-bands-at w air d gr s [] air-is far ground = refl
-long-bands-at w air d gr s (band ∷ bands) air-is far ground =
-    both _ _ _ _ (long-at-end w d gr s band far (ground band) ∙ ap (λ (a : Air). long_energy_over a d gr s band) air-is) (long-bands-at w air d gr s bands air-is far ground)
+long-at-end : (w : Way) (air : Air) (directivity d : Tree) (gr : Band → Tree) (s : Source) (band : Band) → Fits w air directivity d gr → long_energy_at_end w s band ≡ long_energy_over air directivity d gr s band
+long-at-end w air directivity d gr s band fits =
+    at-end-by (λ level. energy_form (weighted band level)) (λ t u is. ap (λ (i : Interval). enc (energy_form (weighted band (Known i)))) is) w directivity d gr band (power_in band s) (record { air = refl; directivity = fits.directivity; distance = fits.distance; ground = fits.ground })
+    ∙ ap (λ (a : Air). long_energy_over a directivity d gr s band) fits.air
+
+pub bands-at : (w : Way) (air : Air) (directivity d : Tree) (gr : Band → Tree) (s : Source) (bands : List Band) → Fits w air directivity d gr → map (energy_at_end w s) bands ≡ map (energy_over air directivity d gr s) bands
+bands-at w air directivity d gr s [] fits = refl
+bands-at w air directivity d gr s (band ∷ bands) fits = both _ _ _ _ (at-end w air directivity d gr s band fits) (bands-at w air directivity d gr s bands fits)
+
+pub long-bands-at : (w : Way) (air : Air) (directivity d : Tree) (gr : Band → Tree) (s : Source) (bands : List Band) → Fits w air directivity d gr → map (long_energy_at_end w s) bands ≡ map (long_energy_over air directivity d gr s) bands
+long-bands-at w air directivity d gr s [] fits = refl
+long-bands-at w air directivity d gr s (band ∷ bands) fits = both _ _ _ _ (long-at-end w air directivity d gr s band fits) (long-bands-at w air directivity d gr s bands fits)
 
 -- ---- the ground
 
-place-below : (band : Band) → place_of band < 8
+pub place-below : (band : Band) → place_of band < 8
 place-below Hz63 = lit< tt
 place-below Hz125 = lit< tt
 place-below Hz250 = lit< tt
@@ -98,7 +107,7 @@ place-below Hz2000 = lit< tt
 place-below Hz4000 = lit< tt
 place-below Hz8000 = lit< tt
 
-ground-eight : (zones : List Zone) (g0 : ℕ) (path : Path) (dp : Tree) → length (ground zones g0 path dp) ≡ 8
+pub ground-eight : (zones : List Zone) (g0 : ℕ) (path : Path) (dp : Tree) → length (ground zones g0 path dp) ≡ 8
 unfolding ground
 ground-eight zones g0 path dp = refl
 

@@ -32,22 +32,26 @@ abbrev pub ground_in : List Zone → ℕ → Source → Receiver → Band → Tr
 ground_in zones g0 s r band =
     slice_index_or (ground zones g0 (path_of s r) (plan_length s.at r.at)) (place_of band) (Const (pos 0) 1)
 
--- L_W + D_c, of a power and a directivity correction in 0.01 dB
-abbrev pub sound : ℤ → ℤ → Tree
-sound power directivity = Add (Const power 100) (Const directivity 100)
+-- the directivity correction D_c of a source
+abbrev pub directivity_of : Source → Tree
+directivity_of s = Const s.dc 100
+
+-- L_W + D_c, of a power in 0.01 dB and a directivity correction
+abbrev pub sound : ℤ → Tree → Tree
+sound power directivity = Add (Const power 100) directivity
 
 -- the level of the sound that comes straight over a distance d in metres with the attenuation A_gr by the ground:
 -- L_W + D_c - A_div - A_atm - A_gr (equations 3 and 4)
-abbrev pub direct_level : Air → Tree → Tree → Band → ℤ → ℤ → Tree
-direct_level air d gr band directivity power =
+abbrev pub direct_level : Air → Tree → Tree → Tree → Band → ℤ → Tree
+direct_level air directivity d gr band power =
     Sub (Sub (Sub (sound power directivity) (divergence d)) (absorption d (coefficient_in air band))) gr
 
 -- the levels of all sounds of a band in which the source has this power; none where it has no power there
-abbrev pub levels_over : Air → Tree → Tree → Band → ℤ → Option ℤ → List Tree
-levels_over air d gr band directivity None = []
-levels_over air d gr band directivity (Some power) = direct_level air d gr band directivity power ∷ []
+abbrev pub levels_over : Air → Tree → Tree → Tree → Band → Option ℤ → List Tree
+levels_over air directivity d gr band None = []
+levels_over air directivity d gr band (Some power) = direct_level air directivity d gr band power ∷ []
 
 -- the levels of all sounds that come from a source to a receiver in a band, over these zones of ground
 abbrev pub contributions : Globals → List Zone → Source → Receiver → Band → List Tree
 contributions globals zones s r band =
-    levels_over globals.air (distance s.at s.h r.at r.h) (ground_in zones globals.g s r band) band s.dc (power_in band s)
+    levels_over globals.air (directivity_of s) (distance s.at s.h r.at r.h) (ground_in zones globals.g s r band) band (power_in band s)

@@ -7,3 +7,4 @@ pub mod Bundles
 pub mod Levels
 pub mod Show
 pub mod Ranges
+pub mod Laws

@@ -25,8 +25,10 @@ pub record IsDirectivity (z : ℤ) : Type 0 where
 abbrev pub ground_at : Way → Band → Interval
 ground_at way band = slice_index_or way.ground (place_of band) way.divergence
 
--- a distance of at most 2^28 m, with the divergence there, and the attenuation by the ground from -16 dB to 2^26 dB
+-- a directivity correction from -30 dB to 20 dB, a distance of at most 2^28 m, with the divergence there, and the
+-- attenuation by the ground from -16 dB to 2^26 dB
 pub record IsWay (way : Way) : Type 0 where
+  pub directivity : AreBetween (neg_ℤ (pos (30 * 2 ^ 32))) (pos (20 * 2 ^ 32)) way.directivity
   pub distance : IsSomeAnd way.distance.hi (λ z. z ≤ℤ pos (2 ^ 60))
   pub divergence : way.divergence ≡ enc (divergence (Known way.distance))
   pub bounds : AreBetween (pos (11 * 2 ^ 32)) (pos (600 * 2 ^ 32)) way.divergence
@@ -48,15 +50,15 @@ pub record IsSumOf (count : ℕ) (e : Interval) : Type 0 where
   pub high : IsBetween (pos 0) (pos (count * energy_limit)) e.hi
 
 -- the energies that a source gives in a band over a distance in metres, with the attenuation by the ground in each band
-abbrev pub energy_over : Air → Tree → (Band → Tree) → Source → Band → Interval
-energy_over air d gr s band = enc (energy_of (levels_over air d (gr band) band s.dc (power_in band s)))
+abbrev pub energy_over : Air → Tree → Tree → (Band → Tree) → Source → Band → Interval
+energy_over air directivity d gr s band = enc (energy_of (levels_over air directivity d (gr band) band (power_in band s)))
 
-abbrev pub long_energy_over : Air → Tree → (Band → Tree) → Source → Band → Interval
-long_energy_over air d gr s band = enc (long_energy_of band (levels_over air d (gr band) band s.dc (power_in band s)))
+abbrev pub long_energy_over : Air → Tree → Tree → (Band → Tree) → Source → Band → Interval
+long_energy_over air directivity d gr s band = enc (long_energy_of band (levels_over air directivity d (gr band) band (power_in band s)))
 
 -- the same at the end of a way
 abbrev pub energy_at_end : Way → Source → Band → Interval
-energy_at_end way = energy_over way.air (Known way.distance) (λ band. Known (ground_at way band))
+energy_at_end way = energy_over way.air (Known way.directivity) (Known way.distance) (λ band. Known (ground_at way band))
 
 abbrev pub long_energy_at_end : Way → Source → Band → Interval
-long_energy_at_end way = long_energy_over way.air (Known way.distance) (λ band. Known (ground_at way band))
+long_energy_at_end way = long_energy_over way.air (Known way.directivity) (Known way.distance) (λ band. Known (ground_at way band))

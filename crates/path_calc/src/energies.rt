@@ -5,13 +5,13 @@ ghost use Rattle.path_calc.specs.Bands.{all_bands};
 ghost use Rattle.path_shape.specs.Shape.{plan_length};
 ghost use Rattle.term_ground.specs.Ground.{ground as ground_form};
 ghost use Rattle.path_calc.specs.Lengths.{distance as distance_form};
-ghost use Rattle.path_calc.specs.Contributions.{path_of, zones_between};
+ghost use Rattle.path_calc.specs.Contributions.{path_of, directivity_of, zones_between};
 ghost use Rattle.path_calc.specs.Energies.{sum_form, band_energy, long_energy};
 ghost use Rattle.path_calc.specs.Ranges.{IsWay, IsSumOf, energy_at_end, long_energy_at_end};
 
 use crate::band::Band;
 use crate::lengths::distance;
-use crate::path::{Heard, Way, heard_in};
+use crate::path::{Heard, Way, directivity, heard_in};
 use fix_interval::{Iv, add, exact};
 use path_shape::Path;
 use scene_book::Scene;
@@ -29,6 +29,7 @@ pub(crate) struct Energies {
 /// The direct way from a source to a receiver.
 fn direct(scene: &Scene, source: &PointSource, receiver: &Receiver) -> Way
     ensures air { result.air ≡ scene.now.globals.air }
+    ensures directivity { result.directivity ≡ enc (directivity_of source.now) }
     ensures distance { result.distance ≡ enc (distance_form source.now.at source.now.h receiver.now.at receiver.now.h) }
     ensures ground { result.ground ≡ map enc (ground_form scene.now.zones scene.now.globals.g (path_of source.now receiver.now) (Known (enc (plan_length source.now.at receiver.now.at)))) }
     ensures way { IsWay result }
@@ -38,6 +39,7 @@ fn direct(scene: &Scene, source: &PointSource, receiver: &Receiver) -> Way
     let distance = distance(source.at, source.h, receiver.at, receiver.h);
     Way {
         air: globals.air,
+        directivity: directivity(source),
         distance,
         divergence: a_div(distance),
         ground: a_gr(scene.zones(), globals.g, &path),

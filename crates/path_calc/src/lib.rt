@@ -8,6 +8,7 @@ mod band;
 mod bundles;
 mod calculation;
 mod energies;
+pub mod laws;
 mod lengths;
 mod path;
 mod results;

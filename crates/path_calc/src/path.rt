@@ -4,9 +4,9 @@ ghost use Rattle.fix_interval.specs.Bounds.{AreBetween};
 ghost use Rattle.fix_interval.specs.Tree.{Known, Const, enc};
 ghost use Rattle.energy_sum.specs.Energies.{energy_form};
 ghost use Rattle.path_calc.specs.Bands.{weight_in};
-ghost use Rattle.path_calc.specs.Contributions.{power_in as power_of, sound as sound_form, direct_level};
+ghost use Rattle.path_calc.specs.Contributions.{power_in as power_of, directivity_of, sound as sound_form, direct_level};
 ghost use Rattle.path_calc.specs.Energies.{weighted};
-ghost use Rattle.path_calc.specs.Ranges.{IsPower, IsDirectivity, IsWay, IsHearable, IsSumOf, ground_at, energy_at_end, long_energy_at_end};
+ghost use Rattle.path_calc.specs.Ranges.{IsPower, IsWay, IsHearable, IsSumOf, ground_at, energy_at_end, long_energy_at_end};
 
 use crate::absorption::coefficient;
 use crate::band::Band;
@@ -15,11 +15,12 @@ use fix_interval::{Iv, add, exact, ratio, sub};
 use scene_parts::{Air, PointSource};
 use term_div_atm::a_atm;
 
-/// What is known of a path whatever its source sends: the air, the distance in metres, the divergence there in dB, and the
-/// attenuation by the ground in each band in dB.
+/// What all bands share of a source and its path: the air, the directivity correction in dB, the distance in metres, the
+/// divergence there in dB, and beside it the attenuation by the ground in each band in dB.
 #[derive(Drop)]
 pub(crate) struct Way {
     pub(crate) air: Air,
+    pub(crate) directivity: Iv,
     pub(crate) distance: Iv,
     pub(crate) divergence: Iv,
     pub(crate) ground: [Iv; 8],
@@ -54,26 +55,25 @@ fn weight_of(band: Band) -> Iv
     tenths(band.weight())
 }
 
-/// The sound that power and directivity, in 0.01 dB, make in the receiver's direction, in dB.
-fn sound(power: i32, directivity: i32) -> Iv
+/// The sound that a power, in 0.01 dB, makes in the receiver's direction, in dB.
+fn sound(way: &Way, power: i32) -> Iv
+    requires way { IsWay way.now }
     requires power { IsPower power }
-    requires directivity { IsDirectivity directivity }
-    ensures value { result ≡ enc (sound_form power directivity) }
+    ensures value { result ≡ enc (sound_form power (Known way.now.directivity)) }
     ensures bounds { AreBetween (neg_ℤ (pos (50 * 2 ^ 32))) (pos (180 * 2 ^ 32)) result }
 {
-    add(hundredths(power), hundredths(directivity))
+    add(hundredths(power), way.directivity)
 }
 
-/// The level that power and directivity, in 0.01 dB, give in a band at the end of a way, in dB.
-fn level_in(way: &Way, band: Band, directivity: i32, power: i32) -> Iv
+/// The level that a power, in 0.01 dB, gives in a band at the end of a way, in dB.
+fn level_in(way: &Way, band: Band, power: i32) -> Iv
     requires way { IsWay way.now }
-    requires directivity { IsDirectivity directivity }
     requires power { IsPower power }
-    ensures value { result ≡ enc (direct_level way.now.air (Known way.now.distance) (Known (ground_at way.now band)) band directivity power) }
+    ensures value { result ≡ enc (direct_level way.now.air (Known way.now.directivity) (Known way.now.distance) (Known (ground_at way.now band)) band power) }
     ensures bounds { IsHearable result }
 {
     let absorption = a_atm(way.distance, coefficient(way.air, band));
-    let over_ground = sub(sub(sound(power, directivity), way.divergence), absorption);
+    let over_ground = sub(sub(sound(way, power), way.divergence), absorption);
     sub(over_ground, ground_in(way, band))
 }
 
@@ -136,12 +136,12 @@ fn power_in(source: &PointSource, band: Band) -> Option<i32>
     source.lw[band.place()]
 }
 
-/// The directivity correction of a source, in 0.01 dB.
-fn directivity(source: &PointSource) -> i32
-    ensures value { result ≡ source.now.dc }
-    ensures range { IsDirectivity result }
+/// The directivity correction of a source, in dB.
+pub(crate) fn directivity(source: &PointSource) -> Iv
+    ensures value { result ≡ enc (directivity_of source.now) }
+    ensures bounds { AreBetween (neg_ℤ (pos (30 * 2 ^ 32))) (pos (20 * 2 ^ 32)) result }
 {
-    source.dc
+    hundredths(source.dc)
 }
 
 /// What is heard of a source in a band at the end of a way.
@@ -153,7 +153,7 @@ pub(crate) fn heard_in(way: &Way, source: &PointSource, band: Band) -> Heard
     ensures long_bounds { IsSumOf 1 result.long }
 {
     match power_in(source, band) {
-        Some(power) => heard_at(level_in(way, band, directivity(source), power), band),
+        Some(power) => heard_at(level_in(way, band, power), band),
         None => silence(),
     }
 }

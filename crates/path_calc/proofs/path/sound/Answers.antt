@@ -7,5 +7,4 @@ use Rattle.path_calc.proofs.path.sound.Goals as goal
 pub returns-clause-bounds : goal.returns-clause-bounds
 returns-clause-bounds c =
     let power = to_z-of_z {w = w32} {z = c.args.power} (search rules) in
-    let directivity = to_z-of_z {w = w32} {z = c.args.directivity} (search rules) in
-    rw (c.add.ensures, c.hundredths.ensures, c.hundredths-2.ensures, power, directivity) (sound-within c.args.power c.args.directivity c.requires.power c.requires.directivity)
+    rw (c.add.ensures, c.hundredths.ensures, power) (sound-within c.args.power c.args.way.now.directivity c.requires.power c.requires.way.directivity)
