@@ -23,11 +23,17 @@ scene() {
     }'
 }
 
+# The least of five runs.
 milliseconds() {
-    begin=$(date +%s%N)
-    "$root/noisemap" < "$1" > /dev/null
-    end=$(date +%s%N)
-    echo $(((end - begin) / 1000000))
+    least=
+    for _ in 1 2 3 4 5; do
+        begin=$(date +%s%N)
+        "$root/noisemap" < "$1" > /dev/null
+        end=$(date +%s%N)
+        spent=$(((end - begin) / 1000000))
+        [ -z "$least" ] || [ "$spent" -lt "$least" ] && least=$spent
+    done
+    echo "$least"
 }
 
 row() {
