@@ -10,6 +10,7 @@ ghost use Rattle.fix_interval.specs.Ten.{ten_of};
 ghost use Rattle.fix_interval.specs.ExpNeg.{exp_neg_of};
 ghost use Rattle.fix_interval.specs.Lawful.{IsLawful};
 ghost use Rattle.fix_interval.specs.Encloses.{Encloses};
+ghost use Rattle.fix_interval.specs.Ranges.{LiesIn, HasRanges, range_of};
 ghost use Rattle.fix_interval.specs.declared.truth.Truth.{Truth};
 
 /// The value that the table gives for a node encloses it where the intervals of its parts enclose the parts.
@@ -54,4 +55,9 @@ pub fn table_gives_intervals()
 pub fn formulas_are_enclosed()
     ensures intervals { IsLawful Lg lg_of → IsLawful Ten ten_of → IsLawful ExpNeg exp_neg_of → (t : Tree) → IsSound t → IsInterval (enc t) }
     ensures enclosed { IsLawful Lg lg_of → IsLawful Ten ten_of → IsLawful ExpNeg exp_neg_of → (t : Tree) → IsSound t → Encloses t (enc t) }
+{}
+
+/// Where the parts of a formula lie in ranges, the formula lies in the range that these give for it.
+pub fn formulas_keep_their_ranges()
+    ensures { (t ranges : Tree) → HasRanges t ranges → LiesIn (range_of ranges) (enc t) }
 {}
