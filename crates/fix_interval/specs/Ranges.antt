@@ -1,12 +1,12 @@
 -- Between which bounds a formula lies, from those between which its parts lie: an algebra of ranges. A range is written
 -- as an interval; an end of `None` bounds nothing on its side. What a range says is far coarser than an enclosure, so
 -- that it can be calculated of closed numbers where the ends of an enclosure aren't known.
-use Rattle.std.specs.Prelude.{◌≡◌, ◌<◌, ◌≤ℤ◌, ℕ, zero, suc, ◌+◌, ◌*◌, ◌/◌, ◌^◌, nat_le, nat_lt, Bool, if◌then◌else◌, ℤ, pos, neg_ℤ, ◌+ℤ◌, int_le, int_lt, unsigned_abs, Option, Some, None, IsSomeAnd, IfSome}
+use Rattle.std.specs.Prelude.{◌≡◌, ◌<◌, ◌≤ℤ◌, ℕ, zero, suc, ◌+◌, ◌*◌, ◌/◌, ◌^◌, nat_le, Bool, false, ◌&&◌, if◌then◌else◌, ℤ, pos, neg_ℤ, ◌+ℤ◌, int_le, int_lt, unsigned_abs, Option, Some, None, IsSomeAnd, IfSome}
 use Rattle.std.specs.Int.{div_ceil}
 use Rattle.std.specs.Option.{option_map, option_and_then}
 use Rattle.fix_interval.specs.Units.{unit}
 use Rattle.fix_interval.specs.Interval.{Interval, All}
-use Rattle.fix_interval.specs.Values.{ratio_of, end_of, neg_of, on_ends, mul_of, div_of, max_of, min_of, hull_of}
+use Rattle.fix_interval.specs.Values.{ratio_of, is_small, end_of, neg_of, on_ends, mul_of, div_of, max_of, min_of, hull_of}
 use Rattle.fix_interval.specs.Lg.{lg_of, decade_of, decade_and_digits, is_at_least}
 use Rattle.fix_interval.specs.Ten.{ten_of}
 use Rattle.fix_interval.specs.ExpNeg.{exp_neg_of}
@@ -65,12 +65,15 @@ root_range a =
     else All
 
 -- a logarithm lies within its decade
+abbrev pub logarithm_limit : ℤ → Option ℤ
+logarithm_limit z = if is_small z then Some (decade_and_digits (suc (decade_of (unsigned_abs z))) 0) else None
+
 unfoldable pub logarithm_range : Interval → Interval
 logarithm_range a =
     if is_at_least (pos 1) a.lo
     then record {
       lo = option_map (λ z. decade_and_digits (decade_of (unsigned_abs z)) 0) a.lo;
-      hi = option_map (λ z. decade_and_digits (suc (decade_of (unsigned_abs z))) 0) a.hi;
+      hi = option_and_then logarithm_limit a.hi;
     }
     else All
 
@@ -125,3 +128,9 @@ pub data HasRanges : Tree → Tree → Type 0 where
   ten_power : {a c : Tree} → IsRanged ten_of power_range → HasRanges a c → HasRanges (Ten a) (Ten c)
   decay : {a c : Tree} → IsRanged exp_neg_of decay_range → HasRanges a c → HasRanges (ExpNeg a) (ExpNeg c)
   choice : {x y a b z w c d : Tree} → HasRanges a c → HasRanges b d → HasRanges (Pick x y a b) (Pick z w c d)
+
+-- a range lies between two numbers, tested by comparisons
+abbrev pub is_inside : ℤ → ℤ → Option ℤ → Option ℤ → Bool
+is_inside low high (Some l) (Some h) = int_le low l && int_le h high
+is_inside low high (Some l) None = false
+is_inside low high None h = false
