@@ -5,5 +5,4 @@ pub mod LogarithmNode
 pub mod Quotients
 pub mod Turns
 pub mod Value
-pub mod LgSpans
 pub mod LgRange
