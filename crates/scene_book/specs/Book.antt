@@ -1,7 +1,7 @@
 -- Scenes: the parts of each class in the order of insertion, and what holds of the whole scene.
 use Rattle.std.specs.Prelude.{◌≡◌, ℕ, ◌≤◌, List, [], length, unwrap_or}
 use Rattle.scene_book.specs.Lists.{total}
-use Rattle.scene_parts.specs.Seen.{Source, Obstacle, Zone, Receiver, Globals, Setting}
+use Rattle.scene_parts.specs.Views.{Source, Obstacle, Zone, Receiver, Globals, Setting}
 use Rattle.scene_parts.specs.Sides.{sides_of}
 use Rattle.scene_parts.specs.declared.kinds.Air.TheVariants.{Celsius10Humidity70}
 

@@ -1,6 +1,6 @@
 //! The scene.
 ghost use Rattle.std.specs.Prelude.{◌≡◌, ◌≤◌, ℕ, List, length, Ok, IfOk, IfNone, OnOk, OnErr, option_map};
-ghost use Rattle.scene_parts.specs.Seen.{Source as SourceSeen, Obstacle as ObstacleSeen, Zone as ZoneSeen, Receiver as ReceiverSeen};
+ghost use Rattle.scene_parts.specs.Views.{Source as SourceView, Obstacle as ObstacleView, Zone as ZoneView, Receiver as ReceiverView};
 ghost use Rattle.scene_book.specs.Lists.{named, put_in, put_all, take_out};
 ghost use Rattle.scene_book.specs.Book.{Book, IsWithin, empty_book, side_total, globals_with};
 ghost use Rattle.scene_book.specs.Applying.{holder, class_of_shape, with_receivers, Tests, at_most as at_most_of};

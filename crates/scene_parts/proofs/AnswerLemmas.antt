@@ -1,23 +1,16 @@
 -- Tests in a row.
 use Rattle.std.proofs.Common.{◌≡◌, ℕ, suc, ◌+◌, ◌<◌, refl, sym, ◌∙◌, ap, List, [], ◌∷◌, ◌++◌, length, get_or, drop, drop-cons, arith, add-one, append_assoc}
-use Rattle.std.specs.Prelude.{Result, Ok, Err}
+use Rattle.std.specs.Prelude.{Bool, true, false, Result, Ok, Err}
 use Rattle.scene_geom.specs.declared.plan.Pt.{Pt}
 use Rattle.scene_parts.specs.declared.outlines.RawPt.{RawPt}
 use Rattle.scene_parts.specs.declared.faults.PartFault.{PartFault}
-use Rattle.scene_parts.specs.declared.faults.PartFault.TheVariants.{NoMemory, OutOfRange, OutsideMethod, UnknownKind, TooLight, FewCorners, FlatShape, SideTooLong, WeakMirror}
-use Rattle.scene_parts.specs.Answers.{◌>>=◌, Gives, each}
+use Rattle.scene_parts.specs.Answers.{◌>>=◌, Unless, each}
 use Rattle.scene_parts.specs.Checking.{corner_of, corners_of}
 
-pub gives-err : {A : Type 0} (said : Result A PartFault) (fault : PartFault) → said ≡ Err fault → Gives (Err fault) said
-gives-err said NoMemory e = tt
-gives-err said (OutOfRange f v) e = e
-gives-err said (OutsideMethod k) e = e
-gives-err said (UnknownKind k) e = e
-gives-err said (TooLight d) e = e
-gives-err said (FewCorners n) e = e
-gives-err said FlatShape e = e
-gives-err said (SideTooLong s m) e = e
-gives-err said (WeakMirror r) e = e
+-- what is owed unless a test passes, where it holds
+pub unless : {P : Type 0} (test : Bool) → P → Unless test P
+unless true fact = tt
+unless false fact = fact
 
 -- a test of the items that are left, behind what the first ones gave
 abbrev pub after : {A B : Type 0} → (A → Result B PartFault) → List B → List A → Result (List B) PartFault

@@ -13,7 +13,7 @@ use Rattle.scene_parts.specs.declared.kinds.Shape.TheVariants.{Barrier, Building
 use Rattle.scene_parts.specs.declared.faults.PartFault.{PartFault}
 use Rattle.scene_parts.specs.declared.faults.PartFault.TheVariants.{SideTooLong}
 use Rattle.scene_parts.specs.Sides.{sides_in, squared_length, is_short, floor_root}
-use Rattle.scene_parts.specs.Checking.{short_from}
+use Rattle.scene_parts.specs.Checking.{check_sides_from}
 
 length-sides_along : (p : Pt) (ps : List Pt) → length (sides_along (p ∷ ps)) ≡ length ps
 length-sides_along p [] = refl
@@ -76,20 +76,20 @@ drop-get (y ∷ xs) (suc i) x e = drop-get xs i x e
 
 -- the test of the sides from one on, where it is short and where it isn't
 pub short-step : (sides : List Side) (i : ℕ) (side : Side) → slice_get sides i ≡ Some side → is_short side ≡ true
-    → short_from i (drop i sides) ≡ short_from (i + 1) (drop (i + 1) sides)
+    → check_sides_from i (drop i sides) ≡ check_sides_from (i + 1) (drop (i + 1) sides)
 short-step sides i side e h = rw (drop-get sides i side e, h, add-one) refl
 
 pub short-stop : (sides : List Side) (i : ℕ) (side : Side) → slice_get sides i ≡ Some side → is_short side ≡ false
-    → short_from i (drop i sides) ≡ Err (SideTooLong i (floor_root (squared_length side)))
+    → check_sides_from i (drop i sides) ≡ Err (SideTooLong i (floor_root (squared_length side)))
 short-stop sides i side e h = rw (drop-get sides i side e, h) refl
 
 -- all sides are short where the test passes
-pub short-all : (i : ℕ) (sides : List Side) → short_from i sides ≡ Ok tt → IsTrue (list_all is_short sides)
+pub short-all : (i : ℕ) (sides : List Side) → check_sides_from i sides ≡ Ok tt → IsTrue (list_all is_short sides)
 short-all i [] e = refl
 short-all i (side ∷ sides) e = short-each (is_short side) _ i sides (short-all (i + 1) sides) e
   where
-    short-each : (b : Bool) (f : PartFault) (i : ℕ) (sides : List Side) → (short_from (i + 1) sides ≡ Ok tt → IsTrue (list_all is_short sides))
-        → cond b (short_from (i + 1) sides) (Err f) ≡ Ok tt → IsTrue (b && list_all is_short sides)
+    short-each : (b : Bool) (f : PartFault) (i : ℕ) (sides : List Side) → (check_sides_from (i + 1) sides ≡ Ok tt → IsTrue (list_all is_short sides))
+        → cond b (check_sides_from (i + 1) sides) (Err f) ≡ Ok tt → IsTrue (b && list_all is_short sides)
     short-each true f i sides h e = h e
     short-each false f i sides h e = cc
 
@@ -118,5 +118,5 @@ building-read_last Building corners i a b e w h f g =
     building-last corners i a b (slice_get_read corners (length corners) i a refl within f) (slice_get_read corners (length corners) 0 b refl (omega arith) g) (omega arith)
 
 -- no side is left at the end
-pub short-end : (sides : List Side) (i : ℕ) → length sides ≤ i → short_from i (drop i sides) ≡ Ok tt
+pub short-end : (sides : List Side) (i : ℕ) → length sides ≤ i → check_sides_from i (drop i sides) ≡ Ok tt
 short-end sides i h = rw (drop_all i sides h) refl

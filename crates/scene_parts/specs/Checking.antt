@@ -20,7 +20,8 @@ use Rattle.scene_parts.specs.declared.raw.RawPart.{RawPart}
 use Rattle.scene_parts.specs.declared.raw.RawPart.TheVariants as raw
 use Rattle.scene_parts.specs.declared.checked.Checked.{Checked}
 use Rattle.scene_parts.specs.declared.checked.Checked.TheVariants as checked
-use Rattle.scene_parts.specs.Seen.{Source, Obstacle, Zone, Receiver, Grid, Setting}
+use Rattle.scene_parts.specs.Limits.{most_corners, most_columns, widest_step, plan_end, farthest_reach, greatest_height, least_density}
+use Rattle.scene_parts.specs.Views.{Source, Obstacle, Zone, Receiver, Grid, Setting}
 use Rattle.scene_parts.specs.Sides.{sides_in, squared_length, is_short, floor_root}
 use Rattle.scene_parts.specs.Ranges.{is_flat, is_mirror, least_corners, last_place}
 use Rattle.scene_parts.specs.Answers.{◌>>=◌, ◌>>◌, each, optional}
@@ -31,29 +32,29 @@ abbrev pub within : Field → ℤ → ℤ → ℤ → Result ℤ PartFault
 within field low high value = if int_le low value && int_le value high then Ok value else Err (OutOfRange field value)
 
 -- a range from 0 or above
-abbrev pub counted : Field → ℕ → ℕ → ℤ → Result ℕ PartFault
-counted field low high value = do
+abbrev pub in_range : Field → ℕ → ℕ → ℤ → Result ℕ PartFault
+in_range field low high value = do
   n ← within field (pos low) (pos high) value
   Ok (unsigned_abs n)
 
 -- a point of the plan, by the fields of its coordinates
-unfoldable pub placed : Field → Field → ℤ → ℤ → Result Pt PartFault
-placed across up x y = do
-  east ← within across (neg_ℤ (pos 4000000)) (pos 4000000) x
-  north ← within up (neg_ℤ (pos 4000000)) (pos 4000000) y
+unfoldable pub plan_point : Field → Field → ℤ → ℤ → Result Pt PartFault
+plan_point across up x y = do
+  east ← within across (neg_ℤ (pos plan_end)) (pos plan_end) x
+  north ← within up (neg_ℤ (pos plan_end)) (pos plan_end) y
   Ok (point_at east north)
 
 abbrev pub corner_of : RawPt → Result Pt PartFault
-corner_of point = placed fields.Points fields.Points point.x point.y
+corner_of point = plan_point fields.Points fields.Points point.x point.y
 
 -- at most 1,024 points of the plan
 unfoldable pub corners_of : List RawPt → Result (List Pt) PartFault
 corners_of points = do
   corners ← each corner_of points
-  if nat_lt 1024 (length points) then Err (OutOfRange fields.Points (pos (length points))) else Ok corners
+  if nat_lt most_corners (length points) then Err (OutOfRange fields.Points (pos (length points))) else Ok corners
 
 unfoldable pub height_of : ℤ → Result ℕ PartFault
-height_of h = counted fields.H 1 100000 h
+height_of h = in_range fields.H 1 greatest_height h
 
 -- a sound power level in 0.01 dB, where there is power
 unfoldable pub power_of : Option ℤ → Result (Option ℤ) PartFault
@@ -66,8 +67,8 @@ directivity_of dc = within fields.Dc (neg_ℤ (pos 3000)) (pos 2000) dc
 -- a number of columns or rows of a grid, the last of them on the plan
 unfoldable pub reaching : Field → ℤ → ℕ → ℤ → Result ℕ PartFault
 reaching field start step count = do
-  n ← counted field 1 4096 count
-  if int_le (last_place start step n) (pos 4000000) then Ok n else Err (OutOfRange field count)
+  n ← in_range field 1 most_columns count
+  if int_le (last_place start step n) (pos plan_end) then Ok n else Err (OutOfRange field count)
 
 -- OutsideMethod and UnknownKind
 
@@ -93,29 +94,29 @@ air_of word =
     else Err (UnknownKind word))))))
 
 -- TooLight: ISO 9613-2, 7.4 asks for at least 10 kg/m²
-abbrev pub heavy : ℕ → Result (Unit {0}) PartFault
-heavy density = if nat_lt density 10 then Err (TooLight density) else Ok tt
+abbrev pub check_density : ℕ → Result (Unit {0}) PartFault
+check_density density = if nat_lt density least_density then Err (TooLight density) else Ok tt
 
 -- FewCorners and FlatShape
-unfoldable pub outlined : Shape → List Pt → Result (Unit {0}) PartFault
-outlined shape corners =
+unfoldable pub check_outline : Shape → List Pt → Result (Unit {0}) PartFault
+check_outline shape corners =
     if nat_lt (length corners) (least_corners shape) then Err (FewCorners (length corners))
     else (if is_flat shape corners then Err FlatShape else Ok tt)
 
--- SideTooLong: the first side that is longer than 262,143 mm, counted from a number
-abbrev pub short_from : ℕ → List Side → Result (Unit {0}) PartFault
-short_from i [] = Ok tt
-short_from i (side ∷ sides) = if is_short side then short_from (i + 1) sides else Err (SideTooLong i (floor_root (squared_length side)))
+-- SideTooLong: the first side that is longer than 262,143 mm, in_range from a number
+abbrev pub check_sides_from : ℕ → List Side → Result (Unit {0}) PartFault
+check_sides_from i [] = Ok tt
+check_sides_from i (side ∷ sides) = if is_short side then check_sides_from (i + 1) sides else Err (SideTooLong i (floor_root (squared_length side)))
 
 -- WeakMirror
-abbrev pub mirrored : ℕ → Result (Unit {0}) PartFault
-mirrored rho = if is_mirror rho then Ok tt else Err (WeakMirror rho)
+abbrev pub check_reflection : ℕ → Result (Unit {0}) PartFault
+check_reflection rho = if is_mirror rho then Ok tt else Err (WeakMirror rho)
 
 -- The words
 
 unfoldable pub source_of : List ℕ → List ℕ → ℤ → ℤ → ℤ → List (Option ℤ) → ℤ → Result Source PartFault
 source_of name word x y h lw dc = do
-  at ← placed fields.X fields.Y x y
+  at ← plan_point fields.X fields.Y x y
   height ← height_of h
   powers ← each power_of lw
   correction ← directivity_of dc
@@ -125,37 +126,37 @@ source_of name word x y h lw dc = do
 -- what a barrier and a building have in common
 unfoldable pub obstacle_of : List ℕ → Shape → List Pt → ℕ → ℕ → Result Obstacle PartFault
 obstacle_of name shape corners height reflected = do
-  outlined shape corners
-  short_from 0 (sides_in shape corners)
-  mirrored reflected
+  check_outline shape corners
+  check_sides_from 0 (sides_in shape corners)
+  check_reflection reflected
   Ok (record { name = name; shape = shape; points = corners; h = height; rho = reflected })
 
 unfoldable pub barrier_of : List ℕ → List RawPt → ℤ → ℤ → ℤ → Result Obstacle PartFault
 barrier_of name points h density rho = do
   corners ← corners_of points
   height ← height_of h
-  weight ← counted fields.Density 0 100000 density
-  reflected ← counted fields.Rho 0 1000 rho
-  heavy weight
+  weight ← in_range fields.Density 0 100000 density
+  reflected ← in_range fields.Rho 0 1000 rho
+  check_density weight
   obstacle_of name Barrier corners height reflected
 
 unfoldable pub building_of : List ℕ → List RawPt → ℤ → ℤ → Result Obstacle PartFault
 building_of name points h rho = do
   corners ← corners_of points
   height ← height_of h
-  reflected ← counted fields.Rho 0 1000 rho
+  reflected ← in_range fields.Rho 0 1000 rho
   obstacle_of name Building corners height reflected
 
 unfoldable pub zone_of : List ℕ → List RawPt → ℤ → Result Zone PartFault
 zone_of name points g = do
   corners ← corners_of points
-  factor ← counted fields.G 0 100 g
-  outlined Building corners
+  factor ← in_range fields.G 0 100 g
+  check_outline Building corners
   Ok (record { name = name; points = corners; g = factor })
 
 unfoldable pub receiver_of : List ℕ → ℤ → ℤ → ℤ → Result Receiver PartFault
 receiver_of name x y h = do
-  at ← placed fields.X fields.Y x y
+  at ← plan_point fields.X fields.Y x y
   height ← height_of h
   Ok (record { name = name; at = at; h = height })
 
@@ -169,15 +170,15 @@ grid_at name at step columns rows h = do
 
 unfoldable pub grid_of : List ℕ → ℤ → ℤ → ℤ → ℤ → ℤ → ℤ → Result Grid PartFault
 grid_of name x y step columns rows h = do
-  at ← placed fields.X fields.Y x y
-  apart ← counted fields.Step 1 1000000 step
+  at ← plan_point fields.X fields.Y x y
+  apart ← in_range fields.Step 1 widest_step step
   grid_at name at apart columns rows h
 
 unfoldable pub setting_of : Option ℤ → Option ℤ → Option (List ℕ) → Option ℤ → Result Setting PartFault
 setting_of reach g air c0 = do
-  far ← optional (counted fields.Reach 1 4000000) reach
-  factor ← optional (counted fields.G 0 100) g
-  correction ← optional (counted fields.C0 0 1000) c0
+  far ← optional (in_range fields.Reach 1 farthest_reach) reach
+  factor ← optional (in_range fields.G 0 100) g
+  correction ← optional (in_range fields.C0 0 1000) c0
   weather ← optional air_of air
   Ok (record { reach = far; g = factor; air = weather; c0 = correction })
 

@@ -7,13 +7,14 @@ use Rattle.scene_geom.specs.Outline.{area2_of}
 use Rattle.scene_parts.specs.declared.kinds.Shape.{Shape}
 use Rattle.scene_parts.specs.declared.kinds.Shape.TheVariants.{Barrier, Building}
 use Rattle.scene_parts.specs.Names.{IsName, IsAnyName}
-use Rattle.scene_parts.specs.Seen.{Source, Obstacle, Zone, Receiver, Globals, Grid, Setting}
+use Rattle.scene_parts.specs.Limits.{most_corners, most_columns, widest_step, plan_end, farthest_reach, greatest_height, weak_reflection}
+use Rattle.scene_parts.specs.Views.{Source, Obstacle, Zone, Receiver, Globals, Grid, Setting}
 use Rattle.scene_parts.specs.Sides.{sides_of, is_short}
 
 -- a height above ground, in mm
 pub record IsHeight (h : ℕ) : Type 0 where
   pub low : 1 ≤ h
-  pub high : h ≤ 100000
+  pub high : h ≤ greatest_height
 
 -- a sound power level, from -20 dB to 160 dB, where there is power
 abbrev pub is_power : Option ℤ → Bool
@@ -41,7 +42,7 @@ is_flat Building points = int_eq (area2_of points) (pos 0)
 
 -- what is reflected, per mille: nothing, or more than 200
 abbrev pub is_mirror : ℕ → Bool
-is_mirror rho = (rho == 0) || nat_lt 200 rho
+is_mirror rho = (rho == 0) || nat_lt weak_reflection rho
 
 pub record IsSource (source : Source) : Type 0 where
   pub name : IsAnyName source.name
@@ -54,7 +55,7 @@ pub record IsSource (source : Source) : Type 0 where
 pub record IsObstacle (obstacle : Obstacle) : Type 0 where
   pub name : IsName obstacle.name
   pub enough : least_corners obstacle.shape ≤ length obstacle.points
-  pub few : length obstacle.points ≤ 1024
+  pub few : length obstacle.points ≤ most_corners
   pub spread : is_flat obstacle.shape obstacle.points ≡ false
   pub short : IsTrue (list_all is_short (sides_of obstacle))
   pub height : IsHeight obstacle.h
@@ -64,7 +65,7 @@ pub record IsObstacle (obstacle : Obstacle) : Type 0 where
 pub record IsZone (zone : Zone) : Type 0 where
   pub name : IsName zone.name
   pub enough : 3 ≤ length zone.points
-  pub few : length zone.points ≤ 1024
+  pub few : length zone.points ≤ most_corners
   pub spread : is_flat Building zone.points ≡ false
   pub ground_factor : zone.g ≤ 100
 
@@ -75,7 +76,7 @@ pub record IsReceiver (receiver : Receiver) : Type 0 where
 -- a distance at which a source still counts, in mm
 pub record IsReach (reach : ℕ) : Type 0 where
   pub low : 1 ≤ reach
-  pub high : reach ≤ 4000000
+  pub high : reach ≤ farthest_reach
 
 pub record AreGlobals (globals : Globals) : Type 0 where
   pub reach : IsReach globals.reach
@@ -85,7 +86,7 @@ pub record AreGlobals (globals : Globals) : Type 0 where
 -- a number of columns or rows
 pub record IsCount (count : ℕ) : Type 0 where
   pub low : 1 ≤ count
-  pub high : count ≤ 4096
+  pub high : count ≤ most_columns
 
 -- the coordinate of the last column or row of a grid, in mm
 abbrev pub last_place : ℤ → ℕ → ℕ → ℤ
@@ -94,11 +95,11 @@ last_place start step count = start +ℤ pos (step * (count - 1))
 pub record IsGrid (grid : Grid) : Type 0 where
   pub name : IsName grid.name
   pub step_low : 1 ≤ grid.step
-  pub step_high : grid.step ≤ 1000000
+  pub step_high : grid.step ≤ widest_step
   pub columns : IsCount grid.columns
   pub rows : IsCount grid.rows
-  pub last_column : last_place grid.at.x grid.step grid.columns ≤ℤ pos 4000000
-  pub last_row : last_place grid.at.y grid.step grid.rows ≤ℤ pos 4000000
+  pub last_column : last_place grid.at.x grid.step grid.columns ≤ℤ pos plan_end
+  pub last_row : last_place grid.at.y grid.step grid.rows ≤ℤ pos plan_end
   pub height : IsHeight grid.h
 
 pub record IsSetting (setting : Setting) : Type 0 where

@@ -7,7 +7,8 @@ use Rattle.scene_geom.specs.Point.{along}
 use Rattle.scene_geom.specs.Outline.{sides_along, ring}
 use Rattle.scene_parts.specs.declared.kinds.Shape.{Shape}
 use Rattle.scene_parts.specs.declared.kinds.Shape.TheVariants.{Barrier, Building}
-use Rattle.scene_parts.specs.Seen.{Obstacle}
+use Rattle.scene_parts.specs.Limits.{longest_side}
+use Rattle.scene_parts.specs.Views.{Obstacle}
 
 -- a barrier runs from each point to the next; a building's last side leads back to its first corner
 abbrev pub sides_in : Shape → List Pt → List Side
@@ -24,7 +25,7 @@ squared_length side = unsigned_abs (dot (along side) (along side))
 
 -- a side of at most 262,143 mm
 abbrev pub is_short : Side → Bool
-is_short side = nat_le (squared_length side) (262143 * 262143)
+is_short side = nat_le (squared_length side) (longest_side * longest_side)
 
 -- the greatest number up to a bound whose square is at most n
 abbrev pub greatest_root : ℕ → ℕ → ℕ

@@ -1,19 +1,21 @@
 //! The check of a line's part.
 ghost use Rattle.std.specs.Prelude.{◌≡◌, ◌≤◌, length};
+ghost use Rattle.scene_parts.specs.Limits.{most_corners, widest_step};
 ghost use Rattle.scene_parts.specs.Ranges.{IsHeight};
-ghost use Rattle.scene_parts.specs.Answers.{Gives};
+ghost use Rattle.scene_parts.specs.Answers.{MatchesUnlessMemory, lacks_memory};
 ghost use Rattle.scene_parts.specs.Checking.{source_of, barrier_of, building_of, obstacle_of, zone_of, receiver_of, grid_of, grid_at as grid_at_of, setting_of, check_of};
 
 use super::checked::Checked;
 use super::faults::PartFault;
 use super::kinds::{Field, Shape};
-use super::limits::{column_count, counted, height, optional_count, placed, row_count};
+use super::limits::{FARTHEST_REACH, WIDEST_STEP};
+use super::ranges::{column_count, in_range, height, optional_in_range, plan_point, row_count};
 use super::outlines::{Outline, RawPoints};
 use super::parts::{Obstacle, Part, PointSource, Receiver, Zone};
 use super::powers::{directivity, powers};
 use super::raw::RawPart;
 use super::settings::{GridSpec, SetSpec};
-use super::shapes::{corners, heavy, mirrored, outlined, short};
+use super::shapes::{corners, check_density, check_reflection, check_outline, check_sides};
 use super::texts::{PlainName, Word};
 use super::words::{kind_named, optional_air};
 use scene_geom::Pt;
@@ -23,7 +25,7 @@ use std::alloc::Global;
 /// their numbers. Memory is taken for the corners of an outline.
 #[tactic(auto, unfolding(crate::specs::Checking::check_of))]
 pub fn check(alloc: Global, raw: RawPart) -> Result<Checked, PartFault>
-    ensures { Gives result (check_of raw) }
+    ensures { MatchesUnlessMemory lacks_memory result (check_of raw) }
 {
     match raw {
         RawPart::Source {
@@ -77,9 +79,9 @@ fn source(
     lw: [Option<i64>; 8],
     dc: i64,
 ) -> Result<PointSource, PartFault>
-    ensures { Gives result (source_of name kind x y h lw dc) }
+    ensures { MatchesUnlessMemory lacks_memory result (source_of name kind x y h lw dc) }
 {
-    let at = placed(Field::X, Field::Y, x, y)?;
+    let at = plan_point(Field::X, Field::Y, x, y)?;
     let h = height(h)?;
     let lw = powers(lw)?;
     let dc = directivity(dc)?;
@@ -104,13 +106,13 @@ fn barrier(
     density: i64,
     rho: i64,
 ) -> Result<Obstacle, PartFault>
-    ensures { Gives result (barrier_of name points h density rho) }
+    ensures { MatchesUnlessMemory lacks_memory result (barrier_of name points h density rho) }
 {
     let points = corners(alloc, points.items())?;
     let h = height(h)?;
-    let density = counted(Field::Density, 0, 100_000, density)?;
-    let rho = counted(Field::Rho, 0, 1000, rho)? as u16;
-    heavy(density)?;
+    let density = in_range(Field::Density, 0, 100_000, density)?;
+    let rho = in_range(Field::Rho, 0, 1000, rho)? as u16;
+    check_density(density)?;
     obstacle(name, Shape::Barrier, points, h, rho)
 }
 
@@ -122,11 +124,11 @@ fn building(
     h: i64,
     rho: i64,
 ) -> Result<Obstacle, PartFault>
-    ensures { Gives result (building_of name points h rho) }
+    ensures { MatchesUnlessMemory lacks_memory result (building_of name points h rho) }
 {
     let points = corners(alloc, points.items())?;
     let h = height(h)?;
-    let rho = counted(Field::Rho, 0, 1000, rho)? as u16;
+    let rho = in_range(Field::Rho, 0, 1000, rho)? as u16;
     obstacle(name, Shape::Building, points, h, rho)
 }
 
@@ -138,14 +140,14 @@ fn obstacle(
     h: u32,
     rho: u16,
 ) -> Result<Obstacle, PartFault>
-    requires few { length points ≤ 1024 }
+    requires few { length points ≤ most_corners }
     requires height { IsHeight h }
     requires rho { rho ≤ 1000 }
     ensures { result ≡ obstacle_of name shape points h rho }
 {
-    outlined(shape, points.items())?;
-    short(shape, points.items())?;
-    mirrored(rho)?;
+    check_outline(shape, points.items())?;
+    check_sides(shape, points.items())?;
+    check_reflection(rho)?;
     let name = name.into_name();
     Ok(Obstacle {
         name,
@@ -158,11 +160,11 @@ fn obstacle(
 
 #[tactic(auto, unfolding(crate::specs::Checking::zone_of))]
 fn zone(alloc: Global, name: PlainName, points: RawPoints, g: i64) -> Result<Zone, PartFault>
-    ensures { Gives result (zone_of name points g) }
+    ensures { MatchesUnlessMemory lacks_memory result (zone_of name points g) }
 {
     let points = corners(alloc, points.items())?;
-    let g = counted(Field::G, 0, 100, g)? as u8;
-    outlined(Shape::Building, points.items())?;
+    let g = in_range(Field::G, 0, 100, g)? as u8;
+    check_outline(Shape::Building, points.items())?;
     let name = name.into_name();
     Ok(Zone { name, points, g })
 }
@@ -171,7 +173,7 @@ fn zone(alloc: Global, name: PlainName, points: RawPoints, g: i64) -> Result<Zon
 fn receiver(name: PlainName, x: i64, y: i64, h: i64) -> Result<Receiver, PartFault>
     ensures { result ≡ receiver_of name x y h }
 {
-    let at = placed(Field::X, Field::Y, x, y)?;
+    let at = plan_point(Field::X, Field::Y, x, y)?;
     let h = height(h)?;
     let name = name.into_name();
     Ok(Receiver { name, at, h })
@@ -189,8 +191,8 @@ fn grid(
 ) -> Result<GridSpec, PartFault>
     ensures { result ≡ grid_of name x y step columns rows h }
 {
-    let at = placed(Field::X, Field::Y, x, y)?;
-    let step = counted(Field::Step, 1, 1_000_000, step)?;
+    let at = plan_point(Field::X, Field::Y, x, y)?;
+    let step = in_range(Field::Step, 1, WIDEST_STEP, step)?;
     grid_at(name, at, step, columns, rows, h)
 }
 
@@ -204,7 +206,7 @@ fn grid_at(
     h: i64,
 ) -> Result<GridSpec, PartFault>
     requires low { 1 ≤ step }
-    requires high { step ≤ 1000000 }
+    requires high { step ≤ widest_step }
     ensures { result ≡ grid_at_of name at step columns rows h }
 {
     let columns = column_count(at, step, columns)?;
@@ -230,9 +232,9 @@ fn setting(
 ) -> Result<SetSpec, PartFault>
     ensures { result ≡ setting_of reach g air c0 }
 {
-    let reach = optional_count(Field::Reach, 1, 4_000_000, reach)?;
-    let g = optional_count(Field::G, 0, 100, g)?.map(|g| g as u8);
-    let c0 = optional_count(Field::C0, 0, 1000, c0)?.map(|c0| c0 as u16);
+    let reach = optional_in_range(Field::Reach, 1, FARTHEST_REACH, reach)?;
+    let g = optional_in_range(Field::G, 0, 100, g)?.map(|g| g as u8);
+    let c0 = optional_in_range(Field::C0, 0, 1000, c0)?.map(|c0| c0 as u16);
     let air = optional_air(air)?;
     Ok(SetSpec { reach, g, air, c0 })
 }

@@ -1,5 +1,6 @@
 //! The sides of barriers and buildings.
 ghost use Rattle.std.specs.Prelude.{◌≡◌, ◌≤◌, ◌<◌, length, Some, slice_get};
+ghost use Rattle.scene_parts.specs.Limits.{most_corners};
 ghost use Rattle.scene_parts.specs.Ranges.{IsObstacle};
 ghost use Rattle.scene_parts.specs.Sides.{sides_in, sides_of};
 
@@ -27,7 +28,7 @@ pub fn side_of(obstacle: &Obstacle, i: u32) -> Side
 
 /// The number of sides of a shape with these corners.
 pub fn side_count(shape: Shape, corners: &[Pt]) -> u32
-    requires { length corners.now ≤ 1024 }
+    requires { length corners.now ≤ most_corners }
     ensures { result ≡ length (sides_in shape corners.now) }
 {
     let corners = corners.len() as u32;
@@ -39,7 +40,7 @@ pub fn side_count(shape: Shape, corners: &[Pt]) -> u32
 
 /// A side of a shape with these corners by its number, from 0.
 pub fn side_at(shape: Shape, corners: &[Pt], i: u32) -> Side
-    requires few { length corners.now ≤ 1024 }
+    requires few { length corners.now ≤ most_corners }
     requires within { i < length (sides_in shape corners.now) }
     ensures { slice_get (sides_in shape corners.now) i ≡ Some result }
 {

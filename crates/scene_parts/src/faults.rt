@@ -1,7 +1,7 @@
 //! What is wrong with a part.
 use super::kinds::Field;
+use super::memory::NoMemory;
 use super::texts::Word;
-use std::alloc::{AllocError, AllocFailed};
 
 /// Why a part is refused. `NoMemory` can come at any time; of the others the first in this order is
 /// the answer, and of `OutOfRange` the first field in the order of its line.
@@ -21,30 +21,19 @@ pub enum PartFault {
     FewCorners { count: u32 },
     /// A building or a zone has no area, or all points of a barrier are in one place.
     FlatShape,
-    /// This side, counted from 0, is longer than 262,143 mm; its length is rounded down.
+    /// This side, in_range from 0, is longer than 262,143 mm; its length is rounded down.
     SideTooLong { side: u32, mm: u32 },
     /// A surface that reflects at most 200 per mille is no mirror (ISO 9613-2, 7.5). 0 means that nothing is reflected.
     WeakMirror { rho: u16 },
 }
 
-impl From<AllocError> for PartFault {
+impl From<NoMemory> for PartFault {
     ghost use Rattle.std.specs.Prelude.{◌≡◌};
-    ghost use Rattle.scene_parts.specs.declared.faults.PartFault.TheVariants.{NoMemory};
+    ghost use Rattle.scene_parts.specs.declared.faults.PartFault.TheVariants as faults;
 
-    ghost from_gives = { λ _ e. e ≡ NoMemory };
+    ghost from_gives = { λ _ e. e ≡ faults.NoMemory };
 
-    fn from(_error: AllocError) -> PartFault {
-        PartFault::NoMemory
-    }
-}
-
-impl<T: Drop> From<AllocFailed<T>> for PartFault {
-    ghost use Rattle.std.specs.Prelude.{◌≡◌};
-    ghost use Rattle.scene_parts.specs.declared.faults.PartFault.TheVariants.{NoMemory};
-
-    ghost from_gives = { λ _ e. e ≡ NoMemory };
-
-    fn from(_error: AllocFailed<T>) -> PartFault {
+    fn from(_want: NoMemory) -> PartFault {
         PartFault::NoMemory
     }
 }

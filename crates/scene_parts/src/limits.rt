@@ -1,118 +1,28 @@
-//! Numbers of fields in their ranges.
-ghost use Rattle.std.specs.Prelude.{◌≡◌, ◌≤◌, ◌<◌, ◌^◌, pos, ◌≤ℤ◌, IfOk, IfSome};
-ghost use Rattle.scene_geom.specs.declared.plan.Pt.{Pt};
-ghost use Rattle.scene_parts.specs.Answers.{optional};
-ghost use Rattle.scene_parts.specs.Ranges.{IsHeight, IsCount, last_place};
-ghost use Rattle.scene_parts.specs.Checking.{within as within_of, counted as counted_of, placed as placed_of, reaching as reaching_of, height_of};
+//! The limits of parts, each named once.
 
-use super::faults::PartFault;
-use super::kinds::Field;
-use scene_geom::Pt;
+/// The corners of a barrier, a building or a zone.
+pub const MOST_CORNERS: usize = 1024;
 
-/// A number from `low` to `high`, or `OutOfRange`.
-pub fn within(field: Field, low: i64, high: i64, value: i64) -> Result<i64, PartFault>
-    ensures value { result ≡ within_of field low high value }
-    ensures low { IfOk result (λ n. low ≤ℤ n) }
-    ensures high { IfOk result (λ n. n ≤ℤ high) }
-{
-    if low <= value && value <= high {
-        Ok(value)
-    } else {
-        Err(PartFault::OutOfRange { field, value })
-    }
-}
+/// The columns of a grid, and its rows.
+pub const MOST_COLUMNS: u32 = 4096;
 
-/// A number from `low` to `high` that is not below 0, or `OutOfRange`.
-pub fn counted(field: Field, low: u32, high: u32, value: i64) -> Result<u32, PartFault>
-    ensures value { result ≡ counted_of field low high value }
-    ensures low { IfOk result (λ n. low ≤ n) }
-    ensures high { IfOk result (λ n. n ≤ high) }
-{
-    let n = within(field, i64::from(low), i64::from(high), value)?;
-    Ok(n as u32)
-}
+/// The distance from one receiver of a grid to the next, in mm.
+pub const WIDEST_STEP: u32 = 1_000_000;
 
-/// The same of a number that may be left out.
-pub fn optional_count(
-    field: Field,
-    low: u32,
-    high: u32,
-    value: Option<i64>,
-) -> Result<Option<u32>, PartFault>
-    ensures value { result ≡ optional (counted_of field low high) value }
-    ensures low { IfOk result (λ n. IfSome n (λ n. low ≤ n)) }
-    ensures high { IfOk result (λ n. IfSome n (λ n. n ≤ high)) }
-{
-    match value {
-        None => Ok(None),
-        Some(value) => Ok(Some(counted(field, low, high, value)?)),
-    }
-}
+/// The outermost coordinate of the plan, in mm.
+pub const PLAN_END: i64 = 4_000_000;
 
-/// The point of the plan with these coordinates, or `OutOfRange` of the first that lies outside.
-#[tactic(auto, unfolding(crate::specs::Checking::placed))]
-pub fn placed(across: Field, up: Field, x: i64, y: i64) -> Result<Pt, PartFault>
-    ensures { result ≡ placed_of across up x y }
-{
-    let east = within(across, -4_000_000, 4_000_000, x)?;
-    let north = within(up, -4_000_000, 4_000_000, y)?;
-    Ok(Pt::new(east, north))
-}
+/// How far a source counts at most, in mm.
+pub const FARTHEST_REACH: u32 = 4_000_000;
 
-/// A height above ground in mm, or `OutOfRange`.
-#[tactic(auto, unfolding(crate::specs::Checking::height_of))]
-pub fn height(h: i64) -> Result<u32, PartFault>
-    ensures value { result ≡ height_of h }
-    ensures height { IfOk result (λ n. IsHeight n) }
-{
-    counted(Field::H, 1, 100_000, h)
-}
+/// The height of a part above ground, in mm.
+pub const GREATEST_HEIGHT: u32 = 100_000;
 
-/// The number of columns of a grid from its first receiver on, the last on the plan, or `OutOfRange`.
-pub fn column_count(at: Pt, step: u32, count: i64) -> Result<u32, PartFault>
-    requires { step ≤ 1000000 }
-    ensures value { result ≡ reaching_of Field.Columns at.x step count }
-    ensures count { IfOk result (λ n. IsCount n) }
-    ensures on_plan { IfOk result (λ n. last_place at.x step n ≤ℤ pos 4000000) }
-{
-    reaching(Field::Columns, at.x, step, count)
-}
+/// The length of a side of a barrier or a building, in mm.
+pub const LONGEST_SIDE: u64 = 262_143;
 
-/// The number of rows of a grid from its first receiver on, the last on the plan, or `OutOfRange`.
-pub fn row_count(at: Pt, step: u32, count: i64) -> Result<u32, PartFault>
-    requires { step ≤ 1000000 }
-    ensures value { result ≡ reaching_of Field.Rows at.y step count }
-    ensures count { IfOk result (λ n. IsCount n) }
-    ensures on_plan { IfOk result (λ n. last_place at.y step n ≤ℤ pos 4000000) }
-{
-    reaching(Field::Rows, at.y, step, count)
-}
+/// What a barrier weighs at least, in kg/m² (ISO 9613-2, 7.4).
+pub const LEAST_DENSITY: u32 = 10;
 
-/// The columns or rows of a grid that starts at a coordinate and whose last one lies on the plan, or `OutOfRange`.
-#[tactic(auto, unfolding(crate::specs::Checking::reaching))]
-fn reaching(field: Field, start: i32, step: u32, count: i64) -> Result<u32, PartFault>
-    requires { step ≤ 1000000 }
-    ensures value { result ≡ reaching_of field start step count }
-    ensures count { IfOk result (λ n. IsCount n) }
-    ensures on_plan { IfOk result (λ n. last_place start step n ≤ℤ pos 4000000) }
-{
-    let n = counted(field, 1, 4096, count)?;
-    if last_at(start, step, n) <= 4_000_000 {
-        Ok(n)
-    } else {
-        Err(PartFault::OutOfRange {
-            field,
-            value: count,
-        })
-    }
-}
-
-/// The coordinate of the last of `count` columns or rows, in mm.
-fn last_at(start: i32, step: u32, count: u32) -> i64
-    requires step { step ≤ 1000000 }
-    requires low { 1 ≤ count }
-    requires high { count ≤ 4096 }
-    ensures { result ≡ last_place start step count }
-{
-    i64::from(start) + i64::from(step * (count - 1))
-}
+/// What a surface that isn't taken as a mirror reflects at most, per mille (ISO 9613-2, 7.5).
+pub const WEAK_REFLECTION: u16 = 200;

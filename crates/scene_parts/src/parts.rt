@@ -18,7 +18,7 @@ pub struct PointSource {
 }
 
 impl Model for PointSource {
-    ghost use Rattle.scene_parts.specs.Seen.{Source};
+    ghost use Rattle.scene_parts.specs.Views.{Source};
     ghost use Rattle.scene_parts.specs.Ranges.{IsSource};
 
     ghost Value = { Source };
@@ -39,10 +39,10 @@ pub struct Obstacle {
 }
 
 impl Model for Obstacle {
-    ghost use Rattle.scene_parts.specs.Seen.{Obstacle as ObstacleSeen};
+    ghost use Rattle.scene_parts.specs.Views.{Obstacle as ObstacleView};
     ghost use Rattle.scene_parts.specs.Ranges.{IsObstacle};
 
-    ghost Value = { ObstacleSeen };
+    ghost Value = { ObstacleView };
 
     ghost view = { λ o. record { name = o.name; shape = o.shape; points = o.points; h = o.h; rho = o.rho } };
 
@@ -58,10 +58,10 @@ pub struct Zone {
 }
 
 impl Model for Zone {
-    ghost use Rattle.scene_parts.specs.Seen.{Zone as ZoneSeen};
+    ghost use Rattle.scene_parts.specs.Views.{Zone as ZoneView};
     ghost use Rattle.scene_parts.specs.Ranges.{IsZone};
 
-    ghost Value = { ZoneSeen };
+    ghost Value = { ZoneView };
 
     ghost view = { λ z. record { name = z.name; points = z.points; g = z.g } };
 
@@ -77,10 +77,10 @@ pub struct Receiver {
 }
 
 impl Model for Receiver {
-    ghost use Rattle.scene_parts.specs.Seen.{Receiver as ReceiverSeen};
+    ghost use Rattle.scene_parts.specs.Views.{Receiver as ReceiverView};
     ghost use Rattle.scene_parts.specs.Ranges.{IsReceiver};
 
-    ghost Value = { ReceiverSeen };
+    ghost Value = { ReceiverView };
 
     ghost view = { λ r. record { name = r.name; at = r.at; h = r.h } };
 

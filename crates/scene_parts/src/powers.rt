@@ -7,7 +7,7 @@ ghost use Rattle.scene_parts.specs.Checking.{power_of, directivity_of};
 
 use super::faults::PartFault;
 use super::kinds::Field;
-use super::limits::within;
+use super::ranges::within;
 
 /// The levels of the octave bands from 63 Hz to 8 kHz, in 0.01 dB, or `OutOfRange` of the first outside.
 pub fn powers(lw: [Option<i64>; 8]) -> Result<[Option<i32>; 8], PartFault>

@@ -15,10 +15,10 @@ pub struct Globals {
 }
 
 impl Model for Globals {
-    ghost use Rattle.scene_parts.specs.Seen.{Globals as GlobalsSeen};
+    ghost use Rattle.scene_parts.specs.Views.{Globals as GlobalsView};
     ghost use Rattle.scene_parts.specs.Ranges.{AreGlobals};
 
-    ghost Value = { GlobalsSeen };
+    ghost Value = { GlobalsView };
 
     ghost view = { λ s. record { reach = s.reach; g = s.g; air = s.air; c0 = s.c0 } };
 
@@ -37,7 +37,7 @@ pub struct SetSpec {
 }
 
 impl Model for SetSpec {
-    ghost use Rattle.scene_parts.specs.Seen.{Setting};
+    ghost use Rattle.scene_parts.specs.Views.{Setting};
     ghost use Rattle.scene_parts.specs.Ranges.{IsSetting};
 
     ghost Value = { Setting };
@@ -59,7 +59,7 @@ pub struct GridSpec {
 }
 
 impl Model for GridSpec {
-    ghost use Rattle.scene_parts.specs.Seen.{Grid};
+    ghost use Rattle.scene_parts.specs.Views.{Grid};
     ghost use Rattle.scene_parts.specs.Ranges.{IsGrid};
 
     ghost Value = { Grid };

@@ -1,18 +1,21 @@
 //! Corners and sides of outlines.
-ghost use Rattle.std.specs.Prelude.{◌≡◌, ◌≤◌, ◌<◌, ◌*◌, length, IfOk, OnOk, IsTrue, Some, false, slice_get};
+ghost use Rattle.std.specs.Prelude.{◌≡◌, ◌≤◌, ◌<◌, ◌*◌, ◌++◌, ◌∷◌, [], length, IfOk, OnOk, IsTrue, Some, false, slice_get};
 ghost use Rattle.std.specs.List.{list_all};
 ghost use Rattle.std.specs.Prelude.{◌-ℤ◌, ◌*ℤ◌, ◌≤ℤ◌, pos, unsigned_abs};
 ghost use Rattle.scene_geom.specs.Plan.{InPlan};
 ghost use Rattle.scene_geom.specs.declared.plan.Pt.{Pt};
-ghost use Rattle.scene_parts.specs.Answers.{Gives};
+ghost use Rattle.scene_parts.specs.Answers.{MatchesUnlessMemory, lacks_memory};
+ghost use Rattle.scene_parts.specs.Limits.{most_corners};
 ghost use Rattle.scene_parts.specs.Ranges.{are_same, is_same, is_flat, is_mirror, least_corners};
 ghost use Rattle.scene_parts.specs.Sides.{sides_in, is_short, squared_length, floor_root};
-ghost use Rattle.scene_parts.specs.Checking.{corner_of, corners_of, outlined as outlined_of, short_from, mirrored as mirrored_of, heavy as heavy_of};
+ghost use Rattle.scene_parts.specs.Checking.{corner_of, corners_of, check_outline as check_outline_of, check_sides_from, check_reflection as check_reflection_of, check_density as check_density_of};
 
 use super::edges::{side_at, side_count};
 use super::faults::PartFault;
 use super::kinds::{Field, Shape};
-use super::limits::placed;
+use super::limits::{LEAST_DENSITY, LONGEST_SIDE, MOST_CORNERS, WEAK_REFLECTION};
+use super::ranges::plan_point;
+use super::memory::NoMemory;
 use super::outlines::{Outline, RawPt};
 use scene_geom::{Pt, Side, area2};
 use std::alloc::Global;
@@ -20,15 +23,15 @@ use std::alloc::Global;
 /// At most 1,024 corners on the plan, or `OutOfRange`.
 #[tactic(auto, unfolding(crate::specs::Checking::corners_of))]
 pub fn corners(alloc: Global, points: &[RawPt]) -> Result<Outline, PartFault>
-    ensures value { Gives result (corners_of points.now) }
-    ensures few { IfOk result (λ corners. length corners ≤ 1024) }
+    ensures value { MatchesUnlessMemory lacks_memory result (corners_of points.now) }
+    ensures few { IfOk result (λ corners. length corners ≤ most_corners) }
 {
     let mut corners = Vec::new(alloc);
     for point in points {
         let corner = corner(*point)?;
-        corners.push(corner)?;
+        add_corner(&mut corners, corner)?;
     }
-    if points.len() > 1024 {
+    if points.len() > MOST_CORNERS {
         return Err(PartFault::OutOfRange {
             field: Field::Points,
             value: points.len() as i64,
@@ -37,27 +40,33 @@ pub fn corners(alloc: Global, points: &[RawPt]) -> Result<Outline, PartFault>
     Ok(Outline::from_vec(corners))
 }
 
+fn add_corner(corners: &mut Vec<Pt>, corner: Pt) -> Result<(), NoMemory>
+    ensures { OnOk result (corners.new.items ≡ corners.old.items ++ corner ∷ []) }
+{
+    Ok(corners.push(corner)?)
+}
+
 fn corner(point: RawPt) -> Result<Pt, PartFault>
     ensures { result ≡ corner_of point }
 {
-    placed(Field::Points, Field::Points, point.x, point.y)
+    plan_point(Field::Points, Field::Points, point.x, point.y)
 }
 
 /// A density of at least 10 kg/m², or `TooLight` (ISO 9613-2, 7.4).
-pub fn heavy(density: u32) -> Result<(), PartFault>
-    ensures { result ≡ heavy_of density }
+pub fn check_density(density: u32) -> Result<(), PartFault>
+    ensures { result ≡ check_density_of density }
 {
-    if density < 10 {
+    if density < LEAST_DENSITY {
         return Err(PartFault::TooLight { density });
     }
     Ok(())
 }
 
 /// Enough corners for the shape and not flat, or `FewCorners` or `FlatShape`.
-#[tactic(auto, unfolding(crate::specs::Checking::outlined))]
-pub fn outlined(shape: Shape, corners: &[Pt]) -> Result<(), PartFault>
-    requires { length corners.now ≤ 1024 }
-    ensures value { result ≡ outlined_of shape corners.now }
+#[tactic(auto, unfolding(crate::specs::Checking::check_outline))]
+pub fn check_outline(shape: Shape, corners: &[Pt]) -> Result<(), PartFault>
+    requires { length corners.now ≤ most_corners }
+    ensures value { result ≡ check_outline_of shape corners.now }
     ensures enough { OnOk result (least_corners shape ≤ length corners.now) }
     ensures spread { OnOk result (is_flat shape corners.now ≡ false) }
 {
@@ -107,9 +116,9 @@ fn in_one_place(p: Pt, q: Pt) -> bool
 }
 
 /// Sides of at most 262,143 mm, or `SideTooLong` of the first that is longer.
-pub fn short(shape: Shape, corners: &[Pt]) -> Result<(), PartFault>
-    requires { length corners.now ≤ 1024 }
-    ensures value { result ≡ short_from 0 (sides_in shape corners.now) }
+pub fn check_sides(shape: Shape, corners: &[Pt]) -> Result<(), PartFault>
+    requires { length corners.now ≤ most_corners }
+    ensures value { result ≡ check_sides_from 0 (sides_in shape corners.now) }
     ensures all { OnOk result (IsTrue (list_all is_short (sides_in shape corners.now))) }
 {
     for i in 0..side_count(shape, corners) {
@@ -127,7 +136,7 @@ pub fn short(shape: Shape, corners: &[Pt]) -> Result<(), PartFault>
 fn is_short_side(side: Side) -> bool
     ensures { result ≡ is_short side }
 {
-    squared(side) <= 262_143 * 262_143
+    squared(side) <= LONGEST_SIDE * LONGEST_SIDE
 }
 
 fn squared(side: Side) -> u64
@@ -166,11 +175,11 @@ fn length_of(side: Side) -> u32
 }
 
 /// Nothing reflected, or more than 200 per mille, or `WeakMirror`.
-pub fn mirrored(rho: u16) -> Result<(), PartFault>
-    ensures value { result ≡ mirrored_of rho }
+pub fn check_reflection(rho: u16) -> Result<(), PartFault>
+    ensures value { result ≡ check_reflection_of rho }
     ensures mirror { OnOk result (IsTrue (is_mirror rho)) }
 {
-    if rho == 0 || rho > 200 {
+    if rho == 0 || rho > WEAK_REFLECTION {
         Ok(())
     } else {
         Err(PartFault::WeakMirror { rho })

@@ -1,5 +1,5 @@
 use Rattle.std.proofs.Common.{◌≡◌, ℕ, ◌<◌, ◌+◌, ◌-◌, ◌++◌, List, ◌∙◌, sym, ap, append_assoc, arith}
-use Rattle.scene_parts.specs.Seen.{Receiver}
+use Rattle.scene_parts.specs.Views.{Receiver}
 use Rattle.scene_book.specs.Grid.{columns_from, rows_from}
 use Rattle.scene_book.proofs.GridLemmas.{rows-step}
 use Rattle.scene_book.proofs.grids.receivers.Goals as goal

@@ -1,5 +1,5 @@
 use Rattle.std.proofs.Common.{◌≡◌, ℕ, List, length, sym, arith}
-use Rattle.scene_parts.specs.Seen.{Obstacle}
+use Rattle.scene_parts.specs.Views.{Obstacle}
 use Rattle.scene_parts.specs.Sides.{sides_of}
 use Rattle.scene_book.proofs.ListLemmas.{length-take_out, sum-take_out, total-there}
 use Rattle.scene_book.proofs.scene.Scene.take_obstacle.Goals as goal

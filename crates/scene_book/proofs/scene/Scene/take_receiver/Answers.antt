@@ -1,5 +1,5 @@
 use Rattle.std.proofs.Common.{◌≡◌, arith}
-use Rattle.scene_parts.specs.Seen.{Receiver}
+use Rattle.scene_parts.specs.Views.{Receiver}
 use Rattle.scene_book.proofs.ListLemmas.{length-take_out}
 use Rattle.scene_book.proofs.scene.Scene.take_receiver.Goals as goal
 

@@ -1,5 +1,5 @@
 use Rattle.std.proofs.Common.{◌≡◌, arith}
-use Rattle.scene_parts.specs.Seen.{Source}
+use Rattle.scene_parts.specs.Views.{Source}
 use Rattle.scene_book.proofs.ListLemmas.{length-take_out}
 use Rattle.scene_book.proofs.scene.Scene.take_source.Goals as goal
 
