@@ -1,5 +1,5 @@
 //! The octave bands of ISO 9613-2.
-ghost use Rattle.std.specs.Prelude.{◌≡◌, ◌<◌};
+ghost use Rattle.std.specs.Prelude.{◌≡◌, ◌<◌, ◌≤◌};
 ghost use Rattle.scene_geom.specs.Bands.{all_bands, place_of, frequency_of};
 
 /// An octave band, by its nominal midband frequency.
@@ -51,7 +51,8 @@ impl Band {
 
     /// The nominal midband frequency in Hz.
     pub fn frequency(self) -> u32
-        ensures { result ≡ frequency_of self }
+        ensures value { result ≡ frequency_of self }
+        ensures bound { result ≤ 8000 }
     {
         match self {
             Band::Hz63 => 63,

@@ -5,3 +5,4 @@ pub mod Sides
 pub mod Ranges
 pub mod Answers
 pub mod Checking
+pub mod InBand

@@ -7,6 +7,7 @@ mod checking;
 mod cuts;
 mod edges;
 mod faults;
+
 mod kinds;
 pub mod limits;
 mod memory;
@@ -17,6 +18,7 @@ mod ranges;
 mod raw;
 mod settings;
 mod shapes;
+mod size_test;
 #[cfg(test)]
 mod tests;
 mod texts;
@@ -27,6 +29,7 @@ pub use checking::check;
 pub use cuts::Cut;
 pub use edges::{side_of, sides};
 pub use faults::PartFault;
+pub use size_test::{Breadth, in_band};
 pub use kinds::{Air, Class, Field, Kind, Shape};
 pub use memory::NoMemory;
 pub use outlines::{Outline, RawPoints, RawPt};
