@@ -1,0 +1,74 @@
+-- Crossings that are found one after another.
+use Rattle.std.proofs.Common.{◌≡◌, ℕ, zero, suc, ◌+◌, ◌*◌, ◌<◌, ◌≤◌, ℤ, pos, negsuc, ◌+ℤ◌, ◌-ℤ◌, ◌*ℤ◌, ◌<ℤ◌, unsigned_abs, List, [], ◌∷◌, ◌++◌, length, drop, map, ap, sym, ◌∙◌, refl, arith, add-one, mul_comm, append_assoc, append-nil, get_or}
+use Rattle.std.specs.Prelude.{Option, Some, None, slice_get, Bool, int_lt, nat_lt}
+use Rattle.std.proofs.lemmas.Int.{ints}
+use Rattle.scene_geom.specs.declared.plan.Side.{Side}
+use Rattle.scene_geom.specs.Bands.{all_bands}
+use Rattle.scene_geom.proofs.Whole.{mul_sub}
+use Rattle.scene_parts.specs.Views.{Obstacle}
+use Rattle.path_shape.specs.declared.edge.Edge.{Edge}
+use Rattle.sight_cut.specs.declared.ends.Ends.{Ends}
+use Rattle.sight_cut.specs.declared.crossing.Crossing.{Crossing}
+use Rattle.std.proofs.lemmas.List.{drop_more}
+use Rattle.scene_parts.specs.Sides.{sides_of}
+use Rattle.sight_cut.specs.Cuts.{edge_of, counts_in, crossing_of, before_all, crossings_along, crossings_from}
+
+drop-get : {A : Type 0} (xs : List A) (i : ℕ) (x : A) → slice_get xs i ≡ Some x → drop i xs ≡ x ∷ drop (i + 1) xs
+drop-get [] i x e = cc
+drop-get (y ∷ xs) zero x e = cc
+drop-get (y ∷ xs) (suc i) x e = rw add-one (drop-get-next xs i x e) where
+  drop-get-next : {A : Type 0} (xs : List A) (i : ℕ) (x : A) → slice_get xs i ≡ Some x → drop i xs ≡ x ∷ drop (suc i) xs
+  drop-get-next [] i x e = cc
+  drop-get-next (y ∷ xs) zero x e = cc
+  drop-get-next (y ∷ xs) (suc i) x e = drop-get-next xs i x e
+
+-- a crossing before others
+before-others : (first : Option Crossing) (others : List Crossing) → before_all first others ≡ before_all first [] ++ others
+before-others None others = refl
+before-others (Some x) others = refl
+
+-- a side that doesn't cross adds nothing, one that crosses its crossing
+pub none-added : (ends : Ends) (n k : ℕ) (o : Obstacle) (side : Side) (found : List Crossing) → edge_of ends o.h side ≡ None
+    → found ≡ found ++ before_all (crossing_of ends n k o side) []
+none-added ends n k o side found e = rw e (sym (append-nil found))
+
+pub some-added : (ends : Ends) (n k : ℕ) (o : Obstacle) (side : Side) (edge : Edge) (bands : List Bool) (found : List Crossing) → edge_of ends o.h side ≡ Some edge
+    → bands ≡ map (λ band. counts_in band ends o) all_bands
+    → found ++ record { obstacle = n; side = k; edge = edge; bands = bands } ∷ [] ≡ found ++ before_all (crossing_of ends n k o side) []
+some-added ends n k o side edge bands found e is = rw (e, is) refl
+
+-- what is found, and what the sides behind give, is the same after a side
+pub side-added : (ends : Ends) (n : ℕ) (o : Obstacle) (sides : List Side) (i : ℕ) (side : Side) (found new total : List Crossing) → slice_get sides i ≡ Some side
+    → new ≡ found ++ before_all (crossing_of ends n i o side) [] → found ++ crossings_along ends n i o (drop i sides) ≡ total
+    → new ++ crossings_along ends n (i + 1) o (drop (i + 1) sides) ≡ total
+side-added ends n o sides i side found new total e added h =
+    let rest = crossings_along ends n (i + 1) o (drop (i + 1) sides) in
+    let next : crossings_along ends n i o (drop i sides) ≡ before_all (crossing_of ends n i o side) rest = ap (crossings_along ends n i o) (drop-get sides i side e) ∙ rw add-one refl in
+    ap (λ xs. xs ++ rest) added ∙ append_assoc found (before_all (crossing_of ends n i o side) []) rest
+    ∙ ap (λ xs. found ++ xs) (sym (before-others (crossing_of ends n i o side) rest) ∙ sym next) ∙ h
+
+-- and after an obstacle
+pub obstacle-added : (ends : Ends) (obstacles : List Obstacle) (i : ℕ) (o : Obstacle) (found new total : List Crossing) → i < length obstacles → o ≡ get_or obstacles i o
+    → new ≡ found ++ crossings_along ends i 0 o (sides_of o) → found ++ crossings_from ends i (drop i obstacles) ≡ total
+    → new ++ crossings_from ends (i + 1) (drop (i + 1) obstacles) ≡ total
+obstacle-added ends obstacles i o found new total below is added h =
+    let rest = crossings_from ends (i + 1) (drop (i + 1) obstacles) in
+    let here : drop i obstacles ≡ o ∷ drop (i + 1) obstacles = drop_more obstacles i o below ∙ ap (λ x. x ∷ drop (i + 1) obstacles) (sym is) in
+    let next : crossings_from ends i (drop i obstacles) ≡ crossings_along ends i 0 o (sides_of o) ++ rest = ap (crossings_from ends i) here ∙ rw add-one refl in
+    ap (λ xs. xs ++ rest) added ∙ append_assoc found (crossings_along ends i 0 o (sides_of o)) rest ∙ ap (λ xs. found ++ xs) (sym next) ∙ h
+
+pub abs-below : (n d : ℤ) (most : ℕ) → pos 0 <ℤ n → n <ℤ d → unsigned_abs d ≤ most → unsigned_abs n ≤ most
+abs-below (pos n) (pos d) most positive below h = omega (arith, ints)
+abs-below (negsuc n) d most positive below h = absurd (omega (arith, ints))
+abs-below (pos n) (negsuc d) most positive below h = absurd (omega (arith, ints))
+
+-- the line of sight at a place and the edge there, both times the divisor, with nothing taken off
+compared : (a b c d : ℕ) → nat_lt (a + b) (c + d) ≡ int_lt (pos a +ℤ (pos b -ℤ pos d)) (pos c)
+compared a b c d = grind (arith, ints)
+
+pub rises-is : (hs hr h : ℕ) (n d : ℤ) → pos 0 <ℤ n → n <ℤ d
+    → nat_lt (hs * unsigned_abs d + hr * unsigned_abs n) (h * unsigned_abs d + hs * unsigned_abs n) ≡ int_lt (pos hs *ℤ d +ℤ n *ℤ (pos hr -ℤ pos hs)) (pos h *ℤ d)
+rises-is hs hr h (pos n) (pos d) positive below =
+    rw (mul_sub (pos hr) (pos hs) (pos n), mul_comm n hr, mul_comm n hs) (compared (hs * d) (hr * n) (h * d) (hs * n))
+rises-is hs hr h (negsuc n) d positive below = absurd (omega (arith, ints))
+rises-is hs hr h (pos n) (negsuc d) positive below = absurd (omega (arith, ints))

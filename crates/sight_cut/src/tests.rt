@@ -1,0 +1,1 @@
+//! Cuts against outside values.
