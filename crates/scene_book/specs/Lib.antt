@@ -5,3 +5,4 @@ pub mod Book
 pub mod Grid
 pub mod Applying
 pub mod Edits
+pub mod Laws

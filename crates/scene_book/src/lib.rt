@@ -5,6 +5,7 @@ mod applying;
 mod edits;
 mod filing;
 mod grids;
+pub mod laws;
 pub mod limits;
 mod named;
 mod register;
