@@ -12,19 +12,21 @@ use Rattle.scene_parts.specs.Checking.{check_of}
 use Rattle.command_lines.specs.declared.faults.LineFault.{LineFault}
 use Rattle.command_lines.specs.declared.faults.LineFault.TheVariants.{NoMemory, NotJson, NotObject, UnknownDo, Missing, WrongType, Part}
 use Rattle.command_lines.specs.Fields.{Entry, made_unless, with_fields, is_missing, is_wrong, first}
-use Rattle.command_lines.specs.Answers.{◌>>=◌, Gives, IsPlain, line_fault_of, of_part, found_or}
+use Rattle.scene_parts.specs.Answers.{◌>>=◌, MatchesUnlessMemory}
+use Rattle.command_lines.specs.Answers.{lacks_memory, IsPlain, line_fault_of, of_part, found_or}
 use Rattle.command_lines.specs.Words.{source_of, barrier_of, building_of, zone_of, receiver_of, grid_of, set_of, part_of, removal_of, checked_edit, asked}
 use Rattle.command_lines.specs.Lines.{word_of, command_from, json_of, command_in}
 
-pub plain-gives : {A : Type 0} (answer said : Result A LineFault) → Gives answer said → IfErr said IsPlain → IfErr answer IsPlain
-plain-gives (Ok x) said gives plain = tt
-plain-gives (Err NoMemory) said gives plain = tt
-plain-gives (Err NotJson) said gives plain = tt
-plain-gives (Err NotObject) said gives plain = tt
-plain-gives (Err (UnknownDo word)) said gives plain = tt
-plain-gives (Err (Missing field)) said gives plain = tt
-plain-gives (Err (WrongType field)) said gives plain = tt
-plain-gives (Err (Part fault)) said gives plain = rw gives at plain
+pub plain-matches : {A : Type 0} (answer expected : Result A LineFault) → MatchesUnlessMemory lacks_memory answer expected
+    → IfErr expected IsPlain → IfErr answer IsPlain
+plain-matches (Ok x) expected matches plain = tt
+plain-matches (Err NoMemory) expected matches plain = tt
+plain-matches (Err NotJson) expected matches plain = tt
+plain-matches (Err NotObject) expected matches plain = tt
+plain-matches (Err (UnknownDo word)) expected matches plain = tt
+plain-matches (Err (Missing field)) expected matches plain = tt
+plain-matches (Err (WrongType field)) expected matches plain = tt
+plain-matches (Err (Part fault)) expected matches plain = rw matches at plain
 
 -- one after another, and one or another
 

@@ -1,5 +1,5 @@
--- Answers that may lack memory, and tests in a row.
-use Rattle.std.specs.Prelude.{◌≡◌, Option, Some, None, Result, Ok, Err}
+-- Answers that may lack memory, and faults of parts as faults of lines.
+use Rattle.std.specs.Prelude.{◌≡◌, Bool, true, false, Option, Some, None, Result, Ok, Err}
 use Rattle.serde_json.specs.Data.{Data}
 use Rattle.serde_json.specs.View.{view}
 use Rattle.serde_json.specs.declared.value.Value.{Value}
@@ -9,27 +9,15 @@ use Rattle.scene_parts.specs.declared.faults.PartFault.TheVariants as part_fault
 use Rattle.command_lines.specs.declared.faults.LineFault.{LineFault}
 use Rattle.command_lines.specs.declared.faults.LineFault.TheVariants.{NoMemory, WrongType, Part}
 
-infixl 10 ◌>>=◌
-abbrev pub ◌>>=◌ : {A B : Type 0} → Result A LineFault → (A → Result B LineFault) → Result B LineFault
-(Ok x) >>= next = next x
-(Err fault) >>= next = Err fault
+-- the fault that there was no memory
+abbrev pub lacks_memory : LineFault → Bool
+lacks_memory NoMemory = true
+lacks_memory fault = false
 
--- an answer is what is said, unless memory runs out
-abbrev pub Gives : {A : Type 0} → Result A LineFault → Result A LineFault → Type 0
-Gives (Ok x) said = said ≡ Ok x
-Gives (Err NoMemory) said = Unit {0}
-Gives (Err fault) said = said ≡ Err fault
-
--- the same of a JSON value
-abbrev pub GivesJson : Result Value LineFault → Result Data LineFault → Type 0
-GivesJson (Ok value) said = said ≡ Ok (view value)
-GivesJson (Err NoMemory) said = Unit {0}
-GivesJson (Err fault) said = said ≡ Err fault
-
--- the same of a fault
-abbrev pub IsUnlessMemory : LineFault → LineFault → Type 0
-IsUnlessMemory NoMemory said = Unit {0}
-IsUnlessMemory fault said = fault ≡ said
+-- an answer that holds a JSON value, as the data that it views
+abbrev pub viewed : Result Value LineFault → Result Data LineFault
+viewed (Ok value) = Ok (view value)
+viewed (Err fault) = Err fault
 
 -- what is found, or a fault
 abbrev pub found_or : {A : Type 0} → LineFault → Option A → Result A LineFault

@@ -10,7 +10,8 @@ use Rattle.command_lines.specs.declared.commands.Command.{Command}
 use Rattle.command_lines.specs.declared.faults.LineFault.{LineFault}
 use Rattle.command_lines.specs.declared.faults.LineFault.TheVariants.{NotJson, NotObject}
 use Rattle.command_lines.specs.Fields.{text, needed, with_fields, text_at}
-use Rattle.command_lines.specs.Answers.{◌>>=◌, found_or}
+use Rattle.scene_parts.specs.Answers.{◌>>=◌}
+use Rattle.command_lines.specs.Answers.{found_or}
 use Rattle.command_lines.specs.Words.{asked}
 
 -- the word of a line: the text of its field `do`

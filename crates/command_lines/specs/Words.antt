@@ -12,7 +12,8 @@ use Rattle.command_lines.specs.declared.commands.Command.TheVariants as commands
 use Rattle.command_lines.specs.declared.faults.LineFault.{LineFault}
 use Rattle.command_lines.specs.declared.faults.LineFault.TheVariants.{UnknownDo}
 use Rattle.command_lines.specs.Fields.{Entry, text, name, any_name, whole, points, powers, needed, optional, with_fields, text_at, name_at, any_name_at, whole_at, points_at, powers_at, optional_whole_at, optional_text_at}
-use Rattle.command_lines.specs.Answers.{◌>>=◌, of_part}
+use Rattle.scene_parts.specs.Answers.{◌>>=◌}
+use Rattle.command_lines.specs.Answers.{of_part}
 
 -- The fields of each word
 

@@ -1,6 +1,5 @@
 //! Why a line is no command.
-use scene_parts::{Field, PartFault, Word};
-use std::alloc::{AllocError, AllocFailed};
+use scene_parts::{Field, NoMemory, PartFault, Word};
 
 /// Why a line is no command. `NoMemory` can come at any time, and is never held by `Part`; of the others the first
 /// that holds is the answer, in the order NotJson, NotObject, Missing and WrongType of `do`, UnknownDo, Missing,
@@ -23,24 +22,13 @@ pub enum LineFault {
     Part(PartFault),
 }
 
-impl From<AllocError> for LineFault {
+impl From<NoMemory> for LineFault {
     ghost use Rattle.std.specs.Prelude.{◌≡◌};
-    ghost use Rattle.command_lines.specs.declared.faults.LineFault.TheVariants.{NoMemory};
+    ghost use Rattle.command_lines.specs.declared.faults.LineFault.TheVariants as faults;
 
-    ghost from_gives = { λ _ e. e ≡ NoMemory };
+    ghost from_gives = { λ _ e. e ≡ faults.NoMemory };
 
-    fn from(_error: AllocError) -> LineFault {
-        LineFault::NoMemory
-    }
-}
-
-impl<T: Drop> From<AllocFailed<T>> for LineFault {
-    ghost use Rattle.std.specs.Prelude.{◌≡◌};
-    ghost use Rattle.command_lines.specs.declared.faults.LineFault.TheVariants.{NoMemory};
-
-    ghost from_gives = { λ _ e. e ≡ NoMemory };
-
-    fn from(_error: AllocFailed<T>) -> LineFault {
+    fn from(_want: NoMemory) -> LineFault {
         LineFault::NoMemory
     }
 }

@@ -10,7 +10,7 @@ use super::names::{is_part_name, is_plain_name};
 use super::points::points_in;
 use super::powers::powers_in;
 use super::texts::field_text;
-use scene_parts::{Field, Name, PlainName, RawPoints, Word};
+use scene_parts::{Field, Name, NoMemory, PlainName, RawPoints, Word};
 use serde_json::Value;
 use std::alloc::Global;
 
@@ -56,12 +56,19 @@ pub fn text(field: Field, value: &Value) -> Result<&str, LineFault>
     value.as_str().ok_or(LineFault::WrongType { field })
 }
 
+/// The bytes of a text.
+pub fn bytes_of(alloc: Global, text: &str) -> Result<Vec<u8>, NoMemory>
+    ensures { IfOk result (λ bytes. bytes.items ≡ text.now) }
+{
+    Ok(text.as_bytes().to_vec(alloc)?)
+}
+
 /// A text, or `WrongType`.
 pub fn word(alloc: Global, field: Field, value: &Value) -> Result<Word, LineFault>
     ensures { Reads field result (text_of (view value.now)) }
 {
-    let text = text(field, value)?.as_bytes();
-    Ok(Word::from_vec(text.to_vec(alloc)?))
+    let text = text(field, value)?;
+    Ok(Word::from_vec(bytes_of(alloc, text)?))
 }
 
 /// A text where the line has the field, or `WrongType`.
@@ -79,11 +86,11 @@ pub fn optional_word(alloc: Global, line: &Value, field: Field) -> Result<Option
 pub fn plain_name(alloc: Global, field: Field, value: &Value) -> Result<PlainName, LineFault>
     ensures { Reads field result (name_of (view value.now)) }
 {
-    let text = text(field, value)?.as_bytes();
-    if !is_plain_name(text) {
+    let text = text(field, value)?;
+    if !is_plain_name(text.as_bytes()) {
         return Err(LineFault::WrongType { field });
     }
-    Ok(PlainName::from_vec(text.to_vec(alloc)?))
+    Ok(PlainName::from_vec(bytes_of(alloc, text)?))
 }
 
 /// The name of any part, or `WrongType`.
@@ -91,11 +98,11 @@ pub fn plain_name(alloc: Global, field: Field, value: &Value) -> Result<PlainNam
 pub fn part_name(alloc: Global, field: Field, value: &Value) -> Result<Name, LineFault>
     ensures { Reads field result (any_name_of (view value.now)) }
 {
-    let text = text(field, value)?.as_bytes();
-    if !is_part_name(text) {
+    let text = text(field, value)?;
+    if !is_part_name(text.as_bytes()) {
         return Err(LineFault::WrongType { field });
     }
-    Ok(Name::from_vec(text.to_vec(alloc)?))
+    Ok(Name::from_vec(bytes_of(alloc, text)?))
 }
 
 /// Points, or `WrongType`.

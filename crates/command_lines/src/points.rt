@@ -4,13 +4,13 @@ ghost use Rattle.serde_json.specs.View.{view};
 ghost use Rattle.command_lines.specs.Values.{point_of, points_of};
 
 use super::arrays::items_in;
-use scene_parts::{RawPoints, RawPt};
+use scene_parts::{NoMemory, RawPoints, RawPt};
 use serde_json::Value;
-use std::alloc::{AllocError, Global};
+use std::alloc::Global;
 
 /// The points of an array of points.
 #[tactic(auto, unfolding(crate::specs::Values::points_of))]
-pub fn points_in(alloc: Global, value: &Value) -> Result<Option<RawPoints>, AllocError>
+pub fn points_in(alloc: Global, value: &Value) -> Result<Option<RawPoints>, NoMemory>
     ensures { IfOk result (λ points. points ≡ points_of (view value.now)) }
 {
     let Some(items) = items_in(value) else {

@@ -1,7 +1,8 @@
 //! A line read as a command.
 ghost use Rattle.std.specs.Prelude.{◌≡◌, ◌≢◌, Ok, Err, IfOk, IfErr};
 ghost use Rattle.serde_json.specs.View.{view};
-ghost use Rattle.command_lines.specs.Answers.{Gives, GivesJson, IsPlain};
+ghost use Rattle.scene_parts.specs.Answers.{MatchesUnlessMemory};
+ghost use Rattle.command_lines.specs.Answers.{IsPlain, lacks_memory, viewed};
 ghost use Rattle.command_lines.specs.Lines.{json_of, word_of, command_from as command_from_of, command_in as command_in_of, command_of};
 
 use super::commands::Command;
@@ -17,7 +18,7 @@ use std::alloc::Global;
 /// of it is `NoMemory` and never stands in `Part`.
 #[tactic(auto, unfolding(crate::specs::Lines::command_of))]
 pub fn command(alloc: Global, line: &[u8]) -> Result<Command, LineFault>
-    ensures value { Gives result (command_of line.now) }
+    ensures value { MatchesUnlessMemory lacks_memory result (command_of line.now) }
     ensures plain { IfErr result IsPlain }
 {
     match str::from_utf8(line) {
@@ -28,7 +29,7 @@ pub fn command(alloc: Global, line: &[u8]) -> Result<Command, LineFault>
 
 #[tactic(auto, unfolding(crate::specs::Lines::command_in))]
 fn command_in(alloc: Global, text: &str) -> Result<Command, LineFault>
-    ensures { Gives result (command_in_of text.now) }
+    ensures { MatchesUnlessMemory lacks_memory result (command_in_of text.now) }
 {
     let line = parsed(alloc, text)?;
     command_from(alloc, &line)
@@ -36,7 +37,7 @@ fn command_in(alloc: Global, text: &str) -> Result<Command, LineFault>
 
 #[tactic(auto, unfolding(crate::specs::Lines::command_from))]
 fn command_from(alloc: Global, line: &Value) -> Result<Command, LineFault>
-    ensures { Gives result (command_from_of (view line.now)) }
+    ensures { MatchesUnlessMemory lacks_memory result (command_from_of (view line.now)) }
 {
     if !line.is_object() {
         return Err(LineFault::NotObject);
@@ -59,7 +60,7 @@ fn word_in(line: &Value) -> Result<&str, LineFault>
 /// The JSON value of a text.
 #[tactic(auto, unfolding(crate::specs::Lines::json_of))]
 fn parsed(alloc: Global, text: &str) -> Result<Value, LineFault>
-    ensures { GivesJson result (json_of text.now) }
+    ensures { MatchesUnlessMemory lacks_memory (viewed result) (json_of text.now) }
 {
     match Value::from_str(alloc, text) {
         Ok(value) => Ok(value),

@@ -1,13 +1,14 @@
 //! What each word of `do` asks for.
-ghost use Rattle.std.specs.Prelude.{◌≡◌};
+ghost use Rattle.std.specs.Prelude.{Err};
 ghost use Rattle.serde_json.specs.View.{view};
-ghost use Rattle.command_lines.specs.Answers.{Gives, IsUnlessMemory};
+ghost use Rattle.scene_parts.specs.Answers.{MatchesUnlessMemory};
+ghost use Rattle.command_lines.specs.Answers.{lacks_memory};
 ghost use Rattle.command_lines.specs.Words.{source_of, barrier_of, building_of, zone_of, receiver_of, grid_of, set_of, removal_of, part_of, checked_edit, asked as asked_of};
 
 use super::commands::Command;
 use super::faults::LineFault;
 use super::fields::{
-    needed, optional_whole, optional_word, part_name, plain_name, points, powers, whole, word,
+    bytes_of, needed, optional_whole, optional_word, part_name, plain_name, points, powers, whole, word,
 };
 use scene_book::Edit;
 use scene_parts::{Field, RawPart, Word, check};
@@ -17,7 +18,7 @@ use std::alloc::Global;
 /// The command that a word of `do` asks for with the fields of its line.
 #[tactic(auto, unfolding(crate::specs::Words::asked))]
 pub fn asked(alloc: Global, word: &str, line: &Value) -> Result<Command, LineFault>
-    ensures { Gives result (asked_of word.now (view line.now)) }
+    ensures { MatchesUnlessMemory lacks_memory result (asked_of word.now (view line.now)) }
 {
     match word {
         "settle" => Ok(Command::Settle),
@@ -30,7 +31,7 @@ pub fn asked(alloc: Global, word: &str, line: &Value) -> Result<Command, LineFau
 /// What a line gives for its word.
 #[tactic(auto, unfolding(crate::specs::Words::part_of))]
 fn part(alloc: Global, word: &str, line: &Value) -> Result<RawPart, LineFault>
-    ensures { Gives result (part_of word.now (view line.now)) }
+    ensures { MatchesUnlessMemory lacks_memory result (part_of word.now (view line.now)) }
 {
     match word {
         "source" => source(alloc, line),
@@ -40,33 +41,30 @@ fn part(alloc: Global, word: &str, line: &Value) -> Result<RawPart, LineFault>
         "receiver" => receiver(alloc, line),
         "grid" => grid(alloc, line),
         "set" => setting(alloc, line),
-        other => Err(unknown(alloc, other)),
+        other => unknown(alloc, other),
     }
 }
 
 /// That there is no such word.
-fn unknown(alloc: Global, word: &str) -> LineFault
-    ensures { IsUnlessMemory result (LineFault.UnknownDo word.now) }
+fn unknown(alloc: Global, word: &str) -> Result<RawPart, LineFault>
+    ensures { MatchesUnlessMemory lacks_memory result (Err (LineFault.UnknownDo word.now)) }
 {
-    match word.as_bytes().to_vec(alloc) {
-        Ok(bytes) => LineFault::UnknownDo {
-            word: Word::from_vec(bytes),
-        },
-        Err(_) => LineFault::NoMemory,
-    }
+    Err(LineFault::UnknownDo {
+        word: Word::from_vec(bytes_of(alloc, word)?),
+    })
 }
 
 /// The edit of what a line gives, where it is in its ranges.
 #[tactic(auto, unfolding(crate::specs::Words::checked_edit))]
 fn checked(alloc: Global, part: RawPart) -> Result<Command, LineFault>
-    ensures { Gives result (checked_edit part) }
+    ensures { MatchesUnlessMemory lacks_memory result (checked_edit part) }
 {
     Ok(Command::Edit(Edit::from(check(alloc, part)?)))
 }
 
 #[tactic(auto, unfolding(crate::specs::Fields::with_fields, crate::specs::Words::source_of))]
 fn source(alloc: Global, line: &Value) -> Result<RawPart, LineFault>
-    ensures { Gives result (source_of (view line.now)) }
+    ensures { MatchesUnlessMemory lacks_memory result (source_of (view line.now)) }
 {
     let name = needed(line, Field::Name)?;
     let kind = needed(line, Field::Kind)?;
@@ -87,7 +85,7 @@ fn source(alloc: Global, line: &Value) -> Result<RawPart, LineFault>
 
 #[tactic(auto, unfolding(crate::specs::Fields::with_fields, crate::specs::Words::barrier_of))]
 fn barrier(alloc: Global, line: &Value) -> Result<RawPart, LineFault>
-    ensures { Gives result (barrier_of (view line.now)) }
+    ensures { MatchesUnlessMemory lacks_memory result (barrier_of (view line.now)) }
 {
     let name = needed(line, Field::Name)?;
     let corners = needed(line, Field::Points)?;
@@ -104,7 +102,7 @@ fn barrier(alloc: Global, line: &Value) -> Result<RawPart, LineFault>
 
 #[tactic(auto, unfolding(crate::specs::Fields::with_fields, crate::specs::Words::building_of))]
 fn building(alloc: Global, line: &Value) -> Result<RawPart, LineFault>
-    ensures { Gives result (building_of (view line.now)) }
+    ensures { MatchesUnlessMemory lacks_memory result (building_of (view line.now)) }
 {
     let name = needed(line, Field::Name)?;
     let corners = needed(line, Field::Points)?;
@@ -119,7 +117,7 @@ fn building(alloc: Global, line: &Value) -> Result<RawPart, LineFault>
 
 #[tactic(auto, unfolding(crate::specs::Fields::with_fields, crate::specs::Words::zone_of))]
 fn zone(alloc: Global, line: &Value) -> Result<RawPart, LineFault>
-    ensures { Gives result (zone_of (view line.now)) }
+    ensures { MatchesUnlessMemory lacks_memory result (zone_of (view line.now)) }
 {
     let name = needed(line, Field::Name)?;
     let corners = needed(line, Field::Points)?;
@@ -133,7 +131,7 @@ fn zone(alloc: Global, line: &Value) -> Result<RawPart, LineFault>
 
 #[tactic(auto, unfolding(crate::specs::Fields::with_fields, crate::specs::Words::receiver_of))]
 fn receiver(alloc: Global, line: &Value) -> Result<RawPart, LineFault>
-    ensures { Gives result (receiver_of (view line.now)) }
+    ensures { MatchesUnlessMemory lacks_memory result (receiver_of (view line.now)) }
 {
     let name = needed(line, Field::Name)?;
     let x = needed(line, Field::X)?;
@@ -149,7 +147,7 @@ fn receiver(alloc: Global, line: &Value) -> Result<RawPart, LineFault>
 
 #[tactic(auto, unfolding(crate::specs::Fields::with_fields, crate::specs::Words::grid_of))]
 fn grid(alloc: Global, line: &Value) -> Result<RawPart, LineFault>
-    ensures { Gives result (grid_of (view line.now)) }
+    ensures { MatchesUnlessMemory lacks_memory result (grid_of (view line.now)) }
 {
     let name = needed(line, Field::Name)?;
     let x = needed(line, Field::X)?;
@@ -171,7 +169,7 @@ fn grid(alloc: Global, line: &Value) -> Result<RawPart, LineFault>
 
 #[tactic(auto, unfolding(crate::specs::Fields::with_fields, crate::specs::Words::set_of))]
 fn setting(alloc: Global, line: &Value) -> Result<RawPart, LineFault>
-    ensures { Gives result (set_of (view line.now)) }
+    ensures { MatchesUnlessMemory lacks_memory result (set_of (view line.now)) }
 {
     Ok(RawPart::Set {
         reach: optional_whole(line, Field::Reach)?,
@@ -184,7 +182,7 @@ fn setting(alloc: Global, line: &Value) -> Result<RawPart, LineFault>
 /// The removal of the part of a name.
 #[tactic(auto, unfolding(crate::specs::Fields::with_fields, crate::specs::Words::removal_of))]
 fn removal(alloc: Global, line: &Value) -> Result<Command, LineFault>
-    ensures { Gives result (removal_of (view line.now)) }
+    ensures { MatchesUnlessMemory lacks_memory result (removal_of (view line.now)) }
 {
     let name = needed(line, Field::Name)?;
     Ok(Command::Edit(Edit::Remove(part_name(alloc, Field::Name, name)?)))

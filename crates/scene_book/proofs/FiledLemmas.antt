@@ -1,19 +1,16 @@
 -- Things filed under their names: the entries of a map and the list of its values.
-use Rattle.std.proofs.Common.{◌≡◌, ℕ, refl, sym, ◌∙◌, ap, Bool, true, false, cond, List, [], ◌∷◌}
+use Rattle.std.proofs.Common.{◌≡◌, ℕ, refl, sym, ◌∙◌, ap, Bool, true, false, cond, List, [], ◌∷◌, ◌++◌}
 use Rattle.std.specs.Prelude.{bytes_eq, Option, Vec}
 use Rattle.std.specs.List.{IsDistinct, AllByRecursion}
 use Rattle.std.specs.Map.{keys_of, lookup, values_of, remove_entry}
 use Rattle.std.specs.declared.alloc.Global.{Global}
 use Rattle.std.proofs.lemmas.Slice.Eq.{bytes_eq-Decides}
-use Rattle.indexmap.specs.IndexMap.{insert_entry}
-use Rattle.scene_book.specs.Lists.{named, put_in, take_out, NoneNamed, AreApart}
-use Rattle.scene_book.specs.Filed.{AreFiled}
+use Rattle.indexmap.specs.IndexMap.{insert_entry, insert_all}
+use Rattle.scene_book.specs.Lists.{named, put_in, put_all, take_out, NoneNamed, AreApart}
+use Rattle.scene_book.specs.Filed.{AreFiled, same_key}
 
 abbrev pub is_key : List ℕ → Vec ℕ Global → Bool
 is_key name key = bytes_eq name key.items
-
-abbrev pub same_key : Vec ℕ Global → Vec ℕ Global → Bool
-same_key a b = bytes_eq a.items b.items
 
 module _ {T : Type 0} (name_of : T → List ℕ) where
   pub named-lookup : (name : List ℕ) (es : List (Vec ℕ Global × T)) → AreFiled name_of es → lookup (is_key name) es ≡ named name_of name (values_of es)
@@ -74,3 +71,27 @@ module _ {T : Type 0} (name_of : T → List ℕ) where
   unfolding IsDistinct
   apart [] d h = tt
   apart (e ∷ es) d h = (none_named e.0 e.1 es h.0 d.0 h.1, apart es d.1 h.1)
+
+  -- entries inserted one after another
+  pub all-filed : (news es : List (Vec ℕ Global × T)) → AreFiled name_of news → AreFiled name_of es
+      → AreFiled name_of (insert_all same_key es news)
+  all-filed [] es n h = h
+  all-filed (e ∷ news) es n h =
+      all-filed news (insert_entry same_key es e.0 e.1) n.1 (put-filed e.0 e.1 es n.0 h)
+
+  pub all-values : (news es : List (Vec ℕ Global × T)) → AreFiled name_of news → AreFiled name_of es
+      → values_of (insert_all same_key es news) ≡ put_all name_of (values_of news) (values_of es)
+  all-values [] es n h = refl
+  all-values (e ∷ news) es n h =
+      all-values news (insert_entry same_key es e.0 e.1) n.1 (put-filed e.0 e.1 es n.0 h)
+      ∙ ap (put_all name_of (values_of news)) (put-values e.0 e.1 es n.0 h)
+
+  pub filed-push : (es : List (Vec ℕ Global × T)) (key : Vec ℕ Global) (thing : T) → key.items ≡ name_of thing
+      → AreFiled name_of es → AreFiled name_of (es ++ (key, thing) ∷ [])
+  filed-push [] key thing k h = (k, tt)
+  filed-push (e ∷ es) key thing k h = (h.0, filed-push es key thing k h.1)
+
+  pub values-push : (es : List (Vec ℕ Global × T)) (key : Vec ℕ Global) (thing : T) (rest : List T)
+      → values_of (es ++ (key, thing) ∷ []) ++ rest ≡ values_of es ++ thing ∷ rest
+  values-push [] key thing rest = refl
+  values-push (e ∷ es) key thing rest = ap (λ (l : List T). e.1 ∷ l) (values-push es key thing rest)

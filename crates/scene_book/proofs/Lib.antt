@@ -1,3 +1,4 @@
 pub mod FiledLemmas
 pub mod ListLemmas
 pub mod GridLemmas
+pub mod EditLemmas

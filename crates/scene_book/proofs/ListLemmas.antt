@@ -1,7 +1,7 @@
 -- Lists of named things after a put or a take: their lengths and the sums over them.
 use Rattle.std.proofs.lemmas.Slice.Eq.{bytes_eq-Decides}
-use Rattle.std.proofs.Common.{subst, ◌∙◌, ◌++◌, append_assoc, append-nil, ◌≡◌, ℕ, suc, ◌+◌, ◌≤◌, refl, sym, ap, Bool, true, false, cond, List, [], ◌∷◌, length, arith}
-use Rattle.std.specs.Prelude.{bytes_eq, Option, Some, None}
+use Rattle.std.proofs.Common.{subst, ◌∙◌, ◌++◌, append_assoc, append-nil, ◌≡◌, ℕ, suc, ◌+◌, ◌≤◌, refl, sym, ap, Bool, true, false, cond, List, [], ◌∷◌, length, drop, drop-cons, get_or, add-one, ◌<◌, arith}
+use Rattle.std.specs.Prelude.{bytes_eq, Option, Some, None, is_some, if◌then◌else◌}
 use Rattle.scene_book.specs.Lists.{named, put_in, take_out, put_all, total, NoneNamed, AreApart}
 
 module _ {A : Type 0} (name_of : A → List ℕ) where
@@ -106,3 +106,68 @@ module _ {A : Type 0} (name_of : A → List ℕ) where
   -- things with names of their own, put one after another, are these things
   pub put_all-apart : (things : List A) → AreApart name_of things → put_all name_of things [] ≡ things
   put_all-apart things h = put_all-end things [] h
+
+module _ {A : Type 0} (name_of : A → List ℕ) where
+  -- how many of these things bear names that aren't there
+  abbrev pub absent : List A → List A → ℕ
+  absent [] things = 0
+  absent (new ∷ news) things =
+      (if is_some (named name_of (name_of new) things) then 0 else 1) + absent news things
+
+  behind : (name : List ℕ) (new x : A) (xs : List A) (c : Bool)
+      → is_some (named name_of name (put_in name_of new xs)) ≡ is_some (named name_of name xs)
+      → is_some (cond c (Some x) (named name_of name (put_in name_of new xs)))
+      ≡ is_some (cond c (Some x) (named name_of name xs))
+  behind name new x xs true ih = refl
+  behind name new x xs false ih = ih
+
+  hides-none : (name : List ℕ) (new x : A) (xs : List A) (b : Bool) → (b ≡ true → name_of new ≡ name_of x)
+      → bytes_eq name (name_of new) ≡ false
+      → is_some (named name_of name (put_in name_of new xs)) ≡ is_some (named name_of name xs)
+      → is_some (named name_of name (cond b (new ∷ xs) (x ∷ put_in name_of new xs)))
+      ≡ is_some (named name_of name (x ∷ xs))
+  hides-none name new x xs true same e ih = rw (e, ← same refl, e) refl
+  hides-none name new x xs false same e ih = behind name new x xs (bytes_eq name (name_of x)) ih
+
+  -- a put hides and shows no other name
+  other-named : (name : List ℕ) (new : A) (xs : List A) → bytes_eq name (name_of new) ≡ false
+      → is_some (named name_of name (put_in name_of new xs)) ≡ is_some (named name_of name xs)
+  other-named name new [] e = rw e refl
+  other-named name new (x ∷ xs) e =
+      hides-none name new x xs (bytes_eq (name_of new) (name_of x)) (bytes_eq-Decides (name_of new) (name_of x)).0 e
+      (other-named name new xs e)
+
+  still-absent : (news : List A) (new : A) (xs : List A) → NoneNamed name_of (name_of new) news
+      → absent news (put_in name_of new xs) ≡ absent news xs
+  still-absent [] new xs h = refl
+  still-absent (n ∷ news) new xs h =
+      rw (other-named (name_of n) new xs (other_way (name_of new) (name_of n) h.0), still-absent news new xs h.1) refl
+
+  pub length_put_in : (new : A) (xs : List A)
+      → length (put_in name_of new xs) ≡ length xs + (if is_some (named name_of (name_of new) xs) then 0 else 1)
+  length_put_in new xs = by (named name_of (name_of new) xs) refl
+    where
+      by : (found : Option A) → named name_of (name_of new) xs ≡ found
+          → length (put_in name_of new xs) ≡ length xs + (if is_some found then 0 else 1)
+      by (Some old) h = omega (arith, length-put_in-there name_of new old xs h)
+      by None h = omega (arith, length-put_in-new name_of new xs h)
+
+  -- a list after its puts is as long as before and the names that weren't there
+  pub length-put_all : (news xs : List A) → AreApart name_of news
+      → length (put_all name_of news xs) ≡ length xs + absent news xs
+  length-put_all [] xs h = omega arith
+  length-put_all (new ∷ news) xs h = omega (
+      arith,
+      length-put_all news (put_in name_of new xs) h.1,
+      still-absent news new xs h.0,
+      length_put_in new xs,
+    )
+
+  pub absent-step : (news xs : List A) (i : ℕ) (d : A) → i < length news
+      → absent (drop i news) xs
+      ≡ (if is_some (named name_of (name_of (get_or news i d)) xs) then 0 else 1) + absent (drop (i + 1) news) xs
+  absent-step news xs i d h = rw (drop-cons news i d h, add-one) refl
+
+pub empty : {A : Type 0} (xs : List A) → length xs ≡ 0 → xs ≡ []
+empty [] h = refl
+empty (x ∷ xs) h = absurd (omega (arith, h))

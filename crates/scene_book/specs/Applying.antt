@@ -1,5 +1,5 @@
 -- What an edit makes of a scene.
-use Rattle.std.specs.Prelude.{◌≡◌, ℕ, ◌*◌, List, [], ◌∷◌, length, nat_lt, ◌==◌, Bool, Option, Some, None, option_map, Result, Ok, Err, if◌then◌else◌}
+use Rattle.std.specs.Prelude.{◌≡◌, ℕ, ◌*◌, List, [], ◌∷◌, length, nat_lt, ◌==◌, Bool, true, false, Option, Some, None, option_map, Result, Ok, Err, if◌then◌else◌}
 use Rattle.scene_parts.specs.Views.{Source, Obstacle, Zone, Receiver, Globals, Grid, Setting}
 use Rattle.scene_parts.specs.declared.parts.Part.{Part}
 use Rattle.scene_parts.specs.declared.parts.Part.TheVariants as parts
@@ -11,6 +11,9 @@ use Rattle.scene_book.specs.declared.edits.Edit.{Edit}
 use Rattle.scene_book.specs.declared.edits.Edit.TheVariants as edits
 use Rattle.scene_book.specs.declared.edits.EditFault.{EditFault}
 use Rattle.scene_book.specs.declared.edits.EditFault.TheVariants.{NoMemory, NoSuchName, OtherClass, Full}
+use Rattle.std.specs.Option.{option_or}
+use Rattle.scene_parts.specs.Answers.{◌>>◌}
+use Rattle.scene_book.specs.Limits.{most_sources, most_obstacles, most_sides, most_zones, most_receivers}
 use Rattle.scene_book.specs.Lists.{named, put_in, take_out, put_all}
 use Rattle.scene_book.specs.Book.{Book, side_total, globals_with}
 use Rattle.scene_book.specs.Grid.{receivers_of}
@@ -35,17 +38,12 @@ class_number classes.Receiver = 4
 class_number classes.Obstacle = 5
 class_number classes.Side = 6
 
--- the first of two finds
-abbrev pub first_of_two : Option Part → Option Part → Option Part
-first_of_two (Some part) other = Some part
-first_of_two None other = other
-
 -- the part that bears a name
-abbrev pub held : Book → List ℕ → Option Part
-held book name =
-    first_of_two (option_map parts.Source (named (λ s. s.name) name book.sources))
-    (first_of_two (option_map parts.Obstacle (named (λ o. o.name) name book.obstacles))
-    (first_of_two (option_map parts.Zone (named (λ z. z.name) name book.zones))
+abbrev pub part_named : Book → List ℕ → Option Part
+part_named book name =
+    option_or (option_map parts.Source (named (λ s. s.name) name book.sources))
+    (option_or (option_map parts.Obstacle (named (λ o. o.name) name book.obstacles))
+    (option_or (option_map parts.Zone (named (λ z. z.name) name book.zones))
     (option_map parts.Receiver (named (λ r. r.name) name book.receivers))))
 
 abbrev pub name_of : Part → List ℕ
@@ -57,22 +55,15 @@ name_of (parts.Receiver receiver) = receiver.name
 abbrev pub same_class : Class → Class → Bool
 same_class a b = class_number a == class_number b
 
-infixl 10 ◌>>◌
-abbrev pub ◌>>◌ : {A : Type 0} → Result (Unit {0}) EditFault → Result A EditFault → Result A EditFault
-(Ok done) >> next = next
-(Err fault) >> next = Err fault
+-- the fault that there was no memory
+abbrev pub lacks_memory : EditFault → Bool
+lacks_memory NoMemory = true
+lacks_memory fault = false
 
--- an answer is what is said of the scene and the old part, unless memory runs out
-abbrev pub Gives : Book → Result (Option Part) EditFault → Result (Book × Option Part) EditFault → Type 0
-Gives after (Ok old) said = said ≡ Ok (after, old)
-Gives after (Err NoMemory) said = Unit {0}
-Gives after (Err fault) said = said ≡ Err fault
-
--- the same of a test
-abbrev pub Tests : Result (Unit {0}) EditFault → Result (Unit {0}) EditFault → Type 0
-Tests (Ok done) said = said ≡ Ok tt
-Tests (Err NoMemory) said = Unit {0}
-Tests (Err fault) said = said ≡ Err fault
+-- the scene as it is left, beside the old part that an edit answers
+abbrev pub beside : {A : Type 0} → Book → Result A EditFault → Result (Book × A) EditFault
+beside after (Ok old) = Ok (after, old)
+beside after (Err fault) = Err fault
 
 -- OtherClass: the name is borne by a part of another class
 abbrev pub own_class : List ℕ → Class → Option Class → Result (Unit {0}) EditFault
@@ -80,7 +71,7 @@ own_class name class None = Ok tt
 own_class name class (Some holder) = if same_class class holder then Ok tt else Err (OtherClass name holder)
 
 abbrev pub holder : Book → List ℕ → Option Class
-holder book name = option_map class_of (held book name)
+holder book name = option_map class_of (part_named book name)
 
 -- Full: more than the limit
 abbrev pub at_most : Class → ℕ → ℕ → Result (Unit {0}) EditFault
@@ -95,10 +86,12 @@ with_part (parts.Receiver receiver) book = record book { receivers = put_in (λ 
 
 -- the limits of a part's class, for an obstacle also that of sides
 abbrev pub in_limits : Part → Book → Result (Unit {0}) EditFault
-in_limits (parts.Source source) book = at_most classes.Source 128 (length book.sources)
-in_limits (parts.Obstacle obstacle) book = at_most classes.Obstacle 4096 (length book.obstacles) >> at_most classes.Side 16384 (side_total book.obstacles)
-in_limits (parts.Zone zone) book = at_most classes.Zone 1024 (length book.zones)
-in_limits (parts.Receiver receiver) book = at_most classes.Receiver 4096 (length book.receivers)
+in_limits (parts.Source source) book = at_most classes.Source most_sources (length book.sources)
+in_limits (parts.Obstacle obstacle) book =
+    at_most classes.Obstacle most_obstacles (length book.obstacles)
+    >> at_most classes.Side most_sides (side_total book.obstacles)
+in_limits (parts.Zone zone) book = at_most classes.Zone most_zones (length book.zones)
+in_limits (parts.Receiver receiver) book = at_most classes.Receiver most_receivers (length book.receivers)
 
 -- the part of a part's own list that it replaces
 abbrev pub replaced : Part → Book → Option Part
@@ -107,10 +100,13 @@ replaced (parts.Obstacle obstacle) book = option_map parts.Obstacle (named (λ o
 replaced (parts.Zone zone) book = option_map parts.Zone (named (λ z. z.name) zone.name book.zones)
 replaced (parts.Receiver receiver) book = option_map parts.Receiver (named (λ r. r.name) receiver.name book.receivers)
 
+-- a part put where its class has room, and the one that it replaces
+unfoldable pub put_where_room : Part → Book → Result (Book × Option Part) EditFault
+put_where_room part book = in_limits part (with_part part book) >> Ok (with_part part book, replaced part book)
+
 unfoldable pub put_of : Part → Book → Result (Book × Option Part) EditFault
 put_of part book =
-    own_class (name_of part) (class_of part) (holder book (name_of part))
-    >> (in_limits part (with_part part book) >> Ok (with_part part book, replaced part book))
+    own_class (name_of part) (class_of part) (holder book (name_of part)) >> put_where_room part book
 
 -- a part's list without the part of a name
 abbrev pub without : List ℕ → Part → Book → Book
@@ -119,12 +115,17 @@ without name (parts.Obstacle obstacle) book = record book { obstacles = take_out
 without name (parts.Zone zone) book = record book { zones = take_out (λ z. z.name) name book.zones }
 without name (parts.Receiver receiver) book = record book { receivers = take_out (λ r. r.name) name book.receivers }
 
+-- the scene without the part of a name, where there is one
+abbrev pub without_any : List ℕ → Option Part → Book → Book
+without_any name None book = book
+without_any name (Some part) book = without name part book
+
 abbrev pub taken : List ℕ → Option Part → Book → Result (Book × Option Part) EditFault
 taken name None book = Err (NoSuchName name)
 taken name (Some part) book = Ok (without name part book, Some part)
 
 unfoldable pub remove_of : List ℕ → Book → Result (Book × Option Part) EditFault
-remove_of name book = taken name (held book name) book
+remove_of name book = taken name (part_named book name) book
 
 -- no name of these receivers is borne by a part of another class
 abbrev pub all_own : Book → List Receiver → Result (Unit {0}) EditFault
@@ -135,12 +136,19 @@ all_own book (receiver ∷ receivers) =
 abbrev pub with_receivers : Book → List Receiver → Book
 with_receivers book receivers = record book { receivers = receivers }
 
--- the receivers of a grid put one after another. A grid of more than 4,096 receivers is Full, whatever is held
+-- these receivers put one after another, or Full
+unfoldable pub put_receivers : List Receiver → Book → Result (Book × Unit {0}) EditFault
+put_receivers news book =
+    at_most classes.Receiver most_receivers (length (put_all (λ r. r.name) news book.receivers))
+    >> Ok (with_receivers book (put_all (λ r. r.name) news book.receivers), tt)
+
+-- the receivers of a grid put one after another. A grid of more receivers than a scene holds is Full, whatever the
+-- scene has
 unfoldable pub grid_of : Grid → Book → Result (Book × Option Part) EditFault
 grid_of grid book =
-    at_most classes.Receiver 4096 (grid.columns * grid.rows)
+    at_most classes.Receiver most_receivers (grid.columns * grid.rows)
     >> (all_own book (receivers_of grid)
-    >> (at_most classes.Receiver 4096 (length (put_all (λ r. r.name) (receivers_of grid) book.receivers))
+    >> (at_most classes.Receiver most_receivers (length (put_all (λ r. r.name) (receivers_of grid) book.receivers))
     >> Ok (with_receivers book (put_all (λ r. r.name) (receivers_of grid) book.receivers), None)))
 
 abbrev pub set_of : Setting → Book → Result (Book × Option Part) EditFault

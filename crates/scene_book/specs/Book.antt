@@ -1,6 +1,8 @@
 -- Scenes: the parts of each class in the order of insertion, and what holds of the whole scene.
 use Rattle.std.specs.Prelude.{◌≡◌, ℕ, ◌≤◌, List, [], length, unwrap_or}
-use Rattle.scene_book.specs.Lists.{total}
+use Rattle.scene_book.specs.Lists.{total, AreApart}
+use Rattle.scene_book.specs.Limits.{most_sources, most_obstacles, most_sides, most_zones, most_receivers}
+use Rattle.scene_parts.specs.Limits.{farthest_reach}
 use Rattle.scene_parts.specs.Views.{Source, Obstacle, Zone, Receiver, Globals, Setting}
 use Rattle.scene_parts.specs.Sides.{sides_of}
 use Rattle.scene_parts.specs.declared.kinds.Air.TheVariants.{Celsius10Humidity70}
@@ -14,7 +16,7 @@ pub record Book : Type 0 where
 
 -- a scene without parts: sources reach 4 km, the ground is hard, the air has 10 °C and 70 %, and C0 is 0
 abbrev pub default_globals : Globals
-default_globals = record { reach = 4000000; g = 0; air = Celsius10Humidity70; c0 = 0 }
+default_globals = record { reach = farthest_reach; g = 0; air = Celsius10Humidity70; c0 = 0 }
 
 abbrev pub empty_book : Book
 empty_book = record { sources = []; obstacles = []; zones = []; receivers = []; globals = default_globals }
@@ -34,13 +36,21 @@ globals_with setting globals = record {
 
 -- what every scene keeps: the limits
 pub record IsWithin (book : Book) : Type 0 where
-  pub sources : length book.sources ≤ 128
-  pub obstacles : length book.obstacles ≤ 4096
-  pub sides : side_total book.obstacles ≤ 16384
-  pub zones : length book.zones ≤ 1024
-  pub receivers : length book.receivers ≤ 4096
+  pub sources : length book.sources ≤ most_sources
+  pub obstacles : length book.obstacles ≤ most_obstacles
+  pub sides : side_total book.obstacles ≤ most_sides
+  pub zones : length book.zones ≤ most_zones
+  pub receivers : length book.receivers ≤ most_receivers
+
+-- and in each list names that are apart: no two parts of it bear one name
+pub record NamesAreApart (book : Book) : Type 0 where
+  pub sources : AreApart (λ s. s.name) book.sources
+  pub obstacles : AreApart (λ o. o.name) book.obstacles
+  pub zones : AreApart (λ z. z.name) book.zones
+  pub receivers : AreApart (λ r. r.name) book.receivers
 
 -- and the count of sides that it keeps
 pub record IsKept (sides : ℕ) (book : Book) : Type 0 where
   pub count : sides ≡ side_total book.obstacles
   pub within : IsWithin book
+  pub apart : NamesAreApart book

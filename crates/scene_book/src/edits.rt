@@ -1,6 +1,5 @@
 //! Edits of a scene, and why one is refused.
-use scene_parts::{Checked, Class, GridSpec, Name, Part, SetSpec};
-use std::alloc::{AllocError, AllocFailed};
+use scene_parts::{Checked, Class, GridSpec, Name, NoMemory, Part, SetSpec};
 
 /// An edit of a scene.
 #[derive(Debug, Drop)]
@@ -51,24 +50,13 @@ impl From<Checked> for Edit {
     }
 }
 
-impl From<AllocError> for EditFault {
+impl From<NoMemory> for EditFault {
     ghost use Rattle.std.specs.Prelude.{◌≡◌};
-    ghost use Rattle.scene_book.specs.declared.edits.EditFault.TheVariants.{NoMemory};
+    ghost use Rattle.scene_book.specs.declared.edits.EditFault.TheVariants as faults;
 
-    ghost from_gives = { λ _ e. e ≡ NoMemory };
+    ghost from_gives = { λ _ e. e ≡ faults.NoMemory };
 
-    fn from(_error: AllocError) -> EditFault {
-        EditFault::NoMemory
-    }
-}
-
-impl<T: Drop> From<AllocFailed<T>> for EditFault {
-    ghost use Rattle.std.specs.Prelude.{◌≡◌};
-    ghost use Rattle.scene_book.specs.declared.edits.EditFault.TheVariants.{NoMemory};
-
-    ghost from_gives = { λ _ e. e ≡ NoMemory };
-
-    fn from(_error: AllocFailed<T>) -> EditFault {
+    fn from(_want: NoMemory) -> EditFault {
         EditFault::NoMemory
     }
 }

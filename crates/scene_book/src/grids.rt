@@ -1,17 +1,20 @@
 //! The receivers of grids.
 ghost use Rattle.std.specs.Prelude.{◌≡◌, ◌+◌, ◌-◌, ◌*◌, ◌<◌, ◌≤◌, ◌++◌, pos, ◌+ℤ◌, ◌≤ℤ◌, IfOk, OnOk};
 ghost use Rattle.scene_geom.specs.Plan.{InPlan};
+ghost use Rattle.scene_parts.specs.Limits.{widest_step, most_columns, plan_end};
 ghost use Rattle.scene_parts.specs.Names.{IsName};
 ghost use Rattle.scene_parts.specs.Ranges.{last_place};
+ghost use Rattle.scene_book.specs.Lists.{AreApart};
 ghost use Rattle.scene_book.specs.Grid.{name_in, receiver_at, columns_from, receivers_of};
 
 use scene_geom::Pt;
-use scene_parts::{GridSpec, Name, Receiver};
-use std::alloc::{AllocError, Global};
+use scene_parts::{GridSpec, Name, NoMemory, Receiver};
+use std::alloc::Global;
 
 /// The receivers of a grid, row by row.
-pub(crate) fn receivers(alloc: Global, grid: &GridSpec) -> Result<Vec<Receiver>, AllocError>
-    ensures { IfOk result (λ receivers. receivers.items ≡ receivers_of grid.now) }
+pub(crate) fn receivers(alloc: Global, grid: &GridSpec) -> Result<Vec<Receiver>, NoMemory>
+    ensures value { IfOk result (λ receivers. receivers.items ≡ receivers_of grid.now) }
+    ensures apart { IfOk result (λ receivers. AreApart (λ r. r.name) receivers.items) }
 {
     let mut receivers = Vec::new(alloc);
     for row in 0..grid.rows {
@@ -26,9 +29,12 @@ fn add_row(
     grid: &GridSpec,
     row: u32,
     receivers: &mut Vec<Receiver>,
-) -> Result<(), AllocError>
+) -> Result<(), NoMemory>
     requires { row < grid.now.rows }
-    ensures { OnOk result (receivers.new.items ≡ receivers.old.items ++ columns_from grid.now row 0 grid.now.columns) }
+    ensures {
+        OnOk result
+            (receivers.new.items ≡ receivers.old.items ++ columns_from grid.now row 0 grid.now.columns)
+    }
 {
     for column in 0..grid.columns {
         let receiver = receiver(alloc, grid, row, column)?;
@@ -38,7 +44,7 @@ fn add_row(
 }
 
 /// The receiver of a row and a column, both from 0.
-fn receiver(alloc: Global, grid: &GridSpec, row: u32, column: u32) -> Result<Receiver, AllocError>
+fn receiver(alloc: Global, grid: &GridSpec, row: u32, column: u32) -> Result<Receiver, NoMemory>
     requires row { row < grid.now.rows }
     requires column { column < grid.now.columns }
     ensures { IfOk result (λ receiver. receiver ≡ receiver_at grid.now row column) }
@@ -56,10 +62,10 @@ fn receiver(alloc: Global, grid: &GridSpec, row: u32, column: u32) -> Result<Rec
 /// A coordinate of a grid, in mm.
 fn along(start: i32, step: u32, index: u32, count: u32) -> i64
     requires start { InPlan start }
-    requires step { step ≤ 1000000 }
+    requires step { step ≤ widest_step }
     requires index { index < count }
-    requires count { count ≤ 4096 }
-    requires last { last_place start step count ≤ℤ pos 4000000 }
+    requires count { count ≤ most_columns }
+    requires last { last_place start step count ≤ℤ pos plan_end }
     ensures value { result ≡ start +ℤ pos (step * index) }
     ensures in_plan { InPlan result }
 {
@@ -67,10 +73,10 @@ fn along(start: i32, step: u32, index: u32, count: u32) -> i64
 }
 
 /// The name of a receiver of a grid.
-fn name_at(alloc: Global, name: &[u8], row: u32, column: u32) -> Result<Name, AllocError>
+fn name_at(alloc: Global, name: &[u8], row: u32, column: u32) -> Result<Name, NoMemory>
     requires name { IsName name.now }
-    requires row { row < 4096 }
-    requires column { column < 4096 }
+    requires row { row < most_columns }
+    requires column { column < most_columns }
     ensures { IfOk result (λ made. made ≡ name_in name.now row column) }
 {
     let mut bytes = name.to_vec(alloc)?;

@@ -3,8 +3,10 @@
 
 mod applying;
 mod edits;
+mod filing;
 mod grids;
-mod limits;
+pub mod laws;
+pub mod limits;
 mod named;
 mod register;
 mod scene;
@@ -13,3 +15,4 @@ mod tests;
 
 pub use edits::{Edit, EditFault, Logged};
 pub use scene::Scene;
+pub use scene_parts::NoMemory;

@@ -1,9 +1,24 @@
-//! Limits and classes.
+//! How many parts a scene holds, and the classes that count them.
 ghost use Rattle.std.specs.Prelude.{◌≡◌, ◌≤◌, OnOk};
 ghost use Rattle.scene_book.specs.Applying.{at_most as at_most_of, same_class as same_class_of, class_number as class_number_of};
 
 use super::edits::EditFault;
 use scene_parts::Class;
+
+/// The sources of a scene.
+pub const MOST_SOURCES: u32 = 128;
+
+/// The barriers and buildings of a scene together.
+pub const MOST_OBSTACLES: u32 = 4096;
+
+/// Their sides together.
+pub const MOST_SIDES: u32 = 16384;
+
+/// The zones of a scene.
+pub const MOST_ZONES: u32 = 1024;
+
+/// The receivers of a scene.
+pub const MOST_RECEIVERS: u32 = 4096;
 
 /// At most so many, or `Full`.
 pub(crate) fn at_most(class: Class, limit: u32, count: usize) -> Result<(), EditFault>

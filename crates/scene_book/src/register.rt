@@ -1,22 +1,38 @@
-//! Named things in the order of insertion, found by name without a scan.
-ghost use Rattle.std.specs.Prelude.{◌≡◌, List, [], ℕ, ◌+◌, ◌<◌, ◌^◌, length, IfOk, IfNone, OnOk, OnErr};
+//! Things of one class in the order of insertion, found by name without a scan.
+ghost use Rattle.std.specs.Prelude.{◌≡◌, ◌≤◌, List, [], ℕ, ◌+◌, ◌<◌, ◌^◌, length, IfOk, IfNone, OnOk, OnErr, is_some};
 ghost use Rattle.std.specs.Option.{option_copied};
+ghost use Rattle.scene_parts.specs.declared.kinds.Class.{Class as ClassWord};
+ghost use Rattle.scene_book.specs.Applying.{at_most as at_most_of};
 ghost use Rattle.scene_book.specs.Lists.{named, put_in, take_out, put_all, AreApart};
 
+use super::edits::EditFault;
+use super::filing::{filed, insert_all, key_of};
+use super::limits::at_most;
 use indexmap::IndexMap;
-use std::alloc::{AllocError, Global};
+use scene_parts::{Class, NoMemory};
+use std::alloc::Global;
 use std::marker::Model;
 
-/// What bears a name.
+/// What bears a name and stands in a list of its class.
 pub trait Named: Drop {
     ghost name_of: { Self → List ℕ };
+
+    ghost CLASS: { ClassWord };
+
+    ghost MOST: { ℕ };
+
+    /// The class that `Full` names where there are too many.
+    const CLASS: Class;
+
+    /// How many there may be.
+    const MOST: u32;
 
     /// The bytes of the name.
     fn name(&self) -> &[u8]
         ensures { result.now ≡ name_of self.now };
 
     /// The same again.
-    fn copy(&self) -> Result<Self, AllocError>
+    fn copy(&self) -> Result<Self, NoMemory>
         ensures { IfOk result (λ copied. copied ≡ self.now) };
 }
 
@@ -67,61 +83,122 @@ impl<T: Named> Register<T> {
         self.things.get(name)
     }
 
-    /// How many things there are.
-    pub fn len(&self) -> usize
+    /// Whether there are few enough once a thing is put, else `Full`.
+    pub fn check_room(&self, new: &T) -> Result<(), EditFault>
+        ensures value {
+            result ≡ at_most_of T.CLASS T.MOST (length (put_in T.name_of new.now self.now))
+        }
+        ensures room { OnOk result (length (put_in T.name_of new.now self.now) ≤ T.MOST) }
+    {
+        at_most(T::CLASS, T::MOST, self.len_with(new))
+    }
+
+    /// The same of things that are put one after another, whose names are apart.
+    pub fn check_room_for_all(&self, news: &[T]) -> Result<(), EditFault>
+        requires apart { AreApart T.name_of news.now }
+        requires few { length news.now < 2 ^ 63 }
+        ensures value {
+            result ≡ at_most_of T.CLASS T.MOST (length (put_all T.name_of news.now self.now))
+        }
+        ensures room { OnOk result (length (put_all T.name_of news.now self.now) ≤ T.MOST) }
+    {
+        at_most(T::CLASS, T::MOST, self.len_with_all(news))
+    }
+
+    /// How many things there are once a thing is put.
+    #[tactic(auto, using(crate::proofs::ListLemmas::length_put_in))]
+    fn len_with(&self, new: &T) -> usize
+        ensures { result ≡ length (put_in T.name_of new.now self.now) }
+    {
+        if self.has(new.name()) {
+            self.len()
+        } else {
+            self.len() + 1
+        }
+    }
+
+    /// How many things there are once these are put: as many as before, and those whose names are new.
+    fn len_with_all(&self, news: &[T]) -> usize
+        requires apart { AreApart T.name_of news.now }
+        requires few { length news.now < 2 ^ 63 }
+        ensures { result ≡ length (put_all T.name_of news.now self.now) }
+    {
+        let mut count = self.len();
+        for new in news {
+            if !self.has(new.name()) {
+                count += 1;
+            }
+        }
+        count
+    }
+
+    fn len(&self) -> usize
         ensures value { result ≡ length self.now }
         ensures fits { result < 2 ^ 63 }
     {
         self.things.len()
     }
 
-    /// How many things there are once a thing is put.
-    pub fn len_with(&self, thing: &T) -> usize
-        ensures { result ≡ length (put_in T.name_of thing.now self.now) }
+    fn has(&self, name: &[u8]) -> bool
+        ensures { result ≡ is_some (named T.name_of name.now self.now) }
     {
-        match self.get(thing.name()) {
-            Some(_) => self.len(),
-            None => self.len() + 1,
-        }
+        self.get(name).is_some()
     }
 
-    /// Puts a thing in the place of the one of its name, else at the end, and gives the one that was there.
-    pub fn put(&mut self, key: Vec<u8>, thing: T) -> Result<Option<T>, AllocError>
+    /// Puts a copy of a thing in the place of the one of its name, else at the end, and gives the one that was there.
+    pub fn put(&mut self, alloc: Global, thing: &T) -> Result<Option<T>, NoMemory>
+        ensures old { IfOk result (λ old. old ≡ named T.name_of (T.name_of thing.now) self.old) }
+        ensures new { OnOk result (self.new ≡ put_in T.name_of thing.now self.old) }
+        ensures apart { OnOk result (AreApart T.name_of self.new) }
+        ensures err { OnErr result (self.new ≡ self.old) }
+    {
+        let key = key_of(alloc, thing)?;
+        let thing = thing.copy()?;
+        self.insert(key, thing)
+    }
+
+    /// Puts a thing under its name.
+    fn insert(&mut self, key: Vec<u8>, thing: T) -> Result<Option<T>, NoMemory>
         requires { key.items ≡ T.name_of thing }
         ensures old { IfOk result (λ old. old ≡ named T.name_of (T.name_of thing) self.old) }
-        ensures new { IfOk result (λ _. self.new ≡ put_in T.name_of thing self.old) }
+        ensures new { OnOk result (self.new ≡ put_in T.name_of thing self.old) }
+        ensures apart { OnOk result (AreApart T.name_of self.new) }
         ensures err { OnErr result (self.new ≡ self.old) }
     {
         Ok(self.things.insert(key, thing)?)
+    }
+
+    /// Puts these things one after another. There is room for all before the first is put.
+    pub fn put_all(&mut self, alloc: Global, news: Vec<T>) -> Result<(), NoMemory>
+        ensures new { OnOk result (self.new ≡ put_all T.name_of news.items self.old) }
+        ensures apart { OnOk result (AreApart T.name_of self.new) }
+        ensures err { OnErr result (self.new ≡ self.old) }
+    {
+        let entries = filed(alloc, news)?;
+        self.things.reserve(entries.len())?;
+        insert_all(&mut self.things, entries);
+        Ok(())
     }
 
     /// Takes out the thing of a name; the others close up.
     pub fn take(&mut self, name: &[u8]) -> Option<T>
         ensures value { result ≡ named T.name_of name.now self.old }
         ensures left { self.new ≡ take_out T.name_of name.now self.old }
+        ensures apart { AreApart T.name_of self.new }
+        ensures fewer { length self.new ≤ length self.old }
         ensures absent { IfNone result (self.new ≡ self.old) }
     {
         self.things.shift_remove(name)
     }
 
-    /// Puts a copy of each of these things, one after another. After an error some may be put.
-    pub fn put_all(&mut self, alloc: Global, things: &[T]) -> Result<(), AllocError>
-        ensures { OnOk result (self.new ≡ put_all T.name_of things.now self.old) }
-    {
-        for thing in things {
-            let key = thing.name().to_vec(alloc)?;
-            let copied = thing.copy()?;
-            self.put(key, copied)?;
-        }
-        Ok(())
-    }
-
     /// The same things again.
-    pub fn copy(&self, alloc: Global) -> Result<Self, AllocError>
+    pub fn copy(&self, alloc: Global) -> Result<Self, NoMemory>
         ensures { IfOk result (λ copied. copied ≡ self.now) }
     {
         let mut copied = Register::new(alloc);
-        copied.put_all(alloc, self.items())?;
+        for thing in self.items() {
+            let _none = copied.put(alloc, thing)?;
+        }
         Ok(copied)
     }
 }

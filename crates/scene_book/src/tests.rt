@@ -2,13 +2,13 @@
 ghost use Rattle.scene_parts.specs.Names.{IsName};
 
 use super::{Edit, EditFault, Scene};
-use scene_parts::{Checked, Class, Name, PlainName, RawPart, RawPoints, RawPt, check};
+use scene_parts::{Class, Name, PlainName, RawPart, RawPoints, RawPt, check};
 use std::alloc::{AllocError, Global};
 use std::test::Fail;
 
 /// What an edit answered.
 #[derive(Clone, Copy, Debug, PartialEq, Eq)]
-enum Told {
+enum EditOutcome {
     New,
     Replaced,
     NoName,
@@ -18,22 +18,21 @@ enum Told {
     NoPart,
 }
 
-fn applied(scene: &mut Scene, alloc: Global, edit: Edit) -> Told {
+fn applied(scene: &mut Scene, alloc: Global, edit: Edit) -> EditOutcome {
     match scene.apply(alloc, &edit) {
-        Ok(None) => Told::New,
-        Ok(Some(_)) => Told::Replaced,
-        Err(EditFault::NoSuchName { .. }) => Told::NoName,
-        Err(EditFault::OtherClass { class, .. }) => Told::Other(class),
-        Err(EditFault::Full { class, limit }) => Told::Full(class, limit),
-        Err(EditFault::NoMemory) => Told::NoMemory,
+        Ok(None) => EditOutcome::New,
+        Ok(Some(_)) => EditOutcome::Replaced,
+        Err(EditFault::NoSuchName { .. }) => EditOutcome::NoName,
+        Err(EditFault::OtherClass { class, .. }) => EditOutcome::Other(class),
+        Err(EditFault::Full { class, limit }) => EditOutcome::Full(class, limit),
+        Err(EditFault::NoMemory) => EditOutcome::NoMemory,
     }
 }
 
-fn put(scene: &mut Scene, alloc: Global, raw: RawPart) -> Told {
+fn put(scene: &mut Scene, alloc: Global, raw: RawPart) -> EditOutcome {
     match check(alloc, raw) {
-        Ok(Checked::Part(part)) => applied(scene, alloc, Edit::Put(part)),
-        Ok(Checked::Grid(grid)) => applied(scene, alloc, Edit::Grid(grid)),
-        Ok(Checked::Set(_)) | Err(_) => Told::NoPart,
+        Ok(checked) => applied(scene, alloc, Edit::from(checked)),
+        Err(_) => EditOutcome::NoPart,
     }
 }
 
@@ -93,34 +92,34 @@ fn edits_in_a_row(rt: HostRuntime) -> Result<(), Fail> {
     };
     assert_eq!(rt;
         put(&mut scene, alloc, receiver(alloc, b"a", 1)?),
-        Told::New
+        EditOutcome::New
     );
     assert_eq!(rt;
         put(&mut scene, alloc, receiver(alloc, b"b", 2)?),
-        Told::New
+        EditOutcome::New
     );
     assert_eq!(rt;
         put(&mut scene, alloc, receiver(alloc, b"a", 3)?),
-        Told::Replaced
+        EditOutcome::Replaced
     );
-    assert_eq!(rt; put(&mut scene, alloc, barrier), Told::New);
+    assert_eq!(rt; put(&mut scene, alloc, barrier), EditOutcome::New);
     assert_eq!(rt;
         put(&mut scene, alloc, building),
-        Told::Other(Class::Barrier)
+        EditOutcome::Other(Class::Barrier)
     );
     assert_eq!(rt;
         put(&mut scene, alloc, receiver(alloc, b"w", 3)?),
-        Told::Other(Class::Barrier)
+        EditOutcome::Other(Class::Barrier)
     );
     assert_eq!(rt;
         put(&mut scene, alloc, grid(alloc, 4096, 4096)?),
-        Told::Full(Class::Receiver, 4096)
+        EditOutcome::Full(Class::Receiver, 4096)
     );
     assert_eq!(rt;
         put(&mut scene, alloc, grid(alloc, 64, 64)?),
-        Told::Full(Class::Receiver, 4096)
+        EditOutcome::Full(Class::Receiver, 4096)
     );
-    assert_eq!(rt; put(&mut scene, alloc, grid(alloc, 2, 2)?), Told::New);
+    assert_eq!(rt; put(&mut scene, alloc, grid(alloc, 2, 2)?), EditOutcome::New);
     let copy = scene.copy(alloc)?;
     let [a, b, first, second, ..] = copy.receivers() else {
         return Err("too few receivers".into());
@@ -132,12 +131,12 @@ fn edits_in_a_row(rt: HostRuntime) -> Result<(), Fail> {
     let gone = Name::from_vec(b"a".to_vec(alloc)?);
     assert_eq!(rt;
         applied(&mut scene, alloc, Edit::Remove(gone)),
-        Told::Replaced
+        EditOutcome::Replaced
     );
     let unknown = Name::from_vec(b"g".to_vec(alloc)?);
     assert_eq!(rt;
         applied(&mut scene, alloc, Edit::Remove(unknown)),
-        Told::NoName
+        EditOutcome::NoName
     );
     assert_eq!(rt; scene.receivers().len(), 5);
     assert_eq!(rt;
@@ -145,5 +144,36 @@ fn edits_in_a_row(rt: HostRuntime) -> Result<(), Fail> {
         1
     );
     assert_eq!(rt; scene.globals().reach, 4_000_000);
+    Ok(())
+}
+
+#[test]
+fn copies_and_settings(rt: HostRuntime) -> Result<(), Fail> {
+    let alloc = rt.alloc();
+    let mut scene = Scene::empty(alloc)?;
+    let zone = RawPart::Zone {
+        name: name(alloc, b"z")?,
+        points: corners(alloc)?,
+        g: 100,
+    };
+    let setting = RawPart::Set {
+        reach: None,
+        g: Some(50),
+        air: None,
+        c0: Some(1000),
+    };
+    assert_eq!(rt; put(&mut scene, alloc, zone), EditOutcome::New);
+    assert_eq!(rt; put(&mut scene, alloc, receiver(alloc, b"a", 7)?), EditOutcome::New);
+    assert_eq!(rt; put(&mut scene, alloc, setting), EditOutcome::New);
+    let copy = scene.copy(alloc)?;
+    let gone = Name::from_vec(b"z".to_vec(alloc)?);
+    assert_eq!(rt; applied(&mut scene, alloc, Edit::Remove(gone)), EditOutcome::Replaced);
+    assert_eq!(rt; scene.zones().len(), 0);
+    let ([zone], [receiver]) = (copy.zones(), copy.receivers()) else {
+        return Err("not the parts of the scene".into());
+    };
+    assert_eq!(rt; zone.g, 100);
+    assert_eq!(rt; receiver.at.x, 7);
+    assert_eq!(rt; (copy.globals().reach, copy.globals().g, copy.globals().c0), (4_000_000, 50, 1000));
     Ok(())
 }

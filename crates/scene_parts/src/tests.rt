@@ -178,3 +178,51 @@ fn sources_and_grids(rt: HostRuntime) -> Result<(), Fail> {
     );
     Ok(())
 }
+
+fn zone(alloc: Global, places: &[(i64, i64)], g: i64) -> Result<Answer, AllocError> {
+    let raw = RawPart::Zone {
+        name: name(alloc)?,
+        points: points(alloc, places)?,
+        g,
+    };
+    Ok(outcome(alloc, raw))
+}
+
+fn setting(
+    alloc: Global,
+    reach: i64,
+    g: i64,
+    air: &[u8],
+    c0: i64,
+) -> Result<Answer, AllocError> {
+    let raw = RawPart::Set {
+        reach: Some(reach),
+        g: Some(g),
+        air: Some(Word::from_vec(air.to_vec(alloc)?)),
+        c0: Some(c0),
+    };
+    Ok(outcome(alloc, raw))
+}
+
+#[test]
+fn zones_and_settings(rt: HostRuntime) -> Result<(), Fail> {
+    let alloc = rt.alloc();
+    let line = [(0, 0), (1000, 0)];
+    let area = [(0, 0), (1000, 0), (1000, 1000)];
+    assert_eq!(rt; zone(alloc, &area, 100)?, Answer::Accepted);
+    assert_eq!(rt; zone(alloc, &line, 101)?, Answer::Outside(Field::G, 101));
+    assert_eq!(rt; zone(alloc, &line, -1)?, Answer::Outside(Field::G, -1));
+    assert_eq!(rt; zone(alloc, &line, 0)?, Answer::Few(2));
+    assert_eq!(rt; barrier(alloc, &line, 100_000, 0)?, Answer::Accepted);
+    assert_eq!(rt; barrier(alloc, &line, 0, 0)?, Answer::Light(0));
+    assert_eq!(rt; barrier(alloc, &line, -1, 0)?, Answer::Outside(Field::Density, -1));
+    assert_eq!(rt; setting(alloc, 4_000_000, 100, b"15/80", 1000)?, Answer::Accepted);
+    assert_eq!(rt; setting(alloc, 1, 0, b"10/70", 0)?, Answer::Accepted);
+    assert_eq!(rt; setting(alloc, 4_000_001, 101, b"", 1001)?, Answer::Outside(Field::Reach, 4_000_001));
+    assert_eq!(rt; setting(alloc, 0, 0, b"", 0)?, Answer::Outside(Field::Reach, 0));
+    assert_eq!(rt; setting(alloc, 1, 101, b"", 1001)?, Answer::Outside(Field::G, 101));
+    assert_eq!(rt; setting(alloc, 1, 0, b"25/70", 1001)?, Answer::Outside(Field::C0, 1001));
+    assert_eq!(rt; setting(alloc, 1, 0, b"25/70", -1)?, Answer::Outside(Field::C0, -1));
+    assert_eq!(rt; setting(alloc, 1, 0, b"25/70", 0)?, Answer::Unknown);
+    Ok(())
+}

@@ -1,6 +1,6 @@
 use Rattle.std.proofs.lemmas.Str.{is_utf8-from_IsUtf8}
 use Rattle.command_lines.proofs.Utf8.{is_utf8-false}
-use Rattle.command_lines.proofs.PlainLemmas.{plain-gives, plain-command_in}
+use Rattle.command_lines.proofs.PlainLemmas.{plain-matches, plain-command_in}
 use Rattle.command_lines.specs.Lines.{command_in, command_of}
 use Rattle.command_lines.proofs.reading.command.Goals as goal
 
@@ -13,4 +13,4 @@ unfolding command_of
 returns-in-Err-clause-value c = rw (is_utf8-false _ c.in-Err.ensures.cases.0)
 
 pub returns-in-Ok-clause-plain : goal.returns-in-Ok-clause-plain
-returns-in-Ok-clause-plain c = plain-gives c.command_in.result (command_in c.in-Ok.text.now) c.command_in.ensures (plain-command_in c.in-Ok.text.now)
+returns-in-Ok-clause-plain c = plain-matches c.command_in.result (command_in c.in-Ok.text.now) c.command_in.ensures (plain-command_in c.in-Ok.text.now)

@@ -1,7 +1,7 @@
-use Rattle.std.proofs.Common.{◌≡◌, ℕ, ◌<◌, ◌+◌, ◌-◌, ◌++◌, List, ◌∙◌, sym, ap, append_assoc, arith}
-use Rattle.scene_parts.specs.Views.{Receiver}
-use Rattle.scene_book.specs.Grid.{columns_from, rows_from}
-use Rattle.scene_book.proofs.GridLemmas.{rows-step}
+use Rattle.std.proofs.Common.{◌≡◌, ℕ, ◌<◌, ◌+◌, ◌-◌, ◌++◌, List, ◌∙◌, sym, ap, append_assoc, rules, arith}
+use Rattle.scene_parts.specs.Views.{Receiver, Grid}
+use Rattle.scene_book.specs.Grid.{columns_from, rows_from, receivers_of}
+use Rattle.scene_book.proofs.GridLemmas.{rows-step, rows-apart}
 use Rattle.scene_book.proofs.grids.receivers.Goals as goal
 
 pub loop-row-preserved : goal.loop-row-preserved
@@ -16,3 +16,9 @@ loop-row-preserved c =
           ∙ c.loop-row.invariant.so_far);
       all = c.loop-row.invariant.all;
     }
+
+pub returns-clause-apart : goal.returns-clause-apart
+returns-clause-apart c =
+    let all : c.loop-row.receivers.items ≡ receivers_of c.args.grid.now = search rules in
+    rw all (rows-apart c.args.grid.now 0 c.args.grid.now.rows (omega (arith, c.grid.invariant.rows.high, ap (λ (g : Grid). g.rows) c.grid.view_is))
+    (omega (arith, c.grid.invariant.columns.high, ap (λ (g : Grid). g.columns) c.grid.view_is)))

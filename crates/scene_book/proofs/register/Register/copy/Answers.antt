@@ -1,7 +1,12 @@
-use Rattle.std.proofs.Common.{◌≡◌}
+use Rattle.std.proofs.Common.{◌≡◌, ◌≤◌, ◌∙◌, ap, sym, length, arith}
+use Rattle.std.proofs.lemmas.List.{drop_all}
+use Rattle.scene_book.specs.Lists.{put_all}
 use Rattle.scene_book.proofs.ListLemmas.{put_all-apart}
 use Rattle.scene_book.proofs.register.Register.copy.Goals as goal
 
 pub returns : goal.returns
 returns g c =
-    rw (c.in_ok-put_all.ensures, c.new-copied.ensures, c.items.ensures.value) (put_all-apart g.T.Named.name_of c.args.self.now c.items.ensures.apart)
+    let all : length c.args.self.now ≤ c.loop-thing.thing-index = omega (arith, c.loop-thing-test.false, ap length c.items-thing-items.ensures.value) in
+    sym (ap (λ l. put_all g.T.Named.name_of l c.loop-thing.copied) (drop_all c.loop-thing.thing-index c.args.self.now all))
+    ∙ c.loop-thing.invariant
+    ∙ put_all-apart g.T.Named.name_of c.args.self.now c.items-thing-items.ensures.apart

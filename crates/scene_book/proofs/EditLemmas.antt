@@ -1,0 +1,281 @@
+-- Edits of lists.
+use Rattle.std.proofs.Common.{◌≡◌, ℕ, refl, sym, ◌∙◌, ap, subst, Bool, true, false, cond, List, length, ◌*◌, [], ◌∷◌, ◌++◌, append-nil, ◌||◌}
+use Rattle.std.specs.Prelude.{bytes_eq, Option, Some, None, option_map, Result, Ok, Err, flat_map, filter}
+use Rattle.std.specs.List.{list_any}
+use Rattle.std.specs.Option.{option_to_list, option_or}
+use Rattle.std.proofs.lemmas.Grind.{flat_map-append}
+use Rattle.std.proofs.lemmas.List.Elements.{filter-append}
+use Rattle.std.proofs.lemmas.List.Folds.{list_any-append}
+use Rattle.scene_parts.specs.Answers.{◌>>◌}
+use Rattle.scene_parts.specs.Views.{Source, Obstacle, Zone, Receiver, Grid}
+use Rattle.scene_parts.specs.declared.parts.Part.{Part}
+use Rattle.scene_parts.specs.declared.parts.Part.TheVariants as parts
+use Rattle.scene_book.specs.declared.edits.Edit.{Edit}
+use Rattle.scene_book.specs.declared.edits.Edit.TheVariants as edits
+use Rattle.scene_book.specs.declared.edits.EditFault.{EditFault}
+use Rattle.scene_parts.specs.declared.kinds.Class.TheVariants as classes
+use Rattle.scene_book.specs.Limits.{most_receivers}
+use Rattle.scene_book.specs.Lists.{named, put_in, take_out, put_all}
+use Rattle.scene_book.specs.Book.{Book}
+use Rattle.scene_book.specs.Grid.{receivers_of}
+use Rattle.scene_book.specs.Applying.{apply_of, at_most, all_own, own_class, name_of, class_of, holder, in_limits, put_of, put_where_room, remove_of, grid_of, taken, with_part, replaced, part_named, with_receivers}
+use Rattle.scene_book.specs.Laws.{Edited, PutIsEdit, RemovalIsEdit, FlatMapStays, FilterStays, AnyStays, PutsInTurn, Pieces, no_pieces, pieces_of, pieces_of_any, ListsEdited, Changes, AcceptedChanges}
+
+module _ {A : Type 0} where
+  -- an edit behind a thing that stays
+  later : (x : A) (old new xs ys : List A) → Edited old new xs ys → Edited old new (x ∷ xs) (x ∷ ys)
+  later x old new xs ys e = record {
+    before = x ∷ e.before;
+    after = e.after;
+    was = ap (λ (l : List A). x ∷ l) e.was;
+    is = ap (λ (l : List A). x ∷ l) e.is;
+  }
+
+  -- nothing changed
+  pub same : (xs : List A) → Edited [] [] xs xs
+  same xs = record { before = xs; after = []; was = sym (append-nil xs); is = sym (append-nil xs) }
+
+  module _ (name_of : A → List ℕ) where
+    put-step : (b : Bool) (new x : A) (xs : List A)
+        → Edited (option_to_list (named name_of (name_of new) xs)) (new ∷ []) xs (put_in name_of new xs)
+        → Edited (option_to_list (cond b (Some x) (named name_of (name_of new) xs))) (new ∷ []) (x ∷ xs)
+            (cond b (new ∷ xs) (x ∷ put_in name_of new xs))
+    put-step true new x xs e = record { before = []; after = xs; was = refl; is = refl }
+    put-step false new x xs e = later x (option_to_list (named name_of (name_of new) xs)) (new ∷ []) xs (put_in name_of new xs) e
+
+    pub put-edited : (new : A) (xs : List A)
+        → Edited (option_to_list (named name_of (name_of new) xs)) (new ∷ []) xs (put_in name_of new xs)
+    put-edited new [] = record { before = []; after = []; was = refl; is = refl }
+    put-edited new (x ∷ xs) = put-step (bytes_eq (name_of new) (name_of x)) new x xs (put-edited new xs)
+
+    take-step : (b : Bool) (name : List ℕ) (x : A) (xs : List A)
+        → Edited (option_to_list (named name_of name xs)) [] xs (take_out name_of name xs)
+        → Edited (option_to_list (cond b (Some x) (named name_of name xs))) [] (x ∷ xs)
+            (cond b xs (x ∷ take_out name_of name xs))
+    take-step true name x xs e = record { before = []; after = xs; was = refl; is = refl }
+    take-step false name x xs e = later x (option_to_list (named name_of name xs)) [] xs (take_out name_of name xs) e
+
+    pub take-edited : (name : List ℕ) (xs : List A)
+        → Edited (option_to_list (named name_of name xs)) [] xs (take_out name_of name xs)
+    take-edited name [] = record { before = []; after = []; was = refl; is = refl }
+    take-edited name (x ∷ xs) = take-step (bytes_eq name (name_of x)) name x xs (take-edited name xs)
+
+    pub puts-in_turn : (news xs : List A) → PutsInTurn name_of news xs (put_all name_of news xs)
+    puts-in_turn [] xs = refl
+    puts-in_turn (new ∷ news) xs =
+        (put_in name_of new xs, put-edited new xs, puts-in_turn news (put_in name_of new xs))
+
+  -- what is made of a list with a piece of which nothing is made
+  flat-around : {B : Type 0} (f : A → List B) (before piece after : List A) → flat_map f piece ≡ []
+      → flat_map f (before ++ (piece ++ after)) ≡ flat_map f before ++ flat_map f after
+  flat-around f before piece after none =
+      rw (flat_map-append f before (piece ++ after), flat_map-append f piece after, none) refl
+
+  filter-around : (test : A → Bool) (before piece after : List A) → filter test piece ≡ []
+      → filter test (before ++ (piece ++ after)) ≡ filter test before ++ filter test after
+  filter-around test before piece after none =
+      rw (filter-append test before (piece ++ after), filter-append test piece after, none) refl
+
+  any-around : (test : A → Bool) (before piece after : List A) → list_any test piece ≡ false
+      → list_any test (before ++ (piece ++ after)) ≡ (list_any test before || list_any test after)
+  any-around test before piece after none =
+      rw (list_any-append test before (piece ++ after), list_any-append test piece after, none) refl
+
+pub flat-stays : {A B : Type 0} → FlatMapStays A B
+flat-stays f old new xs ys e no_old no_new =
+    ap (flat_map f) e.was
+    ∙ flat-around f e.before old e.after no_old
+    ∙ sym (flat-around f e.before new e.after no_new)
+    ∙ sym (ap (flat_map f) e.is)
+
+pub filter-stays : {A : Type 0} → FilterStays A
+filter-stays test old new xs ys e no_old no_new =
+    ap (filter test) e.was
+    ∙ filter-around test e.before old e.after no_old
+    ∙ sym (filter-around test e.before new e.after no_new)
+    ∙ sym (ap (filter test) e.is)
+
+pub any-stays : {A : Type 0} → AnyStays A
+any-stays test old new xs ys e no_old no_new =
+    ap (list_any test) e.was
+    ∙ any-around test e.before old e.after no_old
+    ∙ sym (any-around test e.before new e.after no_new)
+    ∙ sym (ap (list_any test) e.is)
+
+-- what an accepted edit leaves is what its last step says
+abbrev accepted : Book × Option Part → Result (Book × Option Part) EditFault
+accepted x = Ok x
+
+result-first : (x y : Book × Option Part) → accepted x ≡ Ok y → x.0 ≡ y.0
+result-first x y e = let same : x ≡ y = cc in ap (λ (p : Book × Option Part). p.0) same
+
+answer : (r : Result (Unit {0}) EditFault) (x y : Book × Option Part) → (r >> Ok x) ≡ Ok y → x.0 ≡ y.0
+answer (Ok done) x y e = result-first x y e
+answer (Err fault) x y e = cc
+
+answer-later : (r s : Result (Unit {0}) EditFault) (x y : Book × Option Part) → (r >> (s >> Ok x)) ≡ Ok y → x.0 ≡ y.0
+answer-later (Ok done) s x y e = answer s x y e
+answer-later (Err fault) s x y e = cc
+
+answer-last : (q r s : Result (Unit {0}) EditFault) (x y : Book × Option Part) → (q >> (r >> (s >> Ok x))) ≡ Ok y → x.0 ≡ y.0
+answer-last (Ok done) r s x y e = answer-later r s x y e
+answer-last (Err fault) r s x y e = cc
+
+abbrev own_source : Source → List ℕ
+own_source s = s.name
+
+abbrev own_obstacle : Obstacle → List ℕ
+own_obstacle o = o.name
+
+abbrev own_zone : Zone → List ℕ
+own_zone z = z.name
+
+abbrev own_receiver : Receiver → List ℕ
+own_receiver r = r.name
+
+put-source : (s : Source) (a : Book) (found : Option Source) → named (λ s. s.name) s.name a.sources ≡ found
+    → ListsEdited (pieces_of_any (option_map parts.Source found)) (pieces_of (parts.Source s)) a (with_part (parts.Source s) a)
+put-source s a (Some old) e = record {
+      sources = subst (λ found. Edited (option_to_list found) (s ∷ []) a.sources (put_in own_source s a.sources)) e
+          (put-edited own_source s a.sources);
+      obstacles = same a.obstacles;
+      zones = same a.zones;
+      receivers = same a.receivers;
+      globals = refl;
+    }
+put-source s a None e = record {
+      sources = subst (λ found. Edited (option_to_list found) (s ∷ []) a.sources (put_in own_source s a.sources)) e
+          (put-edited own_source s a.sources);
+      obstacles = same a.obstacles;
+      zones = same a.zones;
+      receivers = same a.receivers;
+      globals = refl;
+    }
+
+put-obstacle : (o : Obstacle) (a : Book) (found : Option Obstacle) → named (λ o. o.name) o.name a.obstacles ≡ found
+    → ListsEdited (pieces_of_any (option_map parts.Obstacle found)) (pieces_of (parts.Obstacle o)) a (with_part (parts.Obstacle o) a)
+put-obstacle o a (Some old) e = record {
+      sources = same a.sources;
+      obstacles = subst (λ found. Edited (option_to_list found) (o ∷ []) a.obstacles (put_in own_obstacle o a.obstacles)) e
+          (put-edited own_obstacle o a.obstacles);
+      zones = same a.zones;
+      receivers = same a.receivers;
+      globals = refl;
+    }
+put-obstacle o a None e = record {
+      sources = same a.sources;
+      obstacles = subst (λ found. Edited (option_to_list found) (o ∷ []) a.obstacles (put_in own_obstacle o a.obstacles)) e
+          (put-edited own_obstacle o a.obstacles);
+      zones = same a.zones;
+      receivers = same a.receivers;
+      globals = refl;
+    }
+
+put-zone : (z : Zone) (a : Book) (found : Option Zone) → named (λ z. z.name) z.name a.zones ≡ found
+    → ListsEdited (pieces_of_any (option_map parts.Zone found)) (pieces_of (parts.Zone z)) a (with_part (parts.Zone z) a)
+put-zone z a (Some old) e = record {
+      sources = same a.sources;
+      obstacles = same a.obstacles;
+      zones = subst (λ found. Edited (option_to_list found) (z ∷ []) a.zones (put_in own_zone z a.zones)) e
+          (put-edited own_zone z a.zones);
+      receivers = same a.receivers;
+      globals = refl;
+    }
+put-zone z a None e = record {
+      sources = same a.sources;
+      obstacles = same a.obstacles;
+      zones = subst (λ found. Edited (option_to_list found) (z ∷ []) a.zones (put_in own_zone z a.zones)) e
+          (put-edited own_zone z a.zones);
+      receivers = same a.receivers;
+      globals = refl;
+    }
+
+put-receiver : (r : Receiver) (a : Book) (found : Option Receiver) → named (λ r. r.name) r.name a.receivers ≡ found
+    → ListsEdited (pieces_of_any (option_map parts.Receiver found)) (pieces_of (parts.Receiver r)) a (with_part (parts.Receiver r) a)
+put-receiver r a (Some old) e = record {
+      sources = same a.sources;
+      obstacles = same a.obstacles;
+      zones = same a.zones;
+      receivers = subst (λ found. Edited (option_to_list found) (r ∷ []) a.receivers (put_in own_receiver r a.receivers)) e
+          (put-edited own_receiver r a.receivers);
+      globals = refl;
+    }
+put-receiver r a None e = record {
+      sources = same a.sources;
+      obstacles = same a.obstacles;
+      zones = same a.zones;
+      receivers = subst (λ found. Edited (option_to_list found) (r ∷ []) a.receivers (put_in own_receiver r a.receivers)) e
+          (put-edited own_receiver r a.receivers);
+      globals = refl;
+    }
+
+put-lists : (part : Part) (a : Book) → ListsEdited (pieces_of_any (replaced part a)) (pieces_of part) a (with_part part a)
+put-lists (parts.Source s) a = put-source s a (named (λ s. s.name) s.name a.sources) refl
+put-lists (parts.Obstacle o) a = put-obstacle o a (named (λ o. o.name) o.name a.obstacles) refl
+put-lists (parts.Zone z) a = put-zone z a (named (λ z. z.name) z.name a.zones) refl
+put-lists (parts.Receiver r) a = put-receiver r a (named (λ r. r.name) r.name a.receivers) refl
+
+take-lists : (name : List ℕ) (a b : Book) (old : Option Part) (ms : Option Source) (mo : Option Obstacle) (mz : Option Zone)
+    (mr : Option Receiver) → named (λ s. s.name) name a.sources ≡ ms → named (λ o. o.name) name a.obstacles ≡ mo
+    → named (λ z. z.name) name a.zones ≡ mz → named (λ r. r.name) name a.receivers ≡ mr
+    → taken name (option_or (option_map parts.Source ms) (option_or (option_map parts.Obstacle mo)
+        (option_or (option_map parts.Zone mz) (option_map parts.Receiver mr)))) a ≡ Ok (b, old)
+    → ListsEdited (pieces_of_any (option_or (option_map parts.Source ms) (option_or (option_map parts.Obstacle mo)
+        (option_or (option_map parts.Zone mz) (option_map parts.Receiver mr))))) no_pieces a b
+take-lists name a b old (Some s) mo mz mr es eo ez er h =
+    subst (ListsEdited (pieces_of (parts.Source s)) no_pieces a) (result-first _ (b, old) h) (record {
+      sources = subst (λ found. Edited (option_to_list found) [] a.sources (take_out own_source name a.sources)) es
+          (take-edited own_source name a.sources);
+      obstacles = same a.obstacles;
+      zones = same a.zones;
+      receivers = same a.receivers;
+      globals = refl;
+    })
+take-lists name a b old None (Some o) mz mr es eo ez er h =
+    subst (ListsEdited (pieces_of (parts.Obstacle o)) no_pieces a) (result-first _ (b, old) h) (record {
+      sources = same a.sources;
+      obstacles = subst (λ found. Edited (option_to_list found) [] a.obstacles (take_out own_obstacle name a.obstacles)) eo
+          (take-edited own_obstacle name a.obstacles);
+      zones = same a.zones;
+      receivers = same a.receivers;
+      globals = refl;
+    })
+take-lists name a b old None None (Some z) mr es eo ez er h =
+    subst (ListsEdited (pieces_of (parts.Zone z)) no_pieces a) (result-first _ (b, old) h) (record {
+      sources = same a.sources;
+      obstacles = same a.obstacles;
+      zones = subst (λ found. Edited (option_to_list found) [] a.zones (take_out own_zone name a.zones)) ez
+          (take-edited own_zone name a.zones);
+      receivers = same a.receivers;
+      globals = refl;
+    })
+take-lists name a b old None None None (Some r) es eo ez er h =
+    subst (ListsEdited (pieces_of (parts.Receiver r)) no_pieces a) (result-first _ (b, old) h) (record {
+      sources = same a.sources;
+      obstacles = same a.obstacles;
+      zones = same a.zones;
+      receivers = subst (λ found. Edited (option_to_list found) [] a.receivers (take_out own_receiver name a.receivers)) er
+          (take-edited own_receiver name a.receivers);
+      globals = refl;
+    })
+take-lists name a b old None None None None es eo ez er h = cc
+
+grid-changes : (grid : Grid) (a b : Book) (old : Option Part) → grid_of grid a ≡ Ok (b, old) → Changes (edits.Grid grid) a b
+unfolding grid_of
+grid-changes grid a b old h =
+    subst (Changes (edits.Grid grid) a) (answer-last (at_most classes.Receiver most_receivers (grid.columns * grid.rows)) (all_own a (receivers_of grid))
+    (at_most classes.Receiver most_receivers (length (put_all own_receiver (receivers_of grid) a.receivers)))
+    (with_receivers a (put_all own_receiver (receivers_of grid) a.receivers), None) (b, old) h)
+    (refl, puts-in_turn own_receiver (receivers_of grid) a.receivers)
+
+pub accepted-changes : AcceptedChanges
+unfolding apply_of put_of put_where_room remove_of
+accepted-changes (edits.Put part) a b old h =
+    subst (ListsEdited (pieces_of_any (replaced part a)) (pieces_of part) a)
+    (answer-later (own_class (name_of part) (class_of part) (holder a (name_of part))) (in_limits part (with_part part a))
+    (with_part part a, replaced part a) (b, old) h) (put-lists part a)
+accepted-changes (edits.Remove name) a b old h =
+    take-lists name a b old (named (λ s. s.name) name a.sources) (named (λ o. o.name) name a.obstacles)
+    (named (λ z. z.name) name a.zones) (named (λ r. r.name) name a.receivers) refl refl refl refl h
+accepted-changes (edits.Grid grid) a b old h = grid-changes grid a b old h
+accepted-changes (edits.Set setting) a b old h = sym (result-first _ (b, old) h)

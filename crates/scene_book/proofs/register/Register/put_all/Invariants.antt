@@ -1,7 +1,0 @@
-use Rattle.std.proofs.Common.{◌≡◌, drop}
-use Rattle.scene_book.specs.Lists.{put_all}
-use Rattle.scene_book.proofs.register.Register.put_all.Given as goal
-
-abbrev pub invariant-loop-thing : goal.invariant-loop-thing
-invariant-loop-thing g l =
-    put_all g.T.Named.name_of (drop l.thing-index l.things) l.self ≡ put_all g.T.Named.name_of l.things l.initial.self
