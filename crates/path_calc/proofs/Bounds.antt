@@ -11,7 +11,8 @@ use Rattle.std.specs.List.{list_all}
 use Rattle.std.proofs.lemmas.List.Folds.{list_all_at}
 use Rattle.std.proofs.lemmas.Bool.{false≢true}
 use Rattle.scene_parts.specs.Ranges.{is_power}
-use Rattle.path_calc.specs.Ranges.{IsPower, IsDirectivity, IsHearable}
+use Rattle.path_calc.specs.Prepared.{IsEmission}
+use Rattle.path_calc.specs.Ranges.{IsPower, IsDirectivity, HasLevelBounds}
 use Rattle.std.specs.Option.{option_map}
 use Rattle.std.proofs.lemmas.Int.{ints}
 use Rattle.fix_interval.specs.Units.{unit}
@@ -27,15 +28,15 @@ use Rattle.path_calc.specs.Levels.{IsLevel, IsLevelEnd}
 
 -- ---- constants
 
-abs-sound : (z : ℤ) → neg_ℤ (pos 20000) ≤ℤ z → z ≤ℤ pos 20000 → unsigned_abs z < 2 ^ 94
-abs-sound (pos n) low high = omega (arith, ints, high)
-abs-sound (negsuc n) low high = omega (arith, ints, low)
+abs-power : (z : ℤ) → neg_ℤ (pos 20000) ≤ℤ z → z ≤ℤ pos 20000 → unsigned_abs z < 2 ^ 94
+abs-power (pos n) low high = omega (arith, ints, high)
+abs-power (negsuc n) low high = omega (arith, ints, low)
 
 -- a fraction lies between the ends of the bounds of its numerator
 ratio-between : (l h z lo hi : ℤ) (q : ℕ) → 0 < q → neg_ℤ (pos 20000) ≤ℤ z → z ≤ℤ pos 20000 → l ≤ℤ z → z ≤ℤ h
     → floor_of (l *ℤ pos unit) q ≡ lo → ceil_of (l *ℤ pos unit) q ≡ lo → floor_of (h *ℤ pos unit) q ≡ hi → ceil_of (h *ℤ pos unit) q ≡ hi
     → AreBetween lo hi (ratio_of z q)
-ratio-between l h z lo hi q positive least most low high floor-low ceil-low floor-high ceil-high = rw (ratio_of-small z q (abs-sound z least most)) (record {
+ratio-between l h z lo hi q positive least most low high floor-low ceil-low floor-high ceil-high = rw (ratio_of-small z q (abs-power z least most)) (record {
   lo = (
     rw floor-low at (floor_of-mono (l *ℤ pos unit) (z *ℤ pos unit) q positive (units-mono l z low)),
     rw floor-high at (floor_of-mono (z *ℤ pos unit) (h *ℤ pos unit) q positive (units-mono z h high)),
@@ -89,39 +90,39 @@ pub neg-between : (l h : ℤ) (a : Interval) → AreBetween l h a → AreBetween
 unfolding neg_of
 neg-between l h a p = record { lo = neg-end l h a.hi p.hi; hi = neg-end l h a.lo p.lo }
 
-pub sound-within : (p : ℤ) (directivity : Interval) → IsPower p → AreBetween (neg_ℤ (pos (30 * 2 ^ 32))) (pos (20 * 2 ^ 32)) directivity → AreBetween (neg_ℤ (pos (50 * 2 ^ 32))) (pos (180 * 2 ^ 32)) (add_of (ratio_of p 100) directivity)
-sound-within p directivity hp hd =
+pub emission-within : (p : ℤ) (directivity : Interval) → IsPower p → AreBetween (neg_ℤ (pos (30 * 2 ^ 32))) (pos (20 * 2 ^ 32)) directivity → AreBetween (neg_ℤ (pos (50 * 2 ^ 32))) (pos (180 * 2 ^ 32)) (add_of (ratio_of p 100) directivity)
+emission-within p directivity hp hd =
     add-between (neg_ℤ (pos (20 * 2 ^ 32))) (pos (160 * 2 ^ 32)) (neg_ℤ (pos (30 * 2 ^ 32))) (pos (20 * 2 ^ 32)) (neg_ℤ (pos (50 * 2 ^ 32))) (pos (180 * 2 ^ 32)) (ratio_of p 100) directivity
     (power-within p hp) hd (omega (arith, ints)) (omega (arith, ints)) (omega (arith, ints)) (omega (arith, ints))
 
-level-before-ground : (sound divergence absorption : Interval) → AreBetween (neg_ℤ (pos (50 * 2 ^ 32))) (pos (180 * 2 ^ 32)) sound → AreBetween (pos (11 * 2 ^ 32)) (pos (600 * 2 ^ 32)) divergence → AreBetween (pos 0) (pos (2 ^ 60)) absorption
-    → AreBetween (neg_ℤ (pos (650 * 2 ^ 32 + 2 ^ 60))) (pos (169 * 2 ^ 32)) (add_of (add_of sound (neg_of divergence)) (neg_of absorption))
-level-before-ground sound divergence absorption hs hd ha =
-    let behind = add-between (neg_ℤ (pos (50 * 2 ^ 32))) (pos (180 * 2 ^ 32)) (neg_ℤ (pos (600 * 2 ^ 32))) (neg_ℤ (pos (11 * 2 ^ 32))) (neg_ℤ (pos (650 * 2 ^ 32))) (pos (169 * 2 ^ 32)) sound (neg_of divergence)
+level-before-ground : (emission divergence absorption : Interval) → IsEmission emission → AreBetween (pos (11 * 2 ^ 32)) (pos (600 * 2 ^ 32)) divergence → AreBetween (pos 0) (pos (2 ^ 60)) absorption
+    → AreBetween (neg_ℤ (pos (650 * 2 ^ 32 + 2 ^ 60))) (pos (169 * 2 ^ 32)) (add_of (add_of emission (neg_of divergence)) (neg_of absorption))
+level-before-ground emission divergence absorption hs hd ha =
+    let behind = add-between (neg_ℤ (pos (50 * 2 ^ 32))) (pos (180 * 2 ^ 32)) (neg_ℤ (pos (600 * 2 ^ 32))) (neg_ℤ (pos (11 * 2 ^ 32))) (neg_ℤ (pos (650 * 2 ^ 32))) (pos (169 * 2 ^ 32)) emission (neg_of divergence)
     hs (neg-between (pos (11 * 2 ^ 32)) (pos (600 * 2 ^ 32)) divergence hd) (omega (arith, ints)) (omega (arith, ints)) (omega (arith, ints)) (omega (arith, ints)) in
-    add-between (neg_ℤ (pos (650 * 2 ^ 32))) (pos (169 * 2 ^ 32)) (neg_ℤ (pos (2 ^ 60))) (neg_ℤ (pos 0)) (neg_ℤ (pos (650 * 2 ^ 32 + 2 ^ 60))) (pos (169 * 2 ^ 32)) (add_of sound (neg_of divergence)) (neg_of absorption)
+    add-between (neg_ℤ (pos (650 * 2 ^ 32))) (pos (169 * 2 ^ 32)) (neg_ℤ (pos (2 ^ 60))) (neg_ℤ (pos 0)) (neg_ℤ (pos (650 * 2 ^ 32 + 2 ^ 60))) (pos (169 * 2 ^ 32)) (add_of emission (neg_of divergence)) (neg_of absorption)
     behind (neg-between (pos 0) (pos (2 ^ 60)) absorption ha) (omega (arith, ints)) (omega (arith, ints)) (omega (arith, ints)) (omega (arith, ints))
 
-pub level-within : (sound divergence absorption ground : Interval) → AreBetween (neg_ℤ (pos (50 * 2 ^ 32))) (pos (180 * 2 ^ 32)) sound → AreBetween (pos (11 * 2 ^ 32)) (pos (600 * 2 ^ 32)) divergence → AreBetween (pos 0) (pos (2 ^ 60)) absorption → AreBetween (neg_ℤ (pos (2 ^ 36))) (pos (2 ^ 58)) ground
-    → IsHearable (add_of (add_of (add_of sound (neg_of divergence)) (neg_of absorption)) (neg_of ground))
-level-within sound divergence absorption ground hs hd ha hg =
-    add-between (neg_ℤ (pos (650 * 2 ^ 32 + 2 ^ 60))) (pos (169 * 2 ^ 32)) (neg_ℤ (pos (2 ^ 58))) (neg_ℤ (neg_ℤ (pos (2 ^ 36)))) (neg_ℤ (pos (650 * 2 ^ 32 + 2 ^ 60 + 2 ^ 58))) (pos (185 * 2 ^ 32)) (add_of (add_of sound (neg_of divergence)) (neg_of absorption)) (neg_of ground)
-    (level-before-ground sound divergence absorption hs hd ha) (neg-between (neg_ℤ (pos (2 ^ 36))) (pos (2 ^ 58)) ground hg) (omega (arith, ints)) (omega (arith, ints)) (omega (arith, ints)) (omega (arith, ints))
+pub level-within : (emission divergence absorption ground : Interval) → IsEmission emission → AreBetween (pos (11 * 2 ^ 32)) (pos (600 * 2 ^ 32)) divergence → AreBetween (pos 0) (pos (2 ^ 60)) absorption → AreBetween (neg_ℤ (pos (2 ^ 36))) (pos (2 ^ 58)) ground
+    → HasLevelBounds (add_of (add_of (add_of emission (neg_of divergence)) (neg_of absorption)) (neg_of ground))
+level-within emission divergence absorption ground hs hd ha hg =
+    add-between (neg_ℤ (pos (650 * 2 ^ 32 + 2 ^ 60))) (pos (169 * 2 ^ 32)) (neg_ℤ (pos (2 ^ 58))) (neg_ℤ (neg_ℤ (pos (2 ^ 36)))) (neg_ℤ (pos (650 * 2 ^ 32 + 2 ^ 60 + 2 ^ 58))) (pos (185 * 2 ^ 32)) (add_of (add_of emission (neg_of divergence)) (neg_of absorption)) (neg_of ground)
+    (level-before-ground emission divergence absorption hs hd ha) (neg-between (neg_ℤ (pos (2 ^ 36))) (pos (2 ^ 58)) ground hg) (omega (arith, ints)) (omega (arith, ints)) (omega (arith, ints)) (omega (arith, ints))
 
 widened : (al ah bl bh : ℤ) (x : Option ℤ) → IsBetween al ah x → bl ≤ℤ al → ah ≤ℤ bh → IsBetween bl bh x
 widened al ah bl bh None p low high = absurd p
 widened al ah bl bh (Some x) p low high = (omega (arith, ints, p.0, low), omega (arith, ints, p.1, high))
 
 -- a level, with the A-weight or without, has an energy
-pub plain-level : (level : Interval) → IsHearable level → AreBetween (neg_ℤ (pos (2 ^ 61))) (pos (199 * 2 ^ 32)) level
+pub plain-level : (level : Interval) → HasLevelBounds level → AreBetween (neg_ℤ (pos (2 ^ 61))) (pos (189 * 2 ^ 32)) level
 plain-level level p = record {
-  lo = widened (neg_ℤ (pos (650 * 2 ^ 32 + 2 ^ 60 + 2 ^ 58))) (pos (185 * 2 ^ 32)) (neg_ℤ (pos (2 ^ 61))) (pos (199 * 2 ^ 32)) level.lo p.lo (omega (arith, ints)) (omega (arith, ints));
-  hi = widened (neg_ℤ (pos (650 * 2 ^ 32 + 2 ^ 60 + 2 ^ 58))) (pos (185 * 2 ^ 32)) (neg_ℤ (pos (2 ^ 61))) (pos (199 * 2 ^ 32)) level.hi p.hi (omega (arith, ints)) (omega (arith, ints));
+  lo = widened (neg_ℤ (pos (650 * 2 ^ 32 + 2 ^ 60 + 2 ^ 58))) (pos (185 * 2 ^ 32)) (neg_ℤ (pos (2 ^ 61))) (pos (189 * 2 ^ 32)) level.lo p.lo (omega (arith, ints)) (omega (arith, ints));
+  hi = widened (neg_ℤ (pos (650 * 2 ^ 32 + 2 ^ 60 + 2 ^ 58))) (pos (185 * 2 ^ 32)) (neg_ℤ (pos (2 ^ 61))) (pos (189 * 2 ^ 32)) level.hi p.hi (omega (arith, ints)) (omega (arith, ints));
 }
 
-pub weighted-level : (level weight : Interval) → IsHearable level → AreBetween (neg_ℤ (pos (30 * 2 ^ 32))) (pos (2 * 2 ^ 32)) weight → AreBetween (neg_ℤ (pos (2 ^ 61))) (pos (199 * 2 ^ 32)) (add_of level weight)
+pub weighted-level : (level weight : Interval) → HasLevelBounds level → AreBetween (neg_ℤ (pos (30 * 2 ^ 32))) (pos (2 * 2 ^ 32)) weight → AreBetween (neg_ℤ (pos (2 ^ 61))) (pos (189 * 2 ^ 32)) (add_of level weight)
 weighted-level level weight p q =
-    add-between (neg_ℤ (pos (650 * 2 ^ 32 + 2 ^ 60 + 2 ^ 58))) (pos (185 * 2 ^ 32)) (neg_ℤ (pos (30 * 2 ^ 32))) (pos (2 * 2 ^ 32)) (neg_ℤ (pos (2 ^ 61))) (pos (199 * 2 ^ 32)) level weight
+    add-between (neg_ℤ (pos (650 * 2 ^ 32 + 2 ^ 60 + 2 ^ 58))) (pos (185 * 2 ^ 32)) (neg_ℤ (pos (30 * 2 ^ 32))) (pos (2 * 2 ^ 32)) (neg_ℤ (pos (2 ^ 61))) (pos (189 * 2 ^ 32)) level weight
     p q (omega (arith, ints)) (omega (arith, ints)) (omega (arith, ints)) (omega (arith, ints))
 
 -- ---- the level of a sum

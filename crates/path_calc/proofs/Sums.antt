@@ -64,7 +64,7 @@ abs-below : (z : ℤ) (limit : ℕ) → pos 0 ≤ℤ z → z ≤ℤ pos limit �
 abs-below (pos n) limit low high small = omega (arith, ints, high)
 abs-below (negsuc n) limit low high small = absurd (omega (arith, ints))
 
-sum-not-negative : (a b : Interval) (m n : ℕ) → m + n ≤ 1000 → IsSumOf m a → IsSumOf n b → IsSomeAnd (sum_of_ends a.lo b.lo) (λ z. pos 0 ≤ℤ z)
+sum-not-negative : (a b : Interval) (m n : ℕ) → m + n < 2 ^ 18 → IsSumOf m a → IsSumOf n b → IsSomeAnd (sum_of_ends a.lo b.lo) (λ z. pos 0 ≤ℤ z)
 sum-not-negative a b m n few p q = low-sum a.lo a.hi b.lo b.hi p.interval.ordered q.interval.ordered p.low q.low p.high q.high where
   low-sum : (al ah bl bh : Option ℤ) → IsOrdered al ah → IsOrdered bl bh → IsSomeAnd al (λ z. pos 0 ≤ℤ z) → IsSomeAnd bl (λ z. pos 0 ≤ℤ z) → IsBetween (pos 0) (pos (m * energy_limit)) ah → IsBetween (pos 0) (pos (n * energy_limit)) bh → IsSomeAnd (sum_of_ends al bl) (λ z. pos 0 ≤ℤ z)
   low-sum None ah bl bh r s x y u v = absurd x
@@ -72,15 +72,15 @@ sum-not-negative a b m n few p q = low-sum a.lo a.hi b.lo b.hi p.interval.ordere
   low-sum (Some x) None (Some y) bh r s h k u v = absurd u
   low-sum (Some x) (Some z) (Some y) None r s h k u v = absurd v
   low-sum (Some x) (Some z) (Some y) (Some w) r s h k u v =
-      rw (end_of-small (x +ℤ y) (abs-below (x +ℤ y) (1000 * energy_limit) (omega (arith, ints, h, k)) (omega (arith, ints, r, s, u.1, v.1, few)) (lit< tt))) (omega (arith, ints, h, k))
+      rw (end_of-small (x +ℤ y) (abs-below (x +ℤ y) (2 ^ 18 * energy_limit) (omega (arith, ints, h, k)) (omega (arith, ints, r, s, u.1, v.1, few)) (lit< tt))) (omega (arith, ints, h, k))
 
-sum-bounded : (m n : ℕ) (x y : Option ℤ) → m + n ≤ 1000 → IsBetween (pos 0) (pos (m * energy_limit)) x → IsBetween (pos 0) (pos (n * energy_limit)) y → IsBetween (pos 0) (pos ((m + n) * energy_limit)) (sum_of_ends x y)
+sum-bounded : (m n : ℕ) (x y : Option ℤ) → m + n < 2 ^ 18 → IsBetween (pos 0) (pos (m * energy_limit)) x → IsBetween (pos 0) (pos (n * energy_limit)) y → IsBetween (pos 0) (pos ((m + n) * energy_limit)) (sum_of_ends x y)
 sum-bounded m n None y few p q = absurd p
 sum-bounded m n (Some x) None few p q = absurd q
 sum-bounded m n (Some x) (Some y) few p q =
-    rw (end_of-small (x +ℤ y) (abs-below (x +ℤ y) (1000 * energy_limit) (omega (arith, ints, p.0, q.0)) (omega (arith, ints, p.1, q.1, few)) (lit< tt))) (omega (arith, ints, p.0, q.0), omega (arith, ints, p.1, q.1))
+    rw (end_of-small (x +ℤ y) (abs-below (x +ℤ y) (2 ^ 18 * energy_limit) (omega (arith, ints, p.0, q.0)) (omega (arith, ints, p.1, q.1, few)) (lit< tt))) (omega (arith, ints, p.0, q.0), omega (arith, ints, p.1, q.1))
 
-pub sums-added : (a b : Interval) (m n : ℕ) → m + n ≤ 1000 → IsSumOf m a → IsSumOf n b → IsSumOf (m + n) (add_of a b)
+pub sums-added : (a b : Interval) (m n : ℕ) → m + n < 2 ^ 18 → IsSumOf m a → IsSumOf n b → IsSumOf (m + n) (add_of a b)
 unfolding add_of
 sums-added a b m n few p q = record {
   interval = IsInterval-add_of a b p.interval q.interval;
@@ -88,12 +88,12 @@ sums-added a b m n few p q = record {
   high = sum-bounded m n a.hi b.hi few p.high q.high;
 }
 
-limited : (count : ℕ) (end : Option ℤ) → count ≤ 1000 → IsBetween (pos 0) (pos (count * energy_limit)) end → IsSomeAnd end (λ z. (pos 0 ≤ℤ z) × (z <ℤ pos (2 ^ 114)))
+limited : (count : ℕ) (end : Option ℤ) → count < 2 ^ 18 → IsBetween (pos 0) (pos (count * energy_limit)) end → IsSomeAnd end (λ z. (pos 0 ≤ℤ z) × (z <ℤ pos (2 ^ 114)))
 limited count None few p = absurd p
 limited count (Some z) few p = (p.0, omega (arith, ints, p.1, few))
 
 -- a sum of so few energies is an energy
-pub sum-is-energy : (count : ℕ) (e : Interval) → count ≤ 1000 → IsSumOf count e → IsEnergy e
+pub sum-is-energy : (count : ℕ) (e : Interval) → count < 2 ^ 18 → IsSumOf count e → IsEnergy e
 sum-is-energy count e few is = record { low = is.low; high = limited count e.hi few is.high }
 
 -- ---- sums of lists

@@ -21,7 +21,7 @@ fn coefficients(air: Air) -> [u32; 8]
 }
 
 /// The attenuation coefficient of an air in a band, in 0.1 dB/km (ISO 9613-2, Table 2).
-pub fn coefficient(air: Air, band: Band) -> u32
+pub(crate) fn coefficient(air: Air, band: Band) -> u32
     ensures value { result ≡ coefficient_in air band }
     ensures bound { result < 4096 }
 {

@@ -1,6 +1,6 @@
 //! The octave bands.
-ghost use Rattle.std.specs.Prelude.{◌≡◌, ◌<◌, ◌≤ℤ◌, pos, neg_ℤ};
-ghost use Rattle.path_calc.specs.Bands.{all_bands, place_of, frequency_of, weight_in};
+ghost use Rattle.std.specs.Prelude.{◌≡◌, ◌<◌};
+ghost use Rattle.path_calc.specs.Bands.{all_bands, place_of, frequency_of};
 
 /// An octave band, by its nominal midband frequency.
 #[derive(Clone, Copy, Debug, PartialEq, Eq)]
@@ -62,24 +62,6 @@ impl Band {
             Band::Hz2000 => 2000,
             Band::Hz4000 => 4000,
             Band::Hz8000 => 8000,
-        }
-    }
-
-    /// The A-weighting in 0.1 dB (ISO 9613-2, equation 5).
-    pub fn weight(self) -> i32
-        ensures value { result ≡ weight_in self }
-        ensures low { neg_ℤ (pos 300) ≤ℤ result }
-        ensures high { result ≤ℤ pos 20 }
-    {
-        match self {
-            Band::Hz63 => -262,
-            Band::Hz125 => -161,
-            Band::Hz250 => -86,
-            Band::Hz500 => -32,
-            Band::Hz1000 => 0,
-            Band::Hz2000 => 12,
-            Band::Hz4000 => 10,
-            Band::Hz8000 => -11,
         }
     }
 }

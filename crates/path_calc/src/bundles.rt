@@ -31,7 +31,7 @@ impl Model for Bundle {
 
 impl Bundle {
     /// The energy in a band.
-    pub fn energy_in(&self, band: Band) -> Iv
+    pub(crate) fn energy_in(&self, band: Band) -> Iv
         ensures value { result ≡ energy_in band self.now }
         ensures energy { IsEnergy result }
     {
@@ -39,7 +39,7 @@ impl Bundle {
     }
 
     /// The long-term energy.
-    pub fn long_energy(&self) -> Iv
+    pub(crate) fn long_energy(&self) -> Iv
         ensures value { result ≡ self.now.long }
         ensures energy { IsEnergy result }
     {

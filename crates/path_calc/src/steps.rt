@@ -4,7 +4,8 @@ ghost use Rattle.std.specs.Prelude.{◌≡◌, ◌+◌, ◌<◌};
 use std::marker::Model;
 use std::sync::ledger::{Blank, Book, Ledger, Share};
 
-/// How many paths were calculated. It takes no bytes, and a path counts as one step. Contracts see it as that number.
+/// How many paths were calculated: each calculation of a bundle counts one step, and nothing else can count, since only
+/// this crate can call `tick`. So one step more is one bundle more. It takes no bytes. Contracts see it as that number.
 #[derive(Drop)]
 pub struct Steps<L: Ledger> {
     book: Book<L>,
@@ -34,7 +35,7 @@ impl<L: Ledger> Steps<L> {
     }
 
     /// Counts one step.
-    pub fn tick(&mut self)
+    pub(crate) fn tick(&mut self)
         ensures { self.new ≡ self.old + 1 }
     {
         self.book.add(&mut self.share, 1);

@@ -8,7 +8,7 @@ use Rattle.path_calc.specs.Levels.{level_of}
 use Rattle.path_calc.proofs.Bounds.{is-level}
 use Rattle.path_calc.proofs.Sums.{IsCounted, summed, none-counted, next-sum, one-counted, room, sum-of-map}
 use Rattle.path_calc.proofs.Adding.{long-can}
-use Rattle.path_calc.proofs.addition.long_level.Goals as goal
+use Rattle.path_calc.proofs.addition.total_level.Goals as goal
 
 pub loop-bundle-init : goal.loop-bundle-init
 loop-bundle-init c = record {

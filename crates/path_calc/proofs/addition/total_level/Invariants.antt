@@ -2,7 +2,7 @@
 use Rattle.std.proofs.Common.{◌≡◌, take}
 use Rattle.path_calc.specs.Bundles.{Bundle}
 use Rattle.path_calc.proofs.Sums.{IsCounted, summed}
-use Rattle.path_calc.proofs.addition.long_level.Given as goal
+use Rattle.path_calc.proofs.addition.total_level.Given as goal
 
 abbrev pub invariant-loop-bundle : goal.invariant-loop-bundle
 invariant-loop-bundle l = record {

@@ -5,7 +5,7 @@ use Rattle.fix_interval.specs.Interval.{Interval}
 use Rattle.fix_interval.specs.Bounds.{AreBetween}
 use Rattle.fix_interval.specs.Values.{ratio_of}
 use Rattle.path_calc.proofs.Bounds.{directivity-within}
-use Rattle.path_calc.proofs.path.directivity.Goals as goal
+use Rattle.path_calc.proofs.prepared.directivity.Goals as goal
 
 pub returns-clause-bounds : goal.returns-clause-bounds
 returns-clause-bounds c =

@@ -1,5 +1,5 @@
 use Rattle.path_calc.proofs.Sums.{no-sum}
-use Rattle.path_calc.proofs.path.silence.Goals as goal
+use Rattle.path_calc.proofs.hearing.silence.Goals as goal
 
 pub returns-clause-energy_bounds : goal.returns-clause-energy_bounds
 returns-clause-energy_bounds c = rw c.exact.ensures (no-sum 1)
