@@ -12,3 +12,4 @@ pub mod Shifted
 pub mod TableLemmas
 pub mod TenInterval
 pub mod TenLaw
+pub mod PowerRanges

@@ -2,6 +2,7 @@
 
 ghost use Rattle.std.specs.Prelude.{◌≡◌, ◌<◌, ◌≤◌, ◌*◌, ◌%◌, ◌^◌, ◌≤ℤ◌, IsSomeAnd, IfSome, pos, Some};
 ghost use Rattle.std.specs.Option.{option_map_or};
+ghost use Rattle.fix_interval.specs.Interval.{IsInterval};
 ghost use Rattle.fix_interval.specs.Ten.{ten_of, raised_low, raised_high, fraction_low, fraction_high};
 ghost use Rattle.enclose_exp.specs.Exponent.{counted, low_value, high_value};
 
@@ -24,6 +25,7 @@ const LEAST_COUNTED: u64 = 1 << 32;
 /// the high end is above 0, and is unbounded where the exponent may reach 20.
 pub fn ten(a: Iv) -> Iv
     ensures value { result ≡ ten_of a }
+    ensures interval { IsInterval result }
     ensures low { IsSomeAnd result.lo (λ z. pos 0 ≤ℤ z) }
     ensures high { IfSome result.hi (λ z. pos 1 ≤ℤ z) }
 {

@@ -7,3 +7,4 @@ pub mod Quotients
 pub mod Turns
 pub mod Value
 pub mod LgSpans
+pub mod LgRange

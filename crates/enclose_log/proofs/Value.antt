@@ -165,13 +165,13 @@ lg-ordered m n positive le small =
     omega (arith, ints, sums)
 
 -- what the digits leave of the decades
-digits_low-small : (n : ℕ) → 0 < n → n < 2 ^ 126 → (digits_low (mantissa_low n)).digits < 2 ^ 32
+pub digits_low-small : (n : ℕ) → 0 < n → n < 2 ^ 126 → (digits_low (mantissa_low n)).digits < 2 ^ 32
 unfolding digits_low
 digits_low-small n positive small =
     let range = mantissa_low-within n (decade_of n) (decade_of-holds n positive small) in
     (turns_low-in_range (mantissa_low n) 32 range.0 range.1).digits
 
-rounded_up-small : (n : ℕ) → 0 < n → n < 2 ^ 126 → rounded_up (digits_high (mantissa_high n)) ≤ 2 ^ 32
+pub rounded_up-small : (n : ℕ) → 0 < n → n < 2 ^ 126 → rounded_up (digits_high (mantissa_high n)) ≤ 2 ^ 32
 unfolding digits_high
 rounded_up-small n positive small =
     let range = mantissa_high-within n (decade_of n) (decade_of-holds n positive small) in
