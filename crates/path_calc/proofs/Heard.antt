@@ -1,9 +1,10 @@
 -- What is heard at the end of a path is what the definitions say of its source and its receiver.
-use Rattle.std.proofs.Common.{◌≡◌, ℕ, ◌<◌, ℤ, pos, List, [], ◌∷◌, get_or, map, Option, refl, sym, ap, ◌∙◌}
+use Rattle.std.proofs.Common.{◌≡◌, ℕ, ◌<◌, ℤ, pos, List, [], ◌∷◌, get_or, map, Option, refl, sym, ap, ◌∙◌, arith}
 use Rattle.std.specs.Prelude.{Some, None, slice_index_or}
 use Rattle.std.specs.Option.{option_map}
+use Rattle.std.proofs.lemmas.Int.{ints}
 use Rattle.std.proofs.lemmas.List.{get_or-map}
-use Rattle.fix_interval.specs.Interval.{Interval, IsInterval}
+use Rattle.fix_interval.specs.Interval.{Interval}
 use Rattle.fix_interval.specs.Values.{ratio_of, add_of}
 use Rattle.fix_interval.specs.Tree.{Tree, Known, Const, Add, enc}
 use Rattle.energy_sum.specs.Energies.{energy_form}
@@ -23,28 +24,23 @@ use Rattle.path_calc.specs.Surroundings.{Surroundings, path_of, surroundings_of}
 use Rattle.path_calc.specs.Contributions.{emission_in, level_over, ground_in, sounds_of}
 use Rattle.path_calc.specs.Energies.{sum_form, weighted, energy_of, long_energy_of, band_energy, long_energy_in}
 use Rattle.path_calc.specs.Prepared.{PreparedSource, prepared_of, emission_at}
+use Rattle.path_calc.specs.Ranges.{IsAtReceiver}
 use Rattle.path_calc.specs.Hearing.{ground_at, level_after, energy_after, long_energy_after}
-use Rattle.path_calc.proofs.Sums.{and-nothing, nothing-and}
+use Rattle.path_calc.proofs.Sums.{are-small, and-nothing}
 use Rattle.path_calc.proofs.Eight.{at-place, map-same, place-below}
 use Rattle.path_calc.proofs.Zones.{ground-eight, same-surroundings}
 
 -- a level with a weight of 0 is that level
-pub unweighted : (band : Band) (level energy : Interval) → IsInterval level → weight_in band ≡ pos 0 → energy ≡ enc (energy_form (Known level)) → energy ≡ enc (energy_form (weighted band (Known level)))
+pub unweighted : (band : Band) (level energy : Interval) → IsAtReceiver level → weight_in band ≡ pos 0 → energy ≡ enc (energy_form (Known level)) → energy ≡ enc (energy_form (weighted band (Known level)))
 unweighted band level energy is weight energy-is =
     energy-is
-    ∙ ap (λ (i : Interval). enc (energy_form (Known i))) (sym (and-nothing level is))
+    ∙ ap (λ (i : Interval). enc (energy_form (Known i))) (sym (and-nothing level (are-small _ _ level is (omega (arith, ints)) (omega (arith, ints)))))
     ∙ ap (λ (w : ℤ). enc (energy_form (Add (Known level) (Const w 10)))) (sym weight)
-
--- the sum of the energy of one sound is that energy
-pub one-sound : (f : Tree → Tree) → ((t : Tree) → enc (f t) ≡ enc (f (Known (enc t)))) → (t : Tree) (level e : Interval) → level ≡ enc t → e ≡ enc (f (Known level)) → IsInterval e → e ≡ enc (sum_form (f t ∷ []))
-one-sound f known t level e level-is e-is is =
-    sym (nothing-and e is)
-    ∙ ap (add_of (ratio_of (pos 0) 1)) (e-is ∙ ap (λ (i : Interval). enc (f (Known i))) level-is ∙ sym (known t))
 
 -- ---- what is known of a path is what these formulas say
 
-pub record Fits (p : Propagation) (air : Air) (d : Tree) (gr : Band → Tree) : Type 0 where
-  pub air : p.air ≡ air
+pub record Fits (p : Propagation) (a : Air) (d : Tree) (gr : Band → Tree) : Type 0 where
+  pub air : p.air ≡ a
   pub distance : p.distance ≡ enc d
   pub ground : (band : Band) → ground_at p band ≡ enc (gr band)
 
@@ -56,19 +52,17 @@ level-fits p air d gr band emission fits =
     ∙ ap (λ (a : Air). enc (level_over emission d (coefficient_in a band) (gr band))) fits.air
 
 -- the formulas of the direct path
-pub FitsDirect : Propagation → Globals → Surroundings → Source → Receiver → Type 0
+abbrev pub FitsDirect : Propagation → Globals → Surroundings → Source → Receiver → Type 0
 FitsDirect p globals around s r = Fits p globals.air (distance s.at s.h r.at r.h) (ground_in around.zones globals.g s r)
 
 after : (p : Propagation) (globals : Globals) (around : Surroundings) (s : Source) (r : Receiver) (band : Band) (emission : Option Tree) → FitsDirect p globals around s r
     → energy_after p band (option_map enc emission) ≡ enc (sum_form (map energy_of (sounds_of globals around s r band emission)))
-unfolding FitsDirect
 after p globals around s r band None fits = refl
 after p globals around s r band (Some emission) fits =
     ap (λ (i : Interval). enc (sum_form (energy_form (Known i) ∷ []))) (level-fits p globals.air (distance s.at s.h r.at r.h) (ground_in around.zones globals.g s r) band emission fits)
 
 long-after : (p : Propagation) (globals : Globals) (around : Surroundings) (s : Source) (r : Receiver) (band : Band) (emission : Option Tree) → FitsDirect p globals around s r
     → long_energy_after p band (option_map enc emission) ≡ enc (sum_form (map (long_energy_of band) (sounds_of globals around s r band emission)))
-unfolding FitsDirect
 long-after p globals around s r band None fits = refl
 long-after p globals around s r band (Some emission) fits =
     ap (λ (i : Interval). enc (sum_form (energy_form (weighted band (Known i)) ∷ []))) (level-fits p globals.air (distance s.at s.h r.at r.h) (ground_in around.zones globals.g s r) band emission fits)

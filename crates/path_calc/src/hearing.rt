@@ -1,12 +1,11 @@
 //! What a receiver hears at the end of a path, in one band.
-ghost use Rattle.std.specs.Prelude.{◌≡◌, ◌*◌, ◌^◌, pos, neg_ℤ, IfSome};
-ghost use Rattle.fix_interval.specs.Bounds.{AreBetween};
+ghost use Rattle.std.specs.Prelude.{◌≡◌, pos, IfSome};
 ghost use Rattle.fix_interval.specs.Tree.{Known, Const, enc};
 ghost use Rattle.energy_sum.specs.Energies.{energy_form};
 ghost use Rattle.path_calc.specs.Weights.{weight_in};
 ghost use Rattle.path_calc.specs.Energies.{weighted};
 ghost use Rattle.path_calc.specs.Prepared.{IsEmission};
-ghost use Rattle.path_calc.specs.Ranges.{IsPropagation, IsHearable, IsSumOf};
+ghost use Rattle.path_calc.specs.Ranges.{IsPropagation, IsAtReceiver, IsHearable, IsWeight, IsSumOf};
 ghost use Rattle.path_calc.specs.Hearing.{level_after, energy_after, long_energy_after};
 
 use crate::absorption::coefficient;
@@ -45,7 +44,7 @@ fn level_in(propagation: &Propagation, band: Band, emission: Iv) -> Iv
     requires propagation { IsPropagation propagation.now }
     requires emission { IsEmission emission }
     ensures value { result ≡ enc (level_after propagation.now band emission) }
-    ensures range { IsHearable result }
+    ensures range { IsAtReceiver result }
 {
     let absorption = a_atm(propagation.distance, coefficient(propagation.air, band));
     let over_ground = sub(sub(emission, propagation.divergence), absorption);
@@ -54,7 +53,7 @@ fn level_in(propagation: &Propagation, band: Band, emission: Iv) -> Iv
 
 /// The energies of a level in a band.
 fn heard_at(level: Iv, band: Band) -> Heard
-    requires { IsHearable level }
+    requires { IsAtReceiver level }
     ensures energy { result.energy ≡ enc (energy_form (Known level)) }
     ensures long { result.long ≡ enc (energy_form (weighted band (Known level))) }
     ensures energy_bounds { IsSumOf 1 result.energy }
@@ -67,7 +66,7 @@ fn heard_at(level: Iv, band: Band) -> Heard
 
 /// The energy of a level.
 fn energy_at(level: Iv) -> Iv
-    requires { AreBetween (neg_ℤ (pos (2 ^ 61))) (pos (190 * 2 ^ 32)) level }
+    requires { IsHearable level }
     ensures value { result ≡ enc (energy_form (Known level)) }
     ensures bounds { IsSumOf 1 result }
 {
@@ -76,7 +75,7 @@ fn energy_at(level: Iv) -> Iv
 
 /// The energy of a level with the A-weight of its band: the energy without it, where that weight is 0.
 fn long_energy_at(level: Iv, band: Band, energy: Iv) -> Iv
-    requires level { IsHearable level }
+    requires level { IsAtReceiver level }
     requires energy { energy ≡ enc (energy_form (Known level)) }
     requires bounds { IsSumOf 1 energy }
     ensures value { result ≡ enc (energy_form (weighted band (Known level))) }
@@ -92,7 +91,7 @@ fn long_energy_at(level: Iv, band: Band, energy: Iv) -> Iv
 /// The A-weight of a band in dB.
 fn weight_in_decibels(band: Band) -> Iv
     ensures value { result ≡ enc (Const (weight_in band) 10) }
-    ensures bounds { AreBetween (neg_ℤ (pos (30 * 2 ^ 32))) (pos (2 * 2 ^ 32)) result }
+    ensures bounds { IsWeight result }
 {
     tenths(weight_of(band))
 }

@@ -1,12 +1,11 @@
 //! What is calculated once of a source or of a receiver, and serves all of its paths.
-ghost use Rattle.std.specs.Prelude.{◌≡◌, ◌*◌, ◌^◌, pos, neg_ℤ, map, All, IfSome};
+ghost use Rattle.std.specs.Prelude.{◌≡◌, map, All, IfSome};
 ghost use Rattle.std.specs.Option.{option_map};
-ghost use Rattle.fix_interval.specs.Bounds.{AreBetween};
 ghost use Rattle.fix_interval.specs.Tree.{Known, Const, Add, enc};
 ghost use Rattle.path_calc.specs.Bands.{all_bands};
 ghost use Rattle.path_calc.specs.Contributions.{power_in as power_of, emission_in as emission_of};
 ghost use Rattle.path_calc.specs.Prepared.{prepared_of, emission_at, IsEmission};
-ghost use Rattle.path_calc.specs.Ranges.{IsPower};
+ghost use Rattle.path_calc.specs.Ranges.{IsPower, IsCorrection};
 
 use crate::band::Band;
 use crate::numbers::hundredths;
@@ -124,7 +123,7 @@ fn emission_in(source: &PointSource, band: Band) -> Option<Iv>
 /// L_W + D_c, of a power in 0.01 dB and a directivity correction in dB.
 fn emission(power: i32, directivity: Iv) -> Iv
     requires power { IsPower power }
-    requires directivity { AreBetween (neg_ℤ (pos (30 * 2 ^ 32))) (pos (20 * 2 ^ 32)) directivity }
+    requires directivity { IsCorrection directivity }
     ensures value { result ≡ enc (Add (Const power 100) (Known directivity)) }
     ensures bounds { IsEmission result }
 {
@@ -142,7 +141,7 @@ fn power_in(source: &PointSource, band: Band) -> Option<i32>
 /// The directivity correction of a source, in dB.
 fn directivity(source: &PointSource) -> Iv
     ensures value { result ≡ enc (Const source.now.dc 100) }
-    ensures bounds { AreBetween (neg_ℤ (pos (30 * 2 ^ 32))) (pos (20 * 2 ^ 32)) result }
+    ensures bounds { IsCorrection result }
 {
     hundredths(source.dc)
 }

@@ -14,7 +14,6 @@ use Rattle.path_calc.proofs.Heard.{FitsDirect, bands-heard, longs-heard, ground-
 use Rattle.path_calc.proofs.energies.path_energies.Goals as goal
 
 fits : (c : goal.After-long_sum) → let book = c.args.scene.now in FitsDirect c.direct.result book.globals (surroundings_of book c.args.source.now c.args.receiver.now) c.args.source.now c.args.receiver.now
-unfolding FitsDirect
 fits c = record {
   air = c.direct.ensures.air;
   distance = c.direct.ensures.distance;
