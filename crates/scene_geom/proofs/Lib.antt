@@ -7,3 +7,4 @@ pub mod Blocking
 pub mod Reversing
 pub mod Turning
 pub mod CommonPoint
+pub mod Walls

@@ -1,5 +1,5 @@
 -- Fractions, kept as they were found and not reduced.
-use Rattle.std.specs.Prelude.{◌<ℤ◌, zero, suc, ℤ, pos, negsuc, neg_ℤ, ◌*ℤ◌, ◌≤◌, Bool, ◌&&◌, int_lt, unsigned_abs, Option}
+use Rattle.std.specs.Prelude.{◌<ℤ◌, zero, suc, ℤ, pos, negsuc, neg_ℤ, ◌-ℤ◌, ◌*ℤ◌, ◌≤◌, Bool, ◌&&◌, int_lt, unsigned_abs, Option}
 use Rattle.std.specs.Bool.{then_some}
 use Rattle.scene_geom.specs.declared.fraction.Frac.{Frac}
 use Rattle.scene_geom.specs.Positive.{suc-positive}
@@ -13,6 +13,10 @@ over n (negsuc k) = record { n = neg_ℤ n; d = pos (suc k); positive = suc-posi
 -- above 0
 abbrev pub is_ahead : Frac → Bool
 is_ahead place = int_lt (pos 0) place.n
+
+-- what is left of 1 after a fraction
+abbrev pub rest_of : Frac → Frac
+rest_of place = record { n = place.d -ℤ place.n; d = place.d; positive = place.positive }
 
 -- strictly between 0 and an end
 abbrev pub is_inside : Frac → Frac → Bool

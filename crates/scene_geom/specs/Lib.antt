@@ -8,4 +8,6 @@ pub mod Direction
 pub mod Crossing
 pub mod Outline
 pub mod ClearWinding
+pub mod Reflection
+pub mod Bands
 pub mod Laws

@@ -1,3 +1,5 @@
+//! Directions between points.
+
 ghost use Rattle.std.specs.Prelude.{◌≡◌, ◌≤◌, unsigned_abs};
 ghost use Rattle.scene_geom.specs.Direction.{direct, way, FitsDirection};
 ghost use Rattle.scene_geom.specs.Step.{vector};

@@ -1,3 +1,5 @@
+//! Directions of lines of sight.
+
 ghost use Rattle.std.specs.Prelude.{pos, ◌<ℤ◌};
 
 /// The direction `(x / w, y / w)` in which a line of sight leads, in mm, with `w` above 0.

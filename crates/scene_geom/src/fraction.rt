@@ -1,3 +1,5 @@
+//! Fractions of a way.
+
 ghost use Rattle.std.specs.Prelude.{pos, ◌<ℤ◌};
 
 /// A fraction `n / d` with a divisor above 0, kept as it was found and not reduced: two equal

@@ -4,6 +4,7 @@
 #![tactic(auto)]
 
 mod aims;
+mod band;
 mod crossing;
 mod direction;
 mod fraction;
@@ -12,17 +13,20 @@ mod meeting;
 mod outline;
 mod places;
 mod plan;
+mod reflection;
 mod step;
 #[cfg(test)]
 mod tests;
 mod turns;
 
 pub use aims::dir_of;
+pub use band::Band;
 pub use crossing::{Passage, blocks, crosses, hits, passes};
 pub use direction::Dir;
 pub use fraction::Frac;
 pub use meeting::meets;
 pub use outline::{area2, extent};
-pub use places::lies_inside;
+pub use places::{lies_inside, rest_after};
 pub use plan::{Pt, Side};
+pub use reflection::{Reflection, on_one_side, unfold};
 pub use turns::orient;

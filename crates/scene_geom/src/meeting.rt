@@ -1,3 +1,5 @@
+//! Whether an outline meets a line of sight.
+
 ghost use Rattle.std.specs.Prelude.{◌≡◌, ◌≤◌, unsigned_abs, IfSome};
 ghost use Rattle.scene_geom.specs.Crossing.{passage_of};
 ghost use Rattle.scene_geom.specs.Direction.{FitsDirection};

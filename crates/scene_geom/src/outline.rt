@@ -1,3 +1,5 @@
+//! Areas and extents of outlines.
+
 ghost use Rattle.std.specs.Prelude.{◌≡◌, ◌≤◌, unsigned_abs};
 ghost use Rattle.scene_geom.specs.Outline.{area2_of, extent_of};
 ghost use Rattle.scene_geom.specs.Point.{at};

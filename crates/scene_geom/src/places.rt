@@ -1,5 +1,7 @@
+//! Places on a line of sight.
+
 ghost use Rattle.std.specs.Prelude.{◌≡◌, pos, ◌≢◌, ◌<◌, ◌≤◌, ◌^◌, unsigned_abs, IfSome};
-ghost use Rattle.scene_geom.specs.Fraction.{over, inner, is_inside, FitsPlace, FitsEnd, FitsCrossing};
+ghost use Rattle.scene_geom.specs.Fraction.{over, inner, is_inside, rest_of, FitsPlace, FitsEnd, FitsCrossing};
 
 use super::fraction::Frac;
 
@@ -39,4 +41,15 @@ pub fn lies_inside(place: Frac, end: Frac) -> bool
     ensures { result ≡ is_inside place end }
 {
     place.n > 0 && place.n * end.d < end.n * place.d
+}
+
+/// What is left of 1 after a fraction, as the second leg of a path by way of a wall ends there.
+pub fn rest_after(place: Frac) -> Frac
+    requires { FitsEnd place }
+    ensures { result ≡ rest_of place }
+{
+    Frac {
+        n: place.d - place.n,
+        d: place.d,
+    }
 }

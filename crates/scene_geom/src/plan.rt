@@ -1,3 +1,5 @@
+//! Points of the plan and sides between them.
+
 ghost use Rattle.scene_geom.specs.Plan.{InPlan};
 
 /// A point of the plan, in mm: both coordinates lie between -4,000,000 and 4,000,000, these ends

@@ -1,3 +1,5 @@
+//! Ways between points of the plan.
+
 ghost use Rattle.std.specs.Prelude.{◌≡◌, ◌≤◌, unsigned_abs};
 
 use super::plan::Pt;
@@ -15,7 +17,7 @@ impl Step {
     ghost use Rattle.std.specs.Prelude.{◌≡◌, ◌≤◌, unsigned_abs};
     ghost use Rattle.scene_geom.specs.Point.{at, from_to};
     ghost use Rattle.scene_geom.specs.Step.{vector};
-    ghost use Rattle.scene_geom.specs.Vector.{cross};
+    ghost use Rattle.scene_geom.specs.Vector.{cross, dot, turned_left};
 
     /// The way from `a` to `b`.
     pub fn between(a: Pt, b: Pt) -> Self
@@ -43,5 +45,23 @@ impl Step {
         ensures within { unsigned_abs result ≤ 128000000000000 }
     {
         self.x * other.y - self.y * other.x
+    }
+
+    /// The dot product with `other`, in mm².
+    pub fn dot(self, other: Step) -> i64
+        ensures value { result ≡ dot (vector self) (vector other) }
+        ensures within { unsigned_abs result ≤ 128000000000000 }
+    {
+        self.cross(other.turned_left())
+    }
+
+    /// The way turned left by a right angle.
+    pub fn turned_left(self) -> Self
+        ensures { vector result ≡ turned_left (vector self) }
+    {
+        Step {
+            x: -self.y,
+            y: self.x,
+        }
     }
 }

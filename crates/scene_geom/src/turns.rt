@@ -1,3 +1,5 @@
+//! To which hand three points turn.
+
 ghost use Rattle.std.specs.Prelude.{◌≡◌, ◌≤◌, unsigned_abs};
 ghost use Rattle.scene_geom.specs.Point.{orient_of};
 
