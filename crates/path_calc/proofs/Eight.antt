@@ -2,9 +2,9 @@
 use Rattle.std.proofs.Common.{◌≡◌, ◌<◌, List, [], ◌∷◌, map, refl, ap, ◌∙◌, lit<}
 use Rattle.std.specs.Prelude.{All, slice_index_or}
 use Rattle.std.proofs.lemmas.List.Elements.{All-cons, All-nil}
-use Rattle.path_calc.specs.declared.band.Band.{Band}
-use Rattle.path_calc.specs.declared.band.Band.TheVariants.{Hz63, Hz125, Hz250, Hz500, Hz1000, Hz2000, Hz4000, Hz8000}
-use Rattle.path_calc.specs.Bands.{all_bands, place_of}
+use Rattle.scene_geom.specs.declared.band.Band.{Band}
+use Rattle.scene_geom.specs.declared.band.Band.TheVariants.{Hz63, Hz125, Hz250, Hz500, Hz1000, Hz2000, Hz4000, Hz8000}
+use Rattle.scene_geom.specs.Bands.{all_bands, place_of}
 
 pub place-below : (band : Band) → place_of band < 8
 place-below Hz63 = lit< tt

@@ -5,10 +5,9 @@ use Rattle.fix_interval.specs.Tree.{Tree, Known, Const, enc}
 use Rattle.energy_sum.specs.Energies.{level_form}
 use Rattle.scene_parts.specs.Seen.{Source, Receiver}
 use Rattle.scene_book.specs.Book.{Book}
-use Rattle.path_calc.specs.declared.band.Band.{Band}
-use Rattle.path_calc.specs.Bands.{all_bands}
-use Rattle.path_calc.specs.Surroundings.{surroundings_of}
-use Rattle.path_calc.specs.Energies.{sum_form, band_energy, long_energy}
+use Rattle.scene_geom.specs.declared.band.Band.{Band}
+use Rattle.scene_geom.specs.Bands.{all_bands}
+use Rattle.path_calc.specs.Energies.{sum_form, band_energy_between, long_energy_between}
 use Rattle.path_calc.specs.Bundles.{Bundle, bundle_of, energy_in}
 use Rattle.path_calc.specs.Levels.{level_in, level_of, total_of, band_level_of}
 use Rattle.path_calc.specs.Show.{sources_within, bundles_of, show_of, total_form, band_form}
@@ -29,13 +28,13 @@ level-of-forms f bundle form is sources =
 pub total-shown : (book : Book) (r : Receiver) → (show_of book r).total ≡ enc (total_form book r)
 unfolding show_of total_form
 total-shown book r =
-    level-of-forms (λ bundle. bundle.long) (λ s. bundle_of book s r) (λ s. long_energy book.globals (surroundings_of book s r) s r) (λ s. refl) (sources_within book r)
+    level-of-forms (λ bundle. bundle.long) (λ s. bundle_of book s r) (λ s. long_energy_between book s r) (λ s. refl) (sources_within book r)
 
 band-level : (book : Book) (r : Receiver) (band : Band) → band_level_of (bundles_of book r) band ≡ enc (band_form book r band)
 unfolding band_form
 band-level book r band =
-    level-of-forms (energy_in band) (λ s. bundle_of book s r) (λ s. band_energy book.globals (surroundings_of book s r) s r band)
-    (λ s. at-place (λ band. enc (band_energy book.globals (surroundings_of book s r) s r band)) (enc (long_energy book.globals (surroundings_of book s r) s r)) band) (sources_within book r)
+    level-of-forms (energy_in band) (λ s. bundle_of book s r) (λ s. band_energy_between book s r band)
+    (λ s. at-place (λ band. enc (band_energy_between book s r band)) (enc (long_energy_between book s r)) band) (sources_within book r)
 
 pub bands-shown : (book : Book) (r : Receiver) → (show_of book r).bands ≡ map (λ band. enc (band_form book r band)) all_bands
 unfolding show_of

@@ -8,11 +8,11 @@ use Rattle.scene_parts.specs.Seen.{Source, Receiver, Zone, Globals}
 use Rattle.scene_book.specs.Book.{Book}
 use Rattle.path_shape.specs.Shape.{plan_length}
 use Rattle.term_ground.proofs.Sound.{ground-sound}
-use Rattle.path_calc.specs.declared.band.Band.{Band}
-use Rattle.path_calc.specs.Bands.{all_bands, place_of}
+use Rattle.scene_geom.specs.declared.band.Band.{Band}
+use Rattle.scene_geom.specs.Bands.{all_bands, place_of}
 use Rattle.path_calc.specs.Surroundings.{Surroundings, path_of, surroundings_of}
 use Rattle.path_calc.specs.Contributions.{Counting, Always, WhereGreater, Contribution, power_in, emission, emission_in, ground_in, sounds_of, contributions}
-use Rattle.path_calc.specs.Energies.{sum_form, where_counting, weighted, energy_of, long_energy_of, band_energy, long_energy_in, long_energy}
+use Rattle.path_calc.specs.Energies.{sum_form, where_counting, weighted, energy_of, long_energy_of, band_energy, long_energy_in, long_energy, band_energy_between, long_energy_between}
 use Rattle.path_calc.specs.Show.{sources_within, total_form, band_form}
 use Rattle.path_calc.proofs.Eight.{place-below}
 use Rattle.path_calc.proofs.Zones.{ground-eight}
@@ -90,9 +90,9 @@ sound-long globals around s r =
 pub sound-total : (book : Book) (r : Receiver) → IsSound (total_form book r)
 unfolding total_form
 sound-total book r =
-    (lit< tt, (lit< tt, sound-each (λ s. long_energy book.globals (surroundings_of book s r) s r) (λ s. sound-long book.globals (surroundings_of book s r) s r) (Const (pos 0) 1) (lit< tt) (sources_within book r)))
+    (lit< tt, (lit< tt, sound-each (λ s. long_energy_between book s r) (λ s. sound-long book.globals (surroundings_of book s r) s r) (Const (pos 0) 1) (lit< tt) (sources_within book r)))
 
 pub sound-level : (book : Book) (r : Receiver) (band : Band) → IsSound (band_form book r band)
 unfolding band_form
 sound-level book r band =
-    (lit< tt, (lit< tt, sound-each (λ s. band_energy book.globals (surroundings_of book s r) s r band) (λ s. sound-band book.globals (surroundings_of book s r) s r band) (Const (pos 0) 1) (lit< tt) (sources_within book r)))
+    (lit< tt, (lit< tt, sound-each (λ s. band_energy_between book s r band) (λ s. sound-band book.globals (surroundings_of book s r) s r band) (Const (pos 0) 1) (lit< tt) (sources_within book r)))

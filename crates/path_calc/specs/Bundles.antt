@@ -6,8 +6,8 @@ use Rattle.scene_book.specs.Book.{Book}
 use Rattle.fix_interval.specs.Interval.{Interval}
 use Rattle.fix_interval.specs.Tree.{enc}
 use Rattle.energy_sum.specs.Sums.{units_of}
-use Rattle.path_calc.specs.declared.band.Band.{Band}
-use Rattle.path_calc.specs.Bands.{all_bands, place_of}
+use Rattle.scene_geom.specs.declared.band.Band.{Band}
+use Rattle.scene_geom.specs.Bands.{all_bands, place_of}
 use Rattle.path_calc.specs.Surroundings.{Surroundings, surroundings_of}
 use Rattle.path_calc.specs.Energies.{band_energy, long_energy}
 

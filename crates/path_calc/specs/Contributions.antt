@@ -7,8 +7,8 @@ use Rattle.path_shape.specs.Shape.{plan_length}
 use Rattle.path_shape.specs.declared.path.Path.{Path}
 use Rattle.term_div_atm.specs.Terms.{divergence, absorption}
 use Rattle.term_ground.specs.Ground.{ground}
-use Rattle.path_calc.specs.declared.band.Band.{Band}
-use Rattle.path_calc.specs.Bands.{place_of}
+use Rattle.scene_geom.specs.declared.band.Band.{Band}
+use Rattle.scene_geom.specs.Bands.{place_of}
 use Rattle.path_calc.specs.Absorption.{coefficient_in}
 use Rattle.path_calc.specs.Lengths.{distance}
 use Rattle.path_calc.specs.Surroundings.{Surroundings, path_of}
@@ -40,13 +40,13 @@ emission_in band s = option_map (λ power. emission power s.dc) (power_in band s
 
 -- ---- what reaches a receiver
 
--- A_gr of the direct path in a band, among these zones of ground and with the ground factor g0 in hundredths outside of them
+-- A_gr of the direct path in a band, among zones of ground, with the ground factor g0 in hundredths outside of them
 abbrev pub ground_in : List Zone → ℕ → Source → Receiver → Band → Tree
 ground_in zones g0 s r band =
     slice_index_or (ground zones g0 (path_of s r) (plan_length s.at r.at)) (place_of band) (Const (pos 0) 1)
 
--- L_W + D_c - A_div - A_atm - A_gr (equations 3 and 4), over a distance d in metres and with the coefficient of the air in
--- tenths of a decibel per kilometre
+-- L_W + D_c - A_div - A_atm - A_gr (equations 3 and 4), over a distance d in metres and with the coefficient of the air
+-- in 0.1 dB/km
 abbrev pub level_over : Tree → Tree → ℕ → Tree → Tree
 level_over emission d alpha10 gr = Sub (Sub (Sub emission (divergence d)) (absorption d alpha10)) gr
 

@@ -2,11 +2,12 @@
 use Rattle.std.specs.Prelude.{pos, List, map, fold}
 use Rattle.fix_interval.specs.Tree.{Tree, Const, Add, Pick}
 use Rattle.scene_parts.specs.Seen.{Source, Receiver, Globals}
+use Rattle.scene_book.specs.Book.{Book}
 use Rattle.energy_sum.specs.Energies.{energy_form}
-use Rattle.path_calc.specs.declared.band.Band.{Band}
-use Rattle.path_calc.specs.Bands.{all_bands}
+use Rattle.scene_geom.specs.declared.band.Band.{Band}
+use Rattle.scene_geom.specs.Bands.{all_bands}
 use Rattle.path_calc.specs.Weights.{weight_in}
-use Rattle.path_calc.specs.Surroundings.{Surroundings}
+use Rattle.path_calc.specs.Surroundings.{Surroundings, surroundings_of}
 use Rattle.path_calc.specs.Contributions.{Counting, Always, WhereGreater, Contribution, contributions}
 
 -- the sum of several quantities, 0 of none
@@ -40,3 +41,10 @@ long_energy_in globals around s r band =
 
 unfoldable pub long_energy : Globals → Surroundings → Source → Receiver → Tree
 long_energy globals around s r = sum_form (map (long_energy_in globals around s r) all_bands)
+
+-- the same in a scene
+abbrev pub band_energy_between : Book → Source → Receiver → Band → Tree
+band_energy_between book s r band = band_energy book.globals (surroundings_of book s r) s r band
+
+abbrev pub long_energy_between : Book → Source → Receiver → Tree
+long_energy_between book s r = long_energy book.globals (surroundings_of book s r) s r

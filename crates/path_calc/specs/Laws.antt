@@ -4,8 +4,8 @@ use Rattle.fix_interval.specs.Encloses.{Encloses}
 use Rattle.fix_interval.specs.Tree.{enc}
 use Rattle.scene_parts.specs.Seen.{Source, Receiver, Globals}
 use Rattle.scene_book.specs.Book.{Book}
-use Rattle.path_calc.specs.declared.band.Band.{Band}
-use Rattle.path_calc.specs.Bands.{all_bands}
+use Rattle.scene_geom.specs.declared.band.Band.{Band}
+use Rattle.scene_geom.specs.Bands.{all_bands}
 use Rattle.path_calc.specs.Surroundings.{Surroundings, surroundings_of}
 use Rattle.path_calc.specs.Energies.{band_energy, long_energy}
 use Rattle.path_calc.specs.Bundles.{bundle_of}

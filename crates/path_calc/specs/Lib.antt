@@ -1,4 +1,3 @@
-pub mod Bands
 pub mod Weights
 pub mod Absorption
 pub mod Lengths

@@ -5,8 +5,8 @@ use Rattle.fix_interval.specs.Interval.{Interval}
 use Rattle.fix_interval.specs.Bounds.{AreBetween}
 use Rattle.fix_interval.specs.Tree.{enc}
 use Rattle.scene_parts.specs.Seen.{Source}
-use Rattle.path_calc.specs.declared.band.Band.{Band}
-use Rattle.path_calc.specs.Bands.{all_bands, place_of}
+use Rattle.scene_geom.specs.declared.band.Band.{Band}
+use Rattle.scene_geom.specs.Bands.{all_bands, place_of}
 use Rattle.path_calc.specs.Contributions.{emission_in}
 
 -- the height of a source in mm, and what it emits in each band, in dB

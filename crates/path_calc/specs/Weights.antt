@@ -1,7 +1,7 @@
 -- The A-weighting.
 use Rattle.std.specs.Prelude.{ℤ, pos, neg_ℤ}
-use Rattle.path_calc.specs.declared.band.Band.{Band}
-use Rattle.path_calc.specs.declared.band.Band.TheVariants.{Hz63, Hz125, Hz250, Hz500, Hz1000, Hz2000, Hz4000, Hz8000}
+use Rattle.scene_geom.specs.declared.band.Band.{Band}
+use Rattle.scene_geom.specs.declared.band.Band.TheVariants.{Hz63, Hz125, Hz250, Hz500, Hz1000, Hz2000, Hz4000, Hz8000}
 
 -- A_f of equation (5), in tenths of a decibel
 abbrev pub weight_in : Band → ℤ

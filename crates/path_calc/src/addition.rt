@@ -3,11 +3,11 @@ ghost use Rattle.std.specs.Prelude.{◌≡◌};
 ghost use Rattle.path_calc.specs.Bundles.{CanBeAdded};
 ghost use Rattle.path_calc.specs.Levels.{IsLevel, AreLevels, total_of, band_level_of, levels_of};
 
-use crate::band::Band;
 use crate::bundles::Bundle;
 use crate::results::Levels;
 use energy_sum::{Sum, level};
 use fix_interval::Iv;
+use scene_geom::Band;
 
 /// The levels that a receiver has from these bundles, 0 dB from none.
 pub fn levels(bundles: &[Bundle]) -> Levels
@@ -30,7 +30,8 @@ pub fn levels(bundles: &[Bundle]) -> Levels
     }
 }
 
-/// The A-weighted long-term level in dB that a receiver has from these bundles, 0 dB from none: `levels` without the bands.
+/// The A-weighted long-term level in dB that a receiver has from these bundles, 0 dB from none: what `levels` gives
+/// without the bands.
 pub fn total_level(bundles: &[Bundle]) -> Iv
     requires { CanBeAdded bundles.now }
     ensures value { result ≡ total_of bundles.now }

@@ -2,9 +2,8 @@
 ghost use Rattle.std.specs.Prelude.{◌≡◌, ◌<◌, ◌^◌, pos, ◌≤ℤ◌, ◌<ℤ◌, IsSomeAnd};
 ghost use Rattle.path_calc.specs.Bundles.{IsEnergy, energy_in};
 
-use crate::band::Band;
 use fix_interval::Iv;
-use scene_geom::Pt;
+use scene_geom::{Band, Pt};
 use scene_parts::Name;
 use std::marker::Model;
 
@@ -24,9 +23,13 @@ impl Model for Bundle {
 
     ghost Value = { BundleSeen };
 
-    ghost view = { λ b. record { source = b.source; at = b.at; h = b.h; energy = b.energy; long = b.long } };
+    ghost view = { λ b. record {
+        source = b.source; at = b.at; h = b.h; energy = b.energy; long = b.long
+    } };
 
-    ghost invariant = { λ b. IsBundle (record { source = b.source; at = b.at; h = b.h; energy = b.energy; long = b.long }) };
+    ghost invariant = { λ b. IsBundle (record {
+        source = b.source; at = b.at; h = b.h; energy = b.energy; long = b.long
+    }) };
 }
 
 impl Bundle {

@@ -1,22 +1,22 @@
 //! The energies that a receiver has from a source.
 ghost use Rattle.std.specs.Prelude.{◌≡◌, map, All};
 ghost use Rattle.fix_interval.specs.Tree.{Known, enc};
-ghost use Rattle.path_calc.specs.Bands.{all_bands};
-ghost use Rattle.path_calc.specs.Surroundings.{surroundings_of};
-ghost use Rattle.path_calc.specs.Energies.{sum_form, band_energy, long_energy};
-ghost use Rattle.path_calc.specs.Prepared.{prepared_of, emission_at};
+ghost use Rattle.scene_geom.specs.Bands.{all_bands};
+ghost use Rattle.path_calc.specs.Energies.{sum_form};
+ghost use Rattle.path_calc.specs.Bundles.{bundle_of};
+ghost use Rattle.path_calc.specs.Prepared.{prepared_of};
 ghost use Rattle.path_calc.specs.Ranges.{IsPropagation, IsSumOf};
 ghost use Rattle.path_calc.specs.Hearing.{energy_after, long_energy_after};
 
-use crate::band::Band;
 use crate::hearing::{Heard, heard_in};
 use crate::prepared::{PreparedReceiver, PreparedSource};
 use crate::propagation::{Propagation, direct};
 use fix_interval::{Iv, add, exact};
 use scene_book::Scene;
+use scene_geom::Band;
 use scene_parts::{PointSource, Receiver};
 
-/// The energies that a receiver has from a source: in each band, and the long-term energy over all bands.
+/// The energies that a receiver has from a source: in each band, and the long-term energy over all.
 #[derive(Drop)]
 pub(crate) struct Energies {
     pub(crate) bands: [Iv; 8],
@@ -33,8 +33,8 @@ pub(crate) fn path_energies(
 ) -> Energies
     requires source { from.now ≡ prepared_of source.now }
     requires receiver { to.now ≡ receiver.now.h }
-    ensures bands { result.bands ≡ map (λ band. enc (band_energy scene.now.globals (surroundings_of scene.now source.now receiver.now) source.now receiver.now band)) all_bands }
-    ensures long { result.long ≡ enc (long_energy scene.now.globals (surroundings_of scene.now source.now receiver.now) source.now receiver.now) }
+    ensures bands { result.bands ≡ (bundle_of scene.now source.now receiver.now).energy }
+    ensures long { result.long ≡ (bundle_of scene.now source.now receiver.now).long }
     ensures bands_bounds { All (IsSumOf 1) result.bands }
     ensures long_bounds { IsSumOf 8 result.long }
 {
@@ -46,34 +46,25 @@ pub(crate) fn path_energies(
 }
 
 /// What is heard of a source at the end of a path, in each band.
-fn heard(propagation: &Propagation, from: &PreparedSource) -> [Heard; 8]
+fn heard(propagation: &Propagation, source: &PreparedSource) -> [Heard; 8]
     requires { IsPropagation propagation.now }
-    ensures energies { map (λ h. h.energy) result ≡ map (λ band. energy_after propagation.now band (emission_at from.now band)) all_bands }
-    ensures longs { map (λ h. h.long) result ≡ map (λ band. long_energy_after propagation.now band (emission_at from.now band)) all_bands }
+    ensures energies { map (λ h. h.energy) result
+        ≡ map (energy_after propagation.now source.now) all_bands }
+    ensures longs { map (λ h. h.long) result
+        ≡ map (long_energy_after propagation.now source.now) all_bands }
     ensures energy_bounds { All (λ h. IsSumOf 1 h.energy) result }
     ensures long_bounds { All (λ h. IsSumOf 1 h.long) result }
 {
     [
-        heard_from(propagation, from, Band::Hz63),
-        heard_from(propagation, from, Band::Hz125),
-        heard_from(propagation, from, Band::Hz250),
-        heard_from(propagation, from, Band::Hz500),
-        heard_from(propagation, from, Band::Hz1000),
-        heard_from(propagation, from, Band::Hz2000),
-        heard_from(propagation, from, Band::Hz4000),
-        heard_from(propagation, from, Band::Hz8000),
+        heard_in(propagation, source, Band::Hz63),
+        heard_in(propagation, source, Band::Hz125),
+        heard_in(propagation, source, Band::Hz250),
+        heard_in(propagation, source, Band::Hz500),
+        heard_in(propagation, source, Band::Hz1000),
+        heard_in(propagation, source, Band::Hz2000),
+        heard_in(propagation, source, Band::Hz4000),
+        heard_in(propagation, source, Band::Hz8000),
     ]
-}
-
-/// What is heard of a source at the end of a path, in a band.
-fn heard_from(propagation: &Propagation, from: &PreparedSource, band: Band) -> Heard
-    requires { IsPropagation propagation.now }
-    ensures energy { result.energy ≡ energy_after propagation.now band (emission_at from.now band) }
-    ensures long { result.long ≡ long_energy_after propagation.now band (emission_at from.now band) }
-    ensures energy_bounds { IsSumOf 1 result.energy }
-    ensures long_bounds { IsSumOf 1 result.long }
-{
-    heard_in(propagation, band, from.emission_in(band))
 }
 
 /// The energies in the bands.

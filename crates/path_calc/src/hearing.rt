@@ -1,5 +1,5 @@
 //! What a receiver hears at the end of a path, in one band.
-ghost use Rattle.std.specs.Prelude.{◌≡◌, pos, IfSome};
+ghost use Rattle.std.specs.Prelude.{◌≡◌, pos};
 ghost use Rattle.fix_interval.specs.Tree.{Known, Const, enc};
 ghost use Rattle.energy_sum.specs.Energies.{energy_form};
 ghost use Rattle.path_calc.specs.Weights.{weight_in};
@@ -9,12 +9,13 @@ ghost use Rattle.path_calc.specs.Ranges.{IsPropagation, IsAtReceiver, IsHearable
 ghost use Rattle.path_calc.specs.Hearing.{level_after, energy_after, long_energy_after};
 
 use crate::absorption::coefficient;
-use crate::band::Band;
 use crate::numbers::tenths;
+use crate::prepared::PreparedSource;
 use crate::propagation::Propagation;
 use crate::weights::weight_of;
 use energy_sum::energy;
 use fix_interval::{Iv, add, exact, sub};
+use scene_geom::Band;
 use term_div_atm::a_atm;
 
 /// What a receiver hears in a band: the energy, and the long-term energy, which is A-weighted.
@@ -24,16 +25,15 @@ pub(crate) struct Heard {
     pub(crate) long: Iv,
 }
 
-/// What is heard of what is emitted in a band, at the end of a path.
-pub(crate) fn heard_in(propagation: &Propagation, band: Band, emission: Option<Iv>) -> Heard
-    requires propagation { IsPropagation propagation.now }
-    requires emission { IfSome emission IsEmission }
-    ensures energy { result.energy ≡ energy_after propagation.now band emission }
-    ensures long { result.long ≡ long_energy_after propagation.now band emission }
+/// What is heard of a source in a band, at the end of a path.
+pub(crate) fn heard_in(propagation: &Propagation, source: &PreparedSource, band: Band) -> Heard
+    requires { IsPropagation propagation.now }
+    ensures energy { result.energy ≡ energy_after propagation.now source.now band }
+    ensures long { result.long ≡ long_energy_after propagation.now source.now band }
     ensures energy_bounds { IsSumOf 1 result.energy }
     ensures long_bounds { IsSumOf 1 result.long }
 {
-    match emission {
+    match source.emission_in(band) {
         Some(emission) => heard_at(level_in(propagation, band, emission), band),
         None => silence(),
     }

@@ -4,7 +4,6 @@
 
 mod absorption;
 mod addition;
-mod band;
 mod bundles;
 mod calculation;
 mod energies;
@@ -22,11 +21,11 @@ mod tests;
 mod weights;
 
 pub use addition::{levels, total_level};
-pub use band::Band;
 pub use bundles::Bundle;
 pub use calculation::{bundle, bundle_between};
 pub use lengths::within;
 pub use memory::NoMemory;
 pub use prepared::{PreparedReceiver, PreparedSource};
 pub use results::Levels;
+pub use scene_geom::Band;
 pub use steps::Steps;

@@ -1,21 +1,20 @@
 //! What is calculated once of a source or of a receiver, and serves all of its paths.
-ghost use Rattle.std.specs.Prelude.{◌≡◌, map, All, IfSome};
+ghost use Rattle.std.specs.Prelude.{◌≡◌, All, IfSome};
 ghost use Rattle.std.specs.Option.{option_map};
 ghost use Rattle.fix_interval.specs.Tree.{Known, Const, Add, enc};
-ghost use Rattle.path_calc.specs.Bands.{all_bands};
 ghost use Rattle.path_calc.specs.Contributions.{power_in as power_of, emission_in as emission_of};
 ghost use Rattle.path_calc.specs.Prepared.{prepared_of, emission_at, IsEmission};
 ghost use Rattle.path_calc.specs.Ranges.{IsPower, IsCorrection};
 
-use crate::band::Band;
 use crate::numbers::hundredths;
 use fix_interval::{Iv, add};
+use scene_geom::Band;
 use scene_parts::{PointSource, Receiver};
 use std::marker::Model;
 use term_ground::{Decays, decays_at};
 
 /// What all paths of a source share: what it emits in each band, L_W + D_c of ISO 9613-2, equation 3, and how the
-/// effect of the ground decays with its height. Contracts see it as the height in mm and what is emitted in dB.
+/// effect of the ground decays with its height. Contracts see it as the height in mm and the emissions in dB.
 #[derive(Drop)]
 pub struct PreparedSource {
     decays: Decays,
@@ -59,8 +58,8 @@ impl PreparedSource {
     }
 }
 
-/// What all paths to a receiver share: how the effect of the ground decays with its height. Contracts see it as that
-/// height in mm.
+/// What all paths to a receiver share: how the effect of the ground decays with its height. Contracts see it as
+/// that height in mm.
 #[derive(Drop)]
 pub struct PreparedReceiver {
     decays: Decays,
@@ -94,7 +93,7 @@ impl PreparedReceiver {
 
 /// What a source emits in each band in dB.
 fn emissions(source: &PointSource) -> [Option<Iv>; 8]
-    ensures value { result ≡ map (λ band. option_map enc (emission_of band source.now)) all_bands }
+    ensures value { result ≡ (prepared_of source.now).emissions }
     ensures bounds { All (λ emission. IfSome emission IsEmission) result }
 {
     [

@@ -1,19 +1,14 @@
 //! What all bands share of a path.
-ghost use Rattle.std.specs.Prelude.{◌≡◌, map};
-ghost use Rattle.fix_interval.specs.Tree.{Known, enc};
-ghost use Rattle.path_shape.specs.Shape.{plan_length};
-ghost use Rattle.term_ground.specs.Ground.{ground as ground_form};
-ghost use Rattle.path_calc.specs.Lengths.{distance as distance_form};
-ghost use Rattle.path_calc.specs.Surroundings.{path_of};
-ghost use Rattle.path_calc.specs.Hearing.{ground_at};
+ghost use Rattle.std.specs.Prelude.{◌≡◌};
+ghost use Rattle.path_calc.specs.Hearing.{IsDirect, ground_at};
 ghost use Rattle.path_calc.specs.Ranges.{IsPropagation, IsGroundEffect};
 
-use crate::band::Band;
 use crate::lengths::distance;
 use crate::prepared::{PreparedReceiver, PreparedSource};
 use fix_interval::Iv;
 use path_shape::Path;
 use scene_book::Scene;
+use scene_geom::Band;
 use scene_parts::{Air, PointSource, Receiver};
 use term_div_atm::a_div;
 use term_ground::a_gr_between;
@@ -38,10 +33,8 @@ pub(crate) fn direct(
 ) -> Propagation
     requires source { from.now.h ≡ source.now.h }
     requires receiver { to.now ≡ receiver.now.h }
-    ensures air { result.air ≡ scene.now.globals.air }
-    ensures distance { result.distance ≡ enc (distance_form source.now.at source.now.h receiver.now.at receiver.now.h) }
-    ensures ground { result.ground ≡ map enc (ground_form scene.now.zones scene.now.globals.g (path_of source.now receiver.now) (Known (enc (plan_length source.now.at receiver.now.at)))) }
-    ensures propagation { IsPropagation result }
+    ensures value { IsDirect result scene.now source.now receiver.now }
+    ensures range { IsPropagation result }
 {
     let globals = scene.globals();
     let path = Path::direct(source.at, source.h, receiver.at, receiver.h);

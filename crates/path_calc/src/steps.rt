@@ -4,8 +4,9 @@ ghost use Rattle.std.specs.Prelude.{◌≡◌, ◌+◌, ◌<◌};
 use std::marker::Model;
 use std::sync::ledger::{Blank, Book, Ledger, Share};
 
-/// How many paths were calculated: each calculation of a bundle counts one step, and nothing else can count, since only
-/// this crate can call `tick`. So one step more is one bundle more. It takes no bytes. Contracts see it as that number.
+/// How many paths were calculated. Each calculation of a bundle counts one step, and nothing else can: `tick`
+/// isn't public, so that a step without a path can't be written outside of this crate. It takes no bytes.
+/// Contracts see it as that number.
 #[derive(Drop)]
 pub struct Steps<L: Ledger> {
     book: Book<L>,

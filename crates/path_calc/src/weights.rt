@@ -2,7 +2,7 @@
 ghost use Rattle.std.specs.Prelude.{◌≡◌, ◌≤ℤ◌, pos, neg_ℤ};
 ghost use Rattle.path_calc.specs.Weights.{weight_in};
 
-use crate::band::Band;
+use scene_geom::Band;
 
 /// The A-weight A_f of a band in 0.1 dB (ISO 9613-2, equation 5).
 pub(crate) fn weight_of(band: Band) -> i32

@@ -1,32 +1,21 @@
-use Rattle.std.proofs.Common.{◌∙◌, sym, ap, subst, List, map, pos}
+use Rattle.std.proofs.Common.{◌∙◌, sym, subst, List, map, pos}
 use Rattle.std.specs.Prelude.{All}
 use Rattle.std.proofs.lemmas.List.Elements.{All-map}
 use Rattle.fix_interval.specs.Interval.{Interval}
 use Rattle.fix_interval.specs.Tree.{Tree, Const}
-use Rattle.path_calc.specs.declared.band.Band.{Band}
+use Rattle.scene_geom.specs.Bands.{all_bands}
 use Rattle.path_calc.specs.declared.hearing.Heard.{Heard}
-use Rattle.path_calc.specs.Bands.{all_bands}
 use Rattle.path_calc.specs.Surroundings.{surroundings_of}
 use Rattle.path_calc.specs.Energies.{long_energy, long_energy_in}
 use Rattle.path_calc.specs.Ranges.{IsSumOf}
 use Rattle.path_calc.proofs.Sums.{sum-of-intervals, sum-of-map}
-use Rattle.path_calc.proofs.Heard.{FitsDirect, bands-heard, longs-heard, ground-is}
+use Rattle.path_calc.proofs.Heard.{bands-heard, longs-heard}
 use Rattle.path_calc.proofs.energies.path_energies.Goals as goal
-
-fits : (c : goal.After-long_sum) → let book = c.args.scene.now in FitsDirect c.direct.result book.globals (surroundings_of book c.args.source.now c.args.receiver.now) c.args.source.now c.args.receiver.now
-fits c = record {
-  air = c.direct.ensures.air;
-  distance = c.direct.ensures.distance;
-  ground = λ (band : Band). ground-is c.direct.result c.args.scene.now c.args.source.now c.args.receiver.now band c.direct.ensures.ground;
-}
 
 pub returns-clause-bands : goal.returns-clause-bands
 returns-clause-bands c =
-    let book = c.args.scene.now in
-    let s = c.args.source.now in
-    let r = c.args.receiver.now in
     c.bands_of.ensures ∙ c.heard-heard.ensures.energies
-    ∙ bands-heard c.direct.result c.args.from.now book.globals (surroundings_of book s r) s r c.requires.source (fits c)
+    ∙ bands-heard c.direct.result c.args.from.now c.args.scene.now c.args.source.now c.args.receiver.now c.requires.source c.direct.ensures.value
 
 pub returns-clause-long : goal.returns-clause-long
 unfolding long_energy
@@ -34,14 +23,13 @@ returns-clause-long c =
     let book = c.args.scene.now in
     let s = c.args.source.now in
     let r = c.args.receiver.now in
-    let around = surroundings_of book s r in
     let heard = c.heard-heard.result in
     let longs : List Interval = map (λ (h : Heard). h.long) heard in
-    let trees : List Tree = map (long_energy_in book.globals around s r) all_bands in
+    let trees : List Tree = map (long_energy_in book.globals (surroundings_of book s r) s r) all_bands in
     c.long_sum.ensures.value ∙ sym (sum-of-map (λ (h : Heard). h.long) heard)
     ∙ sum-of-intervals (Const (pos 0) 1) trees longs (
     c.heard-heard.ensures.longs
-    ∙ longs-heard c.direct.result c.args.from.now book.globals around s r c.requires.source (fits c))
+    ∙ longs-heard c.direct.result c.args.from.now book s r c.requires.source c.direct.ensures.value)
 
 pub returns-clause-bands_bounds : goal.returns-clause-bands_bounds
 returns-clause-bands_bounds c =
