@@ -102,8 +102,8 @@ direct-is p book s r globals zones path globals-are zones-are path-is air-is dis
   air = air-is ∙ ap (λ (g : Globals). g.air) globals-are;
   distance = distance-is;
   ground = λ (band : Band). ground-is p book s r band (
-    ground-are
-    ∙ ap (λ (g : Globals). map enc (ground zones g.g path (Known path.dp))) globals-are
-    ∙ ap (λ (zs : List Zone). map enc (ground zs book.globals.g path (Known path.dp))) zones-are
-    ∙ ap (λ (q : Path). map enc (ground book.zones book.globals.g q (Known q.dp))) path-is);
+      ground-are
+      ∙ ap (λ (g : Globals). map enc (ground zones g.g path (Known path.dp))) globals-are
+      ∙ ap (λ (zs : List Zone). map enc (ground zs book.globals.g path (Known path.dp))) zones-are
+      ∙ ap (λ (q : Path). map enc (ground book.zones book.globals.g q (Known q.dp))) path-is);
 }

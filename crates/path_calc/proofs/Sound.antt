@@ -11,8 +11,8 @@ use Rattle.term_ground.proofs.Sound.{ground-sound}
 use Rattle.scene_geom.specs.declared.band.Band.{Band}
 use Rattle.scene_geom.specs.Bands.{all_bands, place_of}
 use Rattle.path_calc.specs.Surroundings.{Surroundings, path_of, surroundings_of}
-use Rattle.path_calc.specs.Contributions.{Counting, Always, WhereGreater, Contribution, power_in, emission, emission_in, ground_in, sounds_of, contributions}
-use Rattle.path_calc.specs.Energies.{sum_form, where_counting, weighted, energy_of, long_energy_of, band_energy, long_energy_in, long_energy, band_energy_between, long_energy_between}
+use Rattle.path_calc.specs.Contributions.{Counting, Always, WhereGreater, Contribution, power_in, emission, ground_in, sounds_of, contributions}
+use Rattle.path_calc.specs.Energies.{where_counting, weighted, energy_of, long_energy_of, band_energy, long_energy_in, long_energy, band_energy_between, long_energy_between}
 use Rattle.path_calc.specs.Show.{sources_within, total_form, band_form}
 use Rattle.path_calc.proofs.Eight.{place-below}
 use Rattle.path_calc.proofs.Zones.{ground-eight}

@@ -4,7 +4,6 @@ use Rattle.std.specs.Option.{option_map}
 use Rattle.fix_interval.specs.Tree.{Tree, Const, Add, Sub}
 use Rattle.scene_parts.specs.Seen.{Source, Receiver, Zone, Globals}
 use Rattle.path_shape.specs.Shape.{plan_length}
-use Rattle.path_shape.specs.declared.path.Path.{Path}
 use Rattle.term_div_atm.specs.Terms.{divergence, absorption}
 use Rattle.term_ground.specs.Ground.{ground}
 use Rattle.scene_geom.specs.declared.band.Band.{Band}

@@ -1,11 +1,11 @@
 -- What stands between the code and the definitions: the energies of what a source emits, at the end of a path of which
 -- the quantities are known.
-use Rattle.std.specs.Prelude.{◌≡◌, [], ◌∷◌, List, map, Option, Some, None, slice_index_or}
+use Rattle.std.specs.Prelude.{◌≡◌, [], ◌∷◌, Option, Some, None, slice_index_or}
 use Rattle.fix_interval.specs.Interval.{Interval}
 use Rattle.fix_interval.specs.Tree.{Tree, Known, enc}
 use Rattle.energy_sum.specs.Energies.{energy_form}
 use Rattle.scene_geom.specs.declared.band.Band.{Band}
-use Rattle.scene_geom.specs.Bands.{all_bands, place_of}
+use Rattle.scene_geom.specs.Bands.{place_of}
 use Rattle.scene_parts.specs.Seen.{Source, Receiver}
 use Rattle.scene_book.specs.Book.{Book}
 use Rattle.path_calc.specs.declared.propagation.Propagation.{Propagation}

@@ -24,11 +24,19 @@ impl Model for Bundle {
     ghost Value = { BundleSeen };
 
     ghost view = { λ b. record {
-        source = b.source; at = b.at; h = b.h; energy = b.energy; long = b.long
+      source = b.source;
+      at = b.at;
+      h = b.h;
+      energy = b.energy;
+      long = b.long;
     } };
 
     ghost invariant = { λ b. IsBundle (record {
-        source = b.source; at = b.at; h = b.h; energy = b.energy; long = b.long
+      source = b.source;
+      at = b.at;
+      h = b.h;
+      energy = b.energy;
+      long = b.long;
     }) };
 }
 
