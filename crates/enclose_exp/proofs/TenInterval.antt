@@ -11,9 +11,9 @@ use Rattle.fix_interval.specs.Interval.{Interval, IsInterval}
 use Rattle.fix_interval.specs.Rules.{HoldsTenPower, EndMeets}
 use Rattle.fix_interval.specs.Lg.{IsAtMostLg, IsAtLeastLg}
 use Rattle.fix_interval.specs.Ten.{fraction_low, fraction_high, raised_low, raised_high, ten_low, ten_high, ten_of}
-use Rattle.enclose_exp.proofs.Law.{pow-mul, one-pow}
+use Rattle.fix_interval.proofs.Powers.{pow-mul, one-pow}
 use Rattle.enclose_exp.proofs.TenLaw.{raised_low-law, raised_high-law}
-use Rattle.enclose_exp.proofs.Shifted.{at_most-shifted, at_least-shifted}
+use Rattle.fix_interval.proofs.Shifted.{at_most-shifted, at_least-shifted}
 use Rattle.enclose_exp.proofs.Exponents.{ten_low-greatest, ten_low-least, ten_low-within, ten_high-greatest, ten_high-least, ten_high-within}
 use Rattle.enclose_exp.proofs.TableLemmas.{fraction_low-small, fraction_high-small}
 

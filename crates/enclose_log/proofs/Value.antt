@@ -10,7 +10,9 @@ use Rattle.fix_interval.specs.Lg.{greatest, decade_of, mantissa_low, mantissa_hi
 use Rattle.enclose_log.specs.Decade.{IsDecade}
 use Rattle.enclose_log.proofs.DecadeLemmas.{mantissa_low-within, mantissa_high-within}
 use Rattle.enclose_log.proofs.Turns.{turns_low-in_range, turns_high-in_range}
-use Rattle.enclose_log.proofs.Law.{low-law, high-law, pow-mul, rounded_up-cases}
+use Rattle.fix_interval.proofs.Powers.{pow-mul}
+use Rattle.fix_interval.proofs.Shifted.{at_most-shifted, at_least-shifted}
+use Rattle.enclose_log.proofs.Law.{low-law, high-law, rounded_up-cases}
 
 true_or_false : (b : Bool) → (b ≡ true) ⊎ (b ≡ false)
 true_or_false true = inl refl
@@ -74,33 +76,6 @@ decade_of-holds n positive small =
       | inr most ↦ (let e : k ≡ 38 = omega arith in let P : ℕ → Type 0 = λ j. 10 ^ 10 * n < 10 ^ suc j * unit in subst P (sym e) (below_last n small))
     ])
     last
-
--- what the power of ten is when it's moved to the other side: s - t as a signed exponent
-at_most-shifted : (s t n : ℕ) → 10 ^ s * unit ^ unit ≤ 10 ^ t * n ^ unit → IsAtMostLg (pos s -ℤ pos t) n
-at_most-shifted s t n h =
-    elim (cases_lt s t) [
-      | inl less ↦ (let e : pos s -ℤ pos t ≡ negsuc (t - s - 1) = omega (arith, ints) in
-          let parts : t ≡ s + suc (t - s - 1) = omega arith in
-          let split : 10 ^ t ≡ 10 ^ s * 10 ^ suc (t - s - 1) = ap (λ i. 10 ^ i) parts ∙ pow-add 10 s (suc (t - s - 1)) in
-          rw e (le_of_mul-le-mul_left {k = 10 ^ s} (omega (arith, rw split at h)) (one-le-pow s 10 (omega arith))))
-      | inr more ↦ (let e : pos s -ℤ pos t ≡ pos (s - t) = omega (arith, ints) in
-          let parts : s ≡ t + (s - t) = omega arith in
-          let split : 10 ^ s ≡ 10 ^ t * 10 ^ (s - t) = ap (λ i. 10 ^ i) parts ∙ pow-add 10 t (s - t) in
-          rw e (le_of_mul-le-mul_left {k = 10 ^ t} (omega (arith, rw split at h)) (one-le-pow t 10 (omega arith))))
-    ]
-
-at_least-shifted : (s t n : ℕ) → 10 ^ t * n ^ unit ≤ 10 ^ s * unit ^ unit → IsAtLeastLg (pos s -ℤ pos t) n
-at_least-shifted s t n h =
-    elim (cases_lt s t) [
-      | inl less ↦ (let e : pos s -ℤ pos t ≡ negsuc (t - s - 1) = omega (arith, ints) in
-          let parts : t ≡ s + suc (t - s - 1) = omega arith in
-          let split : 10 ^ t ≡ 10 ^ s * 10 ^ suc (t - s - 1) = ap (λ i. 10 ^ i) parts ∙ pow-add 10 s (suc (t - s - 1)) in
-          rw e (le_of_mul-le-mul_left {k = 10 ^ s} (omega (arith, rw split at h)) (one-le-pow s 10 (omega arith))))
-      | inr more ↦ (let e : pos s -ℤ pos t ≡ pos (s - t) = omega (arith, ints) in
-          let parts : s ≡ t + (s - t) = omega arith in
-          let split : 10 ^ s ≡ 10 ^ t * 10 ^ (s - t) = ap (λ i. 10 ^ i) parts ∙ pow-add 10 t (s - t) in
-          rw e (le_of_mul-le-mul_left {k = 10 ^ t} (omega (arith, rw split at h)) (one-le-pow t 10 (omega arith))))
-    ]
 
 -- the two laws, with all powers of ten on the side where they are whole
 lifted : (n : ℕ) → (10 ^ 10 * n) ^ unit ≡ 10 ^ (10 * unit) * n ^ unit

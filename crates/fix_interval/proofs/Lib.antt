@@ -15,3 +15,6 @@ pub mod RangedChoices
 pub mod RangedProducts
 pub mod RangedRoots
 pub mod RangedFormulas
+pub mod Powers
+pub mod Ceilings
+pub mod Shifted
