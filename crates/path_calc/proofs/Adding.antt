@@ -2,7 +2,7 @@
 use Rattle.std.proofs.Common.{◌<◌, ◌≤◌, ◌^◌, List, length, inl, inr}
 use Rattle.std.specs.Prelude.{◌⊎◌, sum_by}
 use Rattle.energy_sum.specs.Sums.{units_of}
-use Rattle.path_calc.specs.declared.band.Band.{Band}
+use Rattle.scene_geom.specs.declared.band.Band.{Band}
 use Rattle.path_calc.specs.Bundles.{Bundle, CanBeAdded, energy_in}
 
 pub bands-can : (band : Band) (bundles : List Bundle) → CanBeAdded bundles → (length bundles ≤ 4096) ⊎ (sum_by (λ bundle. units_of (energy_in band bundle).hi) bundles < 2 ^ 126)

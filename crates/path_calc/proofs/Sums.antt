@@ -1,22 +1,21 @@
 -- Sums of energies.
-use Rattle.std.proofs.Common.{◌≡◌, ℕ, ◌+◌, ◌-◌, ◌*◌, ◌<◌, ◌≤◌, ◌^◌, ℤ, pos, negsuc, ◌+ℤ◌, ◌≤ℤ◌, ◌<ℤ◌, unsigned_abs, Bool, true, false, List, [], ◌∷◌, ◌++◌, length, get_or, take, map, Option, refl, sym, ap, ◌∙◌, subst, inl, inr, arith, lit<}
+use Rattle.std.proofs.Common.{◌≡◌, ℕ, ◌+◌, ◌-◌, ◌*◌, ◌<◌, ◌≤◌, ◌^◌, ℤ, pos, negsuc, neg_ℤ, ◌+ℤ◌, ◌≤ℤ◌, ◌<ℤ◌, unsigned_abs, Bool, true, false, List, [], ◌∷◌, ◌++◌, length, get_or, take, map, Option, refl, sym, ap, ◌∙◌, subst, inl, inr, arith, lit<}
 use Rattle.std.specs.Prelude.{◌⊎◌, Some, None, fold, sum_by, IsSomeAnd, if◌then◌else◌}
 use Rattle.std.proofs.lemmas.Int.{ints}
 use Rattle.std.proofs.lemmas.List.{take_more}
 use Rattle.std.proofs.lemmas.List.Sums.{sum_by_more_le, sum_by_more}
 use Rattle.std.proofs.Math.IntN.{zero-*ℤ, +ℤ_idl, +ℤ_idr}
-use Rattle.fix_interval.specs.Interval.{Interval, IsInterval, IsEnd, IsOrdered}
-use Rattle.fix_interval.specs.Bounds.{IsBetween}
+use Rattle.fix_interval.specs.Interval.{Interval, IsEnd}
+use Rattle.fix_interval.specs.Bounds.{IsBetween, AreBetween}
 use Rattle.fix_interval.specs.Units.{unit}
 use Rattle.fix_interval.specs.Values.{ratio_of, add_of, sum_of_ends, is_small}
 use Rattle.fix_interval.specs.Tree.{Tree, Known, Const, Add, enc}
-use Rattle.fix_interval.proofs.Intervals.{IsInterval-add_of}
 use Rattle.fix_interval.proofs.Ratios.{ratio_of-one, ratio_of-small}
 use Rattle.fix_interval.proofs.Multiplying.{end_of-small}
 use Rattle.energy_sum.specs.Sums.{units_of}
 use Rattle.path_calc.specs.Energies.{sum_form}
 use Rattle.path_calc.specs.Bundles.{IsEnergy}
-use Rattle.path_calc.specs.Ranges.{IsSumOf, energy_limit}
+use Rattle.path_calc.specs.Ranges.{IsSumOf}
 
 -- ---- nothing added
 
@@ -30,6 +29,22 @@ nothing-tenth : ratio_of (pos 0) 10 ≡ nothing
 unfolding unit
 nothing-tenth = ratio_of-small (pos 0) 10 (lit< tt)
 
+-- two ends that are so small that nothing is lost where they are added
+pub record AreSmall (i : Interval) : Type 0 where
+  pub lo : IsEnd i.lo
+  pub hi : IsEnd i.hi
+
+abs-between : (z : ℤ) → neg_ℤ (pos (2 ^ 120)) ≤ℤ z → z ≤ℤ pos (2 ^ 120) → unsigned_abs z < 2 ^ 126
+abs-between (pos n) low high = omega (arith, ints, high)
+abs-between (negsuc n) low high = omega (arith, ints, low)
+
+small-end : (l h : ℤ) (end : Option ℤ) → IsBetween l h end → neg_ℤ (pos (2 ^ 120)) ≤ℤ l → h ≤ℤ pos (2 ^ 120) → IsEnd end
+small-end l h None p low high = absurd p
+small-end l h (Some z) p low high = abs-between z (omega (arith, ints, p.0, low)) (omega (arith, ints, p.1, high))
+
+pub are-small : (l h : ℤ) (i : Interval) → AreBetween l h i → neg_ℤ (pos (2 ^ 120)) ≤ℤ l → h ≤ℤ pos (2 ^ 120) → AreSmall i
+are-small l h i p low high = record { lo = small-end l h i.lo p.lo low high; hi = small-end l h i.hi p.hi low high }
+
 end-and-nothing : (end : Option ℤ) → IsEnd end → sum_of_ends end (Some (pos 0)) ≡ end
 end-and-nothing None is = refl
 end-and-nothing (Some z) is = rw (+ℤ_idr z) (end_of-small z is)
@@ -41,60 +56,47 @@ nothing-and-end (Some z) is = rw (+ℤ_idl z) (end_of-small z is)
 abbrev ends : Option ℤ → Option ℤ → Interval
 ends lo hi = record { lo = lo; hi = hi }
 
-pub and-nothing : (i : Interval) → IsInterval i → add_of i (ratio_of (pos 0) 10) ≡ i
+pub and-nothing : (i : Interval) → AreSmall i → add_of i (ratio_of (pos 0) 10) ≡ i
 unfolding add_of
 and-nothing i is =
-    rw nothing-tenth (ap (λ (e : Option ℤ). ends e (sum_of_ends i.hi (Some (pos 0)))) (end-and-nothing i.lo is.low_end) ∙ ap (ends i.lo) (end-and-nothing i.hi is.high_end))
+    rw nothing-tenth (ap (λ (e : Option ℤ). ends e (sum_of_ends i.hi (Some (pos 0)))) (end-and-nothing i.lo is.lo) ∙ ap (ends i.lo) (end-and-nothing i.hi is.hi))
 
-pub nothing-and : (i : Interval) → IsInterval i → add_of (ratio_of (pos 0) 1) i ≡ i
+pub nothing-and : (i : Interval) → AreSmall i → add_of (ratio_of (pos 0) 1) i ≡ i
 unfolding add_of
 nothing-and i is =
-    rw nothing-is (ap (λ (e : Option ℤ). ends e (sum_of_ends (Some (pos 0)) i.hi)) (nothing-and-end i.lo is.low_end) ∙ ap (ends i.lo) (nothing-and-end i.hi is.high_end))
+    rw nothing-is (ap (λ (e : Option ℤ). ends e (sum_of_ends (Some (pos 0)) i.hi)) (nothing-and-end i.lo is.lo) ∙ ap (ends i.lo) (nothing-and-end i.hi is.hi))
+
+-- an energy and nothing else
+pub nothing-and-energy : (e : Interval) → IsSumOf 1 e → add_of (ratio_of (pos 0) 1) e ≡ e
+nothing-and-energy e is = nothing-and e (are-small _ _ e is (omega (arith, ints)) (omega (arith, ints)))
 
 -- ---- bounds of sums
 
 pub no-sum : (count : ℕ) → IsSumOf count (ratio_of (pos 0) 1)
-no-sum count = rw nothing-is (record {
-  interval = record { low_end = lit< tt; high_end = lit< tt; ordered = omega (arith, ints) };
-  low = omega (arith, ints);
-  high = (omega (arith, ints), omega (arith, ints));
-})
+no-sum count = rw nothing-is (record { lo = (omega (arith, ints), omega (arith, ints)); hi = (omega (arith, ints), omega (arith, ints)) })
 
-abs-below : (z : ℤ) (limit : ℕ) → pos 0 ≤ℤ z → z ≤ℤ pos limit → limit < 2 ^ 126 → unsigned_abs z < 2 ^ 126
-abs-below (pos n) limit low high small = omega (arith, ints, high)
-abs-below (negsuc n) limit low high small = absurd (omega (arith, ints))
-
-sum-not-negative : (a b : Interval) (m n : ℕ) → m + n ≤ 1000 → IsSumOf m a → IsSumOf n b → IsSomeAnd (sum_of_ends a.lo b.lo) (λ z. pos 0 ≤ℤ z)
-sum-not-negative a b m n few p q = low-sum a.lo a.hi b.lo b.hi p.interval.ordered q.interval.ordered p.low q.low p.high q.high where
-  low-sum : (al ah bl bh : Option ℤ) → IsOrdered al ah → IsOrdered bl bh → IsSomeAnd al (λ z. pos 0 ≤ℤ z) → IsSomeAnd bl (λ z. pos 0 ≤ℤ z) → IsBetween (pos 0) (pos (m * energy_limit)) ah → IsBetween (pos 0) (pos (n * energy_limit)) bh → IsSomeAnd (sum_of_ends al bl) (λ z. pos 0 ≤ℤ z)
-  low-sum None ah bl bh r s x y u v = absurd x
-  low-sum (Some x) ah None bh r s h k u v = absurd k
-  low-sum (Some x) None (Some y) bh r s h k u v = absurd u
-  low-sum (Some x) (Some z) (Some y) None r s h k u v = absurd v
-  low-sum (Some x) (Some z) (Some y) (Some w) r s h k u v =
-      rw (end_of-small (x +ℤ y) (abs-below (x +ℤ y) (1000 * energy_limit) (omega (arith, ints, h, k)) (omega (arith, ints, r, s, u.1, v.1, few)) (lit< tt))) (omega (arith, ints, h, k))
-
-sum-bounded : (m n : ℕ) (x y : Option ℤ) → m + n ≤ 1000 → IsBetween (pos 0) (pos (m * energy_limit)) x → IsBetween (pos 0) (pos (n * energy_limit)) y → IsBetween (pos 0) (pos ((m + n) * energy_limit)) (sum_of_ends x y)
+sum-bounded : (m n : ℕ) (x y : Option ℤ) → m + n < 2 ^ 18 → IsBetween (pos 0) (pos (m * 2 ^ 96)) x → IsBetween (pos 0) (pos (n * 2 ^ 96)) y → IsBetween (pos 0) (pos ((m + n) * 2 ^ 96)) (sum_of_ends x y)
 sum-bounded m n None y few p q = absurd p
 sum-bounded m n (Some x) None few p q = absurd q
 sum-bounded m n (Some x) (Some y) few p q =
-    rw (end_of-small (x +ℤ y) (abs-below (x +ℤ y) (1000 * energy_limit) (omega (arith, ints, p.0, q.0)) (omega (arith, ints, p.1, q.1, few)) (lit< tt))) (omega (arith, ints, p.0, q.0), omega (arith, ints, p.1, q.1))
+    rw (end_of-small (x +ℤ y) (abs-between (x +ℤ y) (omega (arith, ints, p.0, q.0)) (omega (arith, ints, p.1, q.1, few)))) (omega (arith, ints, p.0, q.0), omega (arith, ints, p.1, q.1))
 
-pub sums-added : (a b : Interval) (m n : ℕ) → m + n ≤ 1000 → IsSumOf m a → IsSumOf n b → IsSumOf (m + n) (add_of a b)
+-- sums of the energies of fewer than 2^18 sounds
+pub sums-added : (a b : Interval) (m n : ℕ) → m + n < 2 ^ 18 → IsSumOf m a → IsSumOf n b → IsSumOf (m + n) (add_of a b)
 unfolding add_of
-sums-added a b m n few p q = record {
-  interval = IsInterval-add_of a b p.interval q.interval;
-  low = sum-not-negative a b m n few p q;
-  high = sum-bounded m n a.hi b.hi few p.high q.high;
-}
+sums-added a b m n few p q = record { lo = sum-bounded m n a.lo b.lo few p.lo q.lo; hi = sum-bounded m n a.hi b.hi few p.hi q.hi }
 
-limited : (count : ℕ) (end : Option ℤ) → count ≤ 1000 → IsBetween (pos 0) (pos (count * energy_limit)) end → IsSomeAnd end (λ z. (pos 0 ≤ℤ z) × (z <ℤ pos (2 ^ 114)))
+not-negative : (count : ℕ) (end : Option ℤ) → IsBetween (pos 0) (pos (count * 2 ^ 96)) end → IsSomeAnd end (λ z. pos 0 ≤ℤ z)
+not-negative count None p = absurd p
+not-negative count (Some z) p = p.0
+
+limited : (count : ℕ) (end : Option ℤ) → count < 2 ^ 18 → IsBetween (pos 0) (pos (count * 2 ^ 96)) end → IsSomeAnd end (λ z. (pos 0 ≤ℤ z) × (z <ℤ pos (2 ^ 114)))
 limited count None few p = absurd p
 limited count (Some z) few p = (p.0, omega (arith, ints, p.1, few))
 
--- a sum of so few energies is an energy
-pub sum-is-energy : (count : ℕ) (e : Interval) → count ≤ 1000 → IsSumOf count e → IsEnergy e
-sum-is-energy count e few is = record { low = is.low; high = limited count e.hi few is.high }
+-- each is an energy
+pub sum-is-energy : (count : ℕ) (e : Interval) → count < 2 ^ 18 → IsSumOf count e → IsEnergy e
+sum-is-energy count e few is = record { low = not-negative count e.lo is.lo; high = limited count e.hi few is.hi }
 
 -- ---- sums of lists
 

@@ -1,14 +1,14 @@
 -- Bundles: all that a receiver has from one source.
 use Rattle.std.specs.Prelude.{◌≡◌, ℕ, ◌<◌, ◌≤◌, ◌^◌, ◌⊎◌, pos, ◌≤ℤ◌, ◌<ℤ◌, List, length, map, sum_by, All, IsSomeAnd, slice_index_or}
 use Rattle.scene_geom.specs.declared.plan.Pt.{Pt}
-use Rattle.scene_parts.specs.Seen.{Source, Receiver, Zone, Globals}
+use Rattle.scene_parts.specs.Seen.{Source, Receiver, Globals}
 use Rattle.scene_book.specs.Book.{Book}
 use Rattle.fix_interval.specs.Interval.{Interval}
 use Rattle.fix_interval.specs.Tree.{enc}
 use Rattle.energy_sum.specs.Sums.{units_of}
-use Rattle.path_calc.specs.declared.band.Band.{Band}
-use Rattle.path_calc.specs.Bands.{all_bands, place_of}
-use Rattle.path_calc.specs.Contributions.{zones_between}
+use Rattle.scene_geom.specs.declared.band.Band.{Band}
+use Rattle.scene_geom.specs.Bands.{all_bands, place_of}
+use Rattle.path_calc.specs.Surroundings.{Surroundings, surroundings_of}
 use Rattle.path_calc.specs.Energies.{band_energy, long_energy}
 
 -- the name, the place and the height in mm of the source, the energy in each band, and the long-term energy
@@ -20,19 +20,19 @@ pub record Bundle : Type 0 where
   pub energy : List Interval
   pub long : Interval
 
--- the bundle of a source and a receiver, of what holds of the whole scene and the zones of ground between them
-abbrev pub bundle_over : Globals → List Zone → Source → Receiver → Bundle
-bundle_over globals zones s r = record {
+-- the bundle of a source and a receiver, of what holds of the whole scene and of what they read of its parts
+abbrev pub bundle_over : Globals → Surroundings → Source → Receiver → Bundle
+bundle_over globals around s r = record {
   source = s.name;
   at = s.at;
   h = s.h;
-  energy = map (λ band. enc (band_energy globals zones s r band)) all_bands;
-  long = enc (long_energy globals zones s r);
+  energy = map (λ band. enc (band_energy globals around s r band)) all_bands;
+  long = enc (long_energy globals around s r);
 }
 
 -- the bundle of a source and a receiver in a scene
 abbrev pub bundle_of : Book → Source → Receiver → Bundle
-bundle_of book s r = bundle_over book.globals (zones_between book.zones s r) s r
+bundle_of book s r = bundle_over book.globals (surroundings_of book s r) s r
 
 -- an energy isn't below 0, and is below 2^114 units of 2^-32
 pub record IsEnergy (e : Interval) : Type 0 where

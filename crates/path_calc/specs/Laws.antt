@@ -1,25 +1,35 @@
--- What holds of energies beyond their definitions.
-use Rattle.std.specs.Prelude.{◌≡◌, List}
+-- What holds of energies and levels beyond their definitions.
+use Rattle.std.specs.Prelude.{◌≡◌, map}
 use Rattle.fix_interval.specs.Encloses.{Encloses}
 use Rattle.fix_interval.specs.Tree.{enc}
-use Rattle.scene_parts.specs.Seen.{Source, Receiver, Zone, Globals}
+use Rattle.scene_parts.specs.Seen.{Source, Receiver, Globals}
 use Rattle.scene_book.specs.Book.{Book}
-use Rattle.path_calc.specs.declared.band.Band.{Band}
-use Rattle.path_calc.specs.Contributions.{zones_between}
+use Rattle.scene_geom.specs.declared.band.Band.{Band}
+use Rattle.scene_geom.specs.Bands.{all_bands}
+use Rattle.path_calc.specs.Surroundings.{Surroundings, surroundings_of}
 use Rattle.path_calc.specs.Energies.{band_energy, long_energy}
 use Rattle.path_calc.specs.Bundles.{bundle_of}
+use Rattle.path_calc.specs.Levels.{level_in}
+use Rattle.path_calc.specs.Show.{show_of, total_form, band_form}
 
 -- the interval of the energy in a band encloses it
 abbrev pub BandsAreEnclosed : Type 0
-BandsAreEnclosed = (globals : Globals) (zones : List Zone) (s : Source) (r : Receiver) (band : Band)
-    → Encloses (band_energy globals zones s r band) (enc (band_energy globals zones s r band))
+BandsAreEnclosed = (globals : Globals) (around : Surroundings) (s : Source) (r : Receiver) (band : Band)
+    → Encloses (band_energy globals around s r band) (enc (band_energy globals around s r band))
 
 -- and so does that of the long-term energy
 abbrev pub LongIsEnclosed : Type 0
-LongIsEnclosed = (globals : Globals) (zones : List Zone) (s : Source) (r : Receiver)
-    → Encloses (long_energy globals zones s r) (enc (long_energy globals zones s r))
+LongIsEnclosed = (globals : Globals) (around : Surroundings) (s : Source) (r : Receiver)
+    → Encloses (long_energy globals around s r) (enc (long_energy globals around s r))
 
--- a bundle is the same in two scenes with the same globals whose zones between source and receiver are the same
+-- what the map shows of a receiver: of each level the interval of its whole formula, which it encloses
+pub record LevelsAreEnclosed (book : Book) (r : Receiver) : Type 0 where
+  pub total : (show_of book r).total ≡ enc (total_form book r)
+  pub total_enclosed : Encloses (total_form book r) (show_of book r).total
+  pub bands : (show_of book r).bands ≡ map (λ band. enc (band_form book r band)) all_bands
+  pub bands_enclosed : (band : Band) → Encloses (band_form book r band) (level_in band (show_of book r))
+
+-- a bundle is the same in two scenes with the same globals in which source and receiver read the same of the parts
 abbrev pub SameBetween : Type 0
-SameBetween = (a b : Book) (s : Source) (r : Receiver) → a.globals ≡ b.globals → zones_between a.zones s r ≡ zones_between b.zones s r
-    → bundle_of a s r ≡ bundle_of b s r
+SameBetween = (a b : Book) (s : Source) (r : Receiver) → a.globals ≡ b.globals
+    → surroundings_of a s r ≡ surroundings_of b s r → bundle_of a s r ≡ bundle_of b s r

@@ -1,10 +1,13 @@
-pub mod Bands
+pub mod Weights
 pub mod Absorption
 pub mod Lengths
+pub mod Surroundings
 pub mod Contributions
 pub mod Energies
 pub mod Bundles
 pub mod Levels
 pub mod Show
-pub mod Ranges
 pub mod Laws
+pub mod Prepared
+pub mod Ranges
+pub mod Hearing

@@ -2,7 +2,7 @@
 ghost use Rattle.std.specs.Prelude.{◌≡◌, ◌<◌, All};
 ghost use Rattle.path_calc.specs.Absorption.{coefficients_of, coefficient_in};
 
-use crate::band::Band;
+use scene_geom::Band;
 use scene_parts::Air;
 
 /// The attenuation coefficients of an air in the eight bands, in 0.1 dB/km (ISO 9613-2, Table 2).
@@ -21,7 +21,7 @@ fn coefficients(air: Air) -> [u32; 8]
 }
 
 /// The attenuation coefficient of an air in a band, in 0.1 dB/km (ISO 9613-2, Table 2).
-pub fn coefficient(air: Air, band: Band) -> u32
+pub(crate) fn coefficient(air: Air, band: Band) -> u32
     ensures value { result ≡ coefficient_in air band }
     ensures bound { result < 4096 }
 {

@@ -1,13 +1,13 @@
 //! The levels that a receiver has from several sources.
-ghost use Rattle.std.specs.Prelude.{◌≡◌, map};
-ghost use Rattle.path_calc.specs.Bundles.{CanBeAdded, energy_in};
-ghost use Rattle.path_calc.specs.Levels.{IsLevel, AreLevels, level_of, levels_of};
+ghost use Rattle.std.specs.Prelude.{◌≡◌};
+ghost use Rattle.path_calc.specs.Bundles.{CanBeAdded};
+ghost use Rattle.path_calc.specs.Levels.{IsLevel, AreLevels, total_of, band_level_of, levels_of};
 
-use crate::band::Band;
 use crate::bundles::Bundle;
 use crate::results::Levels;
 use energy_sum::{Sum, level};
 use fix_interval::Iv;
+use scene_geom::Band;
 
 /// The levels that a receiver has from these bundles, 0 dB from none.
 pub fn levels(bundles: &[Bundle]) -> Levels
@@ -16,7 +16,7 @@ pub fn levels(bundles: &[Bundle]) -> Levels
     ensures range { AreLevels result }
 {
     Levels {
-        total: long_level(bundles),
+        total: total_level(bundles),
         bands: [
             band_level(bundles, Band::Hz63),
             band_level(bundles, Band::Hz125),
@@ -30,28 +30,29 @@ pub fn levels(bundles: &[Bundle]) -> Levels
     }
 }
 
-/// The level in a band.
-fn band_level(bundles: &[Bundle], band: Band) -> Iv
+/// The A-weighted long-term level in dB that a receiver has from these bundles, 0 dB from none: what `levels` gives
+/// without the bands.
+pub fn total_level(bundles: &[Bundle]) -> Iv
     requires { CanBeAdded bundles.now }
-    ensures value { result ≡ level_of (map (energy_in band) bundles.now) }
-    ensures range { IsLevel result }
-{
-    let mut sum = Sum::zero();
-    for bundle in bundles {
-        sum.add(bundle.energy_in(band));
-    }
-    level(&sum)
-}
-
-/// The A-weighted long-term level.
-fn long_level(bundles: &[Bundle]) -> Iv
-    requires { CanBeAdded bundles.now }
-    ensures value { result ≡ level_of (map (λ bundle. bundle.long) bundles.now) }
+    ensures value { result ≡ total_of bundles.now }
     ensures range { IsLevel result }
 {
     let mut sum = Sum::zero();
     for bundle in bundles {
         sum.add(bundle.long_energy());
+    }
+    level(&sum)
+}
+
+/// The level in a band.
+fn band_level(bundles: &[Bundle], band: Band) -> Iv
+    requires { CanBeAdded bundles.now }
+    ensures value { result ≡ band_level_of bundles.now band }
+    ensures range { IsLevel result }
+{
+    let mut sum = Sum::zero();
+    for bundle in bundles {
+        sum.add(bundle.energy_in(band));
     }
     level(&sum)
 }

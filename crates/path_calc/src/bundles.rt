@@ -2,9 +2,8 @@
 ghost use Rattle.std.specs.Prelude.{◌≡◌, ◌<◌, ◌^◌, pos, ◌≤ℤ◌, ◌<ℤ◌, IsSomeAnd};
 ghost use Rattle.path_calc.specs.Bundles.{IsEnergy, energy_in};
 
-use crate::band::Band;
 use fix_interval::Iv;
-use scene_geom::Pt;
+use scene_geom::{Band, Pt};
 use scene_parts::Name;
 use std::marker::Model;
 
@@ -24,14 +23,26 @@ impl Model for Bundle {
 
     ghost Value = { BundleSeen };
 
-    ghost view = { λ b. record { source = b.source; at = b.at; h = b.h; energy = b.energy; long = b.long } };
+    ghost view = { λ b. record {
+      source = b.source;
+      at = b.at;
+      h = b.h;
+      energy = b.energy;
+      long = b.long;
+    } };
 
-    ghost invariant = { λ b. IsBundle (record { source = b.source; at = b.at; h = b.h; energy = b.energy; long = b.long }) };
+    ghost invariant = { λ b. IsBundle (record {
+      source = b.source;
+      at = b.at;
+      h = b.h;
+      energy = b.energy;
+      long = b.long;
+    }) };
 }
 
 impl Bundle {
     /// The energy in a band.
-    pub fn energy_in(&self, band: Band) -> Iv
+    pub(crate) fn energy_in(&self, band: Band) -> Iv
         ensures value { result ≡ energy_in band self.now }
         ensures energy { IsEnergy result }
     {
@@ -39,7 +50,7 @@ impl Bundle {
     }
 
     /// The long-term energy.
-    pub fn long_energy(&self) -> Iv
+    pub(crate) fn long_energy(&self) -> Iv
         ensures value { result ≡ self.now.long }
         ensures energy { IsEnergy result }
     {

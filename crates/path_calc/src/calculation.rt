@@ -1,13 +1,16 @@
 //! The calculation of a bundle.
 ghost use Rattle.std.specs.Prelude.{◌≡◌, ◌+◌, IfOk};
 ghost use Rattle.path_calc.specs.Bundles.{bundle_of};
+ghost use Rattle.path_calc.specs.Prepared.{prepared_of};
 
 use crate::bundles::Bundle;
 use crate::energies::path_energies;
+use crate::memory::NoMemory;
+use crate::prepared::{PreparedReceiver, PreparedSource};
 use crate::steps::Steps;
 use scene_book::Scene;
 use scene_parts::{Name, PointSource, Receiver};
-use std::alloc::{AllocError, Global};
+use std::alloc::Global;
 use std::sync::ledger::Ledger;
 
 /// All that a receiver has from a source of a scene. One step is counted, also where there is no memory for the
@@ -18,13 +21,33 @@ pub fn bundle<L: Ledger>(
     source: &PointSource,
     receiver: &Receiver,
     steps: &mut Steps<L>,
-) -> Result<Bundle, AllocError>
+) -> Result<Bundle, NoMemory>
+    ensures value { IfOk result (λ bundle. bundle ≡ bundle_of scene.now source.now receiver.now) }
+    ensures step { steps.new ≡ steps.old + 1 }
+{
+    let from = PreparedSource::of(source);
+    let to = PreparedReceiver::of(receiver);
+    bundle_between(alloc, scene, source, &from, receiver, &to, steps)
+}
+
+/// The same, of a source and a receiver that are prepared: once, and not for each of their paths.
+pub fn bundle_between<L: Ledger>(
+    alloc: Global,
+    scene: &Scene,
+    source: &PointSource,
+    from: &PreparedSource,
+    receiver: &Receiver,
+    to: &PreparedReceiver,
+    steps: &mut Steps<L>,
+) -> Result<Bundle, NoMemory>
+    requires source { from.now ≡ prepared_of source.now }
+    requires receiver { to.now ≡ receiver.now.h }
     ensures value { IfOk result (λ bundle. bundle ≡ bundle_of scene.now source.now receiver.now) }
     ensures step { steps.new ≡ steps.old + 1 }
 {
     steps.tick();
     let name = Name::from_vec(source.name.items().to_vec(alloc)?);
-    let energies = path_energies(scene, source, receiver);
+    let energies = path_energies(scene, source, from, receiver, to);
     Ok(Bundle {
         source: name,
         at: source.at,

@@ -1,6 +1,9 @@
-//! Laws of bundles. Each function does nothing: its contract is the law.
+//! Laws of bundles and levels. Each function does nothing: its contract is the law.
 
-ghost use Rattle.path_calc.specs.Laws.{BandsAreEnclosed, LongIsEnclosed, SameBetween};
+ghost use Rattle.scene_book.specs.Book.{Book};
+ghost use Rattle.scene_parts.specs.Seen.{Receiver};
+ghost use Rattle.path_calc.specs.Laws.{BandsAreEnclosed, LongIsEnclosed, LevelsAreEnclosed};
+ghost use Rattle.path_calc.specs.Laws.{SameBetween};
 
 use energy_sum::every_formula_is_enclosed;
 
@@ -12,7 +15,16 @@ pub fn energies_are_enclosed()
     every_formula_is_enclosed();
 }
 
-/// Of the scene a bundle depends on what holds of the whole scene and on the zones that the path meets alone.
+/// Each level that the map shows of a receiver is the interval of one whole formula, of all sounds of all
+/// sources within reach (ISO 9613-2, equations 3 to 6), and encloses it, node by node.
+pub fn levels_are_enclosed()
+    ensures { (book : Book) (r : Receiver) → LevelsAreEnclosed book r }
+{
+    every_formula_is_enclosed();
+}
+
+/// A bundle is the same in two scenes that agree in what holds of the whole scene and in what source and
+/// receiver read of its parts.
 pub fn same_between()
     ensures { SameBetween }
 {}

@@ -1,10 +1,11 @@
 //! Distances between a source and a receiver.
-ghost use Rattle.std.specs.Prelude.{◌≡◌, ◌≤◌, ◌<◌, ◌^◌, ◌*◌, ◌-ℤ◌, pos, ◌≤ℤ◌, unsigned_abs, IsSomeAnd};
+ghost use Rattle.std.specs.Prelude.{◌≡◌, ◌≤◌, ◌<◌, ◌^◌, ◌*◌, ◌-ℤ◌, unsigned_abs};
 ghost use Rattle.scene_geom.specs.Plan.{InPlan};
 ghost use Rattle.scene_parts.specs.Ranges.{IsHeight};
 ghost use Rattle.fix_interval.specs.Tree.{enc};
 ghost use Rattle.path_shape.specs.Shape as shape;
 ghost use Rattle.path_calc.specs.Lengths as lengths;
+ghost use Rattle.path_calc.specs.Ranges.{IsDistance};
 
 use fix_interval::{Iv, ratio, root};
 use scene_geom::Pt;
@@ -60,7 +61,7 @@ pub(crate) fn distance(s: Pt, hs: u32, r: Pt, hr: u32) -> Iv
     requires source_height { IsHeight hs }
     requires receiver_height { IsHeight hr }
     ensures value { result ≡ enc (lengths.distance s hs r hr) }
-    ensures bound { IsSomeAnd result.hi (λ z. z ≤ℤ pos (2 ^ 60)) }
+    ensures bounds { IsDistance result }
 {
     root_of_square(s, hs, r, hr)
 }

@@ -4,23 +4,28 @@
 
 mod absorption;
 mod addition;
-mod band;
 mod bundles;
 mod calculation;
 mod energies;
+mod hearing;
 pub mod laws;
 mod lengths;
-mod path;
+mod memory;
+mod numbers;
+mod prepared;
+mod propagation;
 mod results;
 mod steps;
 #[cfg(test)]
 mod tests;
+mod weights;
 
-pub use absorption::coefficient;
-pub use addition::levels;
-pub use band::Band;
+pub use addition::{levels, total_level};
 pub use bundles::Bundle;
-pub use calculation::bundle;
+pub use calculation::{bundle, bundle_between};
 pub use lengths::within;
+pub use memory::NoMemory;
+pub use prepared::{PreparedReceiver, PreparedSource};
 pub use results::Levels;
+pub use scene_geom::Band;
 pub use steps::Steps;

@@ -4,7 +4,9 @@ ghost use Rattle.std.specs.Prelude.{◌≡◌, ◌+◌, ◌<◌};
 use std::marker::Model;
 use std::sync::ledger::{Blank, Book, Ledger, Share};
 
-/// How many paths were calculated. It takes no bytes, and a path counts as one step. Contracts see it as that number.
+/// How many paths were calculated. Each calculation of a bundle counts one step, and nothing else can: `tick`
+/// isn't public, so that a step without a path can't be written outside of this crate. It takes no bytes.
+/// Contracts see it as that number.
 #[derive(Drop)]
 pub struct Steps<L: Ledger> {
     book: Book<L>,
@@ -34,7 +36,7 @@ impl<L: Ledger> Steps<L> {
     }
 
     /// Counts one step.
-    pub fn tick(&mut self)
+    pub(crate) fn tick(&mut self)
         ensures { self.new ≡ self.old + 1 }
     {
         self.book.add(&mut self.share, 1);

@@ -1,7 +1,7 @@
 //! Bundles and levels with ends from outside, by an independent program.
 ghost use Rattle.std.specs.Prelude.{◌≡◌, ◌<◌};
 
-use super::{Band, Bundle, Steps, bundle, levels};
+use super::{Band, Bundle, NoMemory, Steps, bundle, levels};
 use fix_interval::Iv;
 use scene_book::{Edit, Scene};
 use scene_geom::Pt;
@@ -9,7 +9,7 @@ use scene_parts::{
     Air, Checked, Kind, Name, Part, PlainName, PointSource, RawPart, RawPoints, RawPt, Receiver,
     SetSpec, check,
 };
-use std::alloc::{AllocError, Global};
+use std::alloc::Global;
 use std::marker::Brand;
 use std::process::Abort;
 use std::sync::ledger::{Blank, Ledger};
@@ -105,7 +105,7 @@ fn counted<L: Ledger>(
     source: &PointSource,
     receiver: &Receiver,
     blank: Blank,
-) -> Result<Bundle, AllocError>
+) -> Result<Bundle, NoMemory>
     requires name { blank.name ≡ L.name }
     requires parts { blank.parts ≡ L.parts }
     requires some { 0 < blank.parts }

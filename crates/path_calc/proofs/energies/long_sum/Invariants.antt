@@ -1,6 +1,6 @@
 -- The sum is that of the bands so far.
 use Rattle.std.proofs.Common.{◌≡◌, take}
-use Rattle.path_calc.specs.declared.path.Heard.{Heard}
+use Rattle.path_calc.specs.declared.hearing.Heard.{Heard}
 use Rattle.path_calc.specs.Ranges.{IsSumOf}
 use Rattle.path_calc.proofs.Sums.{summed}
 use Rattle.path_calc.proofs.energies.long_sum.Given as goal

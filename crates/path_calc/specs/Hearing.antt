@@ -1,0 +1,47 @@
+-- What stands between the code and the definitions: the energies of what a source emits, at the end of a path of which
+-- the quantities are known.
+use Rattle.std.specs.Prelude.{◌≡◌, [], ◌∷◌, Option, Some, None, slice_index_or}
+use Rattle.fix_interval.specs.Interval.{Interval}
+use Rattle.fix_interval.specs.Tree.{Tree, Known, enc}
+use Rattle.energy_sum.specs.Energies.{energy_form}
+use Rattle.scene_geom.specs.declared.band.Band.{Band}
+use Rattle.scene_geom.specs.Bands.{place_of}
+use Rattle.scene_parts.specs.Seen.{Source, Receiver}
+use Rattle.scene_book.specs.Book.{Book}
+use Rattle.path_calc.specs.declared.propagation.Propagation.{Propagation}
+use Rattle.path_calc.specs.Absorption.{coefficient_in}
+use Rattle.path_calc.specs.Lengths.{distance}
+use Rattle.path_calc.specs.Surroundings.{surroundings_of}
+use Rattle.path_calc.specs.Contributions.{ground_in, level_over}
+use Rattle.path_calc.specs.Energies.{sum_form, weighted}
+use Rattle.path_calc.specs.Prepared.{PreparedSource, emission_at}
+
+-- the attenuation by the ground in a band
+abbrev pub ground_at : Propagation → Band → Interval
+ground_at propagation band = slice_index_or propagation.ground (place_of band) propagation.divergence
+
+-- the quantities of the direct path from a source to a receiver of a scene
+pub record IsDirect (propagation : Propagation) (book : Book) (s : Source) (r : Receiver) : Type 0 where
+  pub air : propagation.air ≡ book.globals.air
+  pub distance : propagation.distance ≡ enc (distance s.at s.h r.at r.h)
+  pub ground : (band : Band)
+      → ground_at propagation band ≡ enc (ground_in (surroundings_of book s r).zones book.globals.g s r band)
+
+-- the level of what is emitted
+abbrev pub level_after : Propagation → Band → Interval → Tree
+level_after propagation band emission =
+    let d = Known propagation.distance in
+    level_over (Known emission) d (coefficient_in propagation.air band) (Known (ground_at propagation band))
+
+-- what an energy of one sound makes of its level, or of none where nothing is emitted
+abbrev pub sum_after : (Tree → Tree) → Propagation → Band → Option Interval → Interval
+sum_after energy propagation band None = enc (sum_form [])
+sum_after energy propagation band (Some emission) = enc (sum_form (energy (level_after propagation band emission) ∷ []))
+
+-- the energy of a source in a band, and its long-term energy
+abbrev pub energy_after : Propagation → PreparedSource → Band → Interval
+energy_after propagation source band = sum_after energy_form propagation band (emission_at source band)
+
+abbrev pub long_energy_after : Propagation → PreparedSource → Band → Interval
+long_energy_after propagation source band =
+    sum_after (λ level. energy_form (weighted band level)) propagation band (emission_at source band)
