@@ -13,13 +13,13 @@ abbrev pub IsNotNegative : Option ℤ → Type 0
 IsNotNegative end = IsSomeAnd end (λ x. pos 0 ≤ℤ x)
 
 -- the definition, from 0 on
-abbrev ends : Option ℤ → Option ℤ → Interval
+abbrev pub ends : Option ℤ → Option ℤ → Interval
 ends lo hi = record {
   lo = Some (pos (option_map_or (λ z. exp_neg_low (unsigned_abs z)) hi 0));
   hi = option_map (λ z. pos (exp_neg_high (unsigned_abs z))) lo;
 }
 
-exp_neg_of-ends : (lo hi : Option ℤ) → IsNotNegative lo → exp_neg_of (record { lo = lo; hi = hi }) ≡ ends lo hi
+pub exp_neg_of-ends : (lo hi : Option ℤ) → IsNotNegative lo → exp_neg_of (record { lo = lo; hi = hi }) ≡ ends lo hi
 unfolding exp_neg_of
 exp_neg_of-ends None hi start = absurd start
 exp_neg_of-ends (Some z) hi start = (let e : int_le (pos 0) z ≡ true = grind (arith, ints) in rw e refl)

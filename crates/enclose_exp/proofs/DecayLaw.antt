@@ -10,7 +10,8 @@ use Rattle.fix_interval.specs.Powers.{factorial_20, exponential_sum}
 use Rattle.fix_interval.specs.Roots.{one_factor, times_low, times_high, product}
 use Rattle.fix_interval.specs.ExpNeg.{inverse_e_low, inverse_e_high, whole_decay_low, whole_decay_high, decay_factor_low, decay_factor_high, decay_low, decay_high, exp_neg_low, exp_neg_high}
 use Rattle.enclose_exp.specs.declared.tables.TheConstants.{WHOLE_LOW, WHOLE_HIGH}
-use Rattle.enclose_exp.proofs.Law.{pow-mul, one-pow, root_low-law, root_high-law, all_low-law, all_high-law}
+use Rattle.fix_interval.proofs.Powers.{pow-mul, one-pow}
+use Rattle.enclose_exp.proofs.Law.{root_low-law, root_high-law, all_low-law, all_high-law}
 use Rattle.enclose_exp.proofs.TableLemmas.{whole_low-at, whole_high-at, decay_high-le, quotient_up-le}
 
 -- ---- the code's values

@@ -5,21 +5,9 @@ use Rattle.std.proofs.lemmas.Nat.{mul-le, pow-add, mul-pow}
 use Rattle.std.proofs.lemmas.Grind.{div_ceil_times}
 use Rattle.std.proofs.Math.Nat.{pow-suc, pow-zero, one-le-pow, pow-le-pow_left, mul-le-mul_right, le_of_mul-le-mul_right, div-mul-le_self, div-div-eq-div-mul, div-eq_of_lt, div-one}
 use Rattle.fix_interval.specs.Roots.{one_factor, times_low, times_high, root_low, root_high, digit_at, product}
+use Rattle.fix_interval.proofs.Powers.{pow-one, pow-mul, one-pow}
 use Rattle.enclose_exp.proofs.Products.{product-zero, product-cases}
 use Rattle.enclose_exp.proofs.Roots.{floor_root-holds, ceil_root-reaches}
-
-pub pow-one : (b : ℕ) → b ^ 1 ≡ b
-pow-one b = (let one : 1 * b ≡ b = omega arith in pow-suc b 0 ∙ ap (λ x. x * b) (pow-zero b) ∙ one)
-
-pub pow-mul : (b i j : ℕ) → b ^ (i * j) ≡ (b ^ i) ^ j
-pow-mul b i zero = (let e : i * 0 ≡ 0 = omega arith in ap (λ j. b ^ j) e ∙ pow-zero b ∙ sym (pow-zero (b ^ i)))
-pow-mul b i (suc j) =
-    let e : i * suc j ≡ i * j + i = omega arith in
-    rw e (pow-add b (i * j) i ∙ ap (λ x. x * b ^ i) (pow-mul b i j) ∙ sym (pow-suc (b ^ i) j))
-
-pub one-pow : (i : ℕ) → 1 ^ i ≡ 1
-one-pow zero = pow-zero 1
-one-pow (suc i) = pow-suc 1 i ∙ ap (λ x. x * 1) (one-pow i)
 
 -- the power of a square root
 squared : (r q : ℕ) → r ^ (q + q) ≡ (r * r) ^ q

@@ -3,12 +3,11 @@ pub mod DecayLaw
 pub mod Exponents
 pub mod Law
 pub mod PowerNodes
-pub mod Powers
 pub mod Products
 pub mod Roots
 pub mod Scaling
 pub mod Steps
-pub mod Shifted
 pub mod TableLemmas
 pub mod TenInterval
 pub mod TenLaw
+pub mod PowerRanges

@@ -11,9 +11,9 @@ use Rattle.fix_interval.specs.Interval.{Interval, IsInterval}
 use Rattle.fix_interval.specs.Rules.{HoldsTenPower, EndMeets}
 use Rattle.fix_interval.specs.Lg.{IsAtMostLg, IsAtLeastLg}
 use Rattle.fix_interval.specs.Ten.{fraction_low, fraction_high, raised_low, raised_high, ten_low, ten_high, ten_of}
-use Rattle.enclose_exp.proofs.Law.{pow-mul, one-pow}
+use Rattle.fix_interval.proofs.Powers.{pow-mul, one-pow}
 use Rattle.enclose_exp.proofs.TenLaw.{raised_low-law, raised_high-law}
-use Rattle.enclose_exp.proofs.Shifted.{at_most-shifted, at_least-shifted}
+use Rattle.fix_interval.proofs.Shifted.{at_most-shifted, at_least-shifted}
 use Rattle.enclose_exp.proofs.Exponents.{ten_low-greatest, ten_low-least, ten_low-within, ten_high-greatest, ten_high-least, ten_high-within}
 use Rattle.enclose_exp.proofs.TableLemmas.{fraction_low-small, fraction_high-small}
 
@@ -23,13 +23,13 @@ pub data Place (n : ℤ) : Type 0 where
   within : neg_ℤ (pos (19 * 2 ^ 32)) ≤ℤ n → n <ℤ pos (20 * 2 ^ 32) → Place n
   greatest : pos (20 * 2 ^ 32) ≤ℤ n → Place n
 
-place_of : (n : ℤ) → Place n
+pub place_of : (n : ℤ) → Place n
 place_of n =
     by_lt_z n (neg_ℤ (pos (19 * 2 ^ 32))) (λ h. least h)
     (λ low. by_lt_z n (pos (20 * 2 ^ 32)) (λ high. within low high) (λ h. greatest h))
 
 -- an exponent within the range, counted from -20
-abbrev shifted : (n : ℤ) → ℕ
+abbrev pub shifted : (n : ℤ) → ℕ
 shifted n = unsigned_abs (n +ℤ pos (20 * 2 ^ 32))
 
 shifted-is : (n : ℤ) → neg_ℤ (pos (19 * 2 ^ 32)) ≤ℤ n → pos (shifted n) ≡ n +ℤ pos (20 * 2 ^ 32)
@@ -45,7 +45,7 @@ shifted-back n low = rw unit-is (omega (arith, ints, shifted-is n low))
 shifted-small : (n : ℤ) → neg_ℤ (pos (19 * 2 ^ 32)) ≤ℤ n → n <ℤ pos (20 * 2 ^ 32) → shifted n < 40 * 2 ^ 32
 shifted-small n low high = omega (arith, ints, shifted-is n low, high)
 
-shifted-ordered : (m n : ℤ) → neg_ℤ (pos (19 * 2 ^ 32)) ≤ℤ m → m ≤ℤ n → shifted m ≤ shifted n
+pub shifted-ordered : (m n : ℤ) → neg_ℤ (pos (19 * 2 ^ 32)) ≤ℤ m → m ≤ℤ n → shifted m ≤ shifted n
 shifted-ordered m n low le = (let second : neg_ℤ (pos (19 * 2 ^ 32)) ≤ℤ n = omega (arith, ints) in omega (arith, ints, shifted-is m low, shifted-is n second))
 
 -- ---- the laws of an end
@@ -161,7 +161,7 @@ high-end n =
     ]
 
 -- the low end isn't above it
-ends-ordered : (m n : ℤ) → m ≤ℤ n → IfSome (ten_high n) (λ h. pos (ten_low m) ≤ℤ h)
+pub ends-ordered : (m n : ℤ) → m ≤ℤ n → IfSome (ten_high n) (λ h. pos (ten_low m) ≤ℤ h)
 ends-ordered m n le =
     elim (place_of n) [
       | least h ↦ (let below : m <ℤ neg_ℤ (pos (19 * 2 ^ 32)) = omega (arith, ints) in
@@ -222,9 +222,12 @@ positive-end : (n : ℤ) (high : Option ℤ) → IfSome high (IsHighEnd n) → I
 positive-end n None end = tt
 positive-end n (Some h) end = end.positive
 
+pub ten_high-positive : (n : ℤ) → IfSome (ten_high n) (λ z. pos 1 ≤ℤ z)
+ten_high-positive n = positive-end n (ten_high n) (high-end n)
+
 ends-high : (hi : Option ℤ) → IfSome (option_and_then ten_high hi) (λ z. pos 1 ≤ℤ z)
 ends-high None = tt
-ends-high (Some n) = positive-end n (ten_high n) (high-end n)
+ends-high (Some n) = ten_high-positive n
 
 pub ten_of-low : (i : Interval) → IsSomeAnd (ten_of i).lo (λ z. pos 0 ≤ℤ z)
 ten_of-low i = rw (ten_of-ends i.lo i.hi) (omega (arith, ints))

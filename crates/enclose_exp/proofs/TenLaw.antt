@@ -6,7 +6,8 @@ use Rattle.std.proofs.Math.Nat.{one-le-pow, pow-le-pow_left, mul-le-mul_right, l
 use Rattle.fix_interval.specs.Units.{unit, unit-is}
 use Rattle.fix_interval.specs.Roots.{one_factor}
 use Rattle.fix_interval.specs.Ten.{ten_factor_low, ten_factor_high, fraction_low, fraction_high, raised_low, raised_high}
-use Rattle.enclose_exp.proofs.Law.{pow-mul, one-pow, root_low-law, root_high-law, all_low-law, all_high-law}
+use Rattle.fix_interval.proofs.Powers.{pow-mul, one-pow}
+use Rattle.enclose_exp.proofs.Law.{root_low-law, root_high-law, all_low-law, all_high-law}
 
 -- ten's factors are roots of 10
 roots_low : (j : ℕ) → ten_factor_low j ^ (2 ^ suc j) * 1 ≤ 10 * one_factor ^ (2 ^ suc j)

@@ -4,6 +4,7 @@ ghost use Rattle.std.specs.Prelude.{◌≤ℤ◌, IsSomeAnd, pos};
 ghost use Rattle.fix_interval.specs.ExpNeg.{exp_neg_of};
 ghost use Rattle.fix_interval.specs.Interval.{Interval, IsInterval};
 ghost use Rattle.fix_interval.specs.Lawful.{IsLawful};
+ghost use Rattle.fix_interval.specs.Ranges.{IsRanged, decay_range, power_range};
 ghost use Rattle.fix_interval.specs.Rules.{HoldsDecay, HoldsTenPower};
 ghost use Rattle.fix_interval.specs.Ten.{ten_of};
 ghost use Rattle.fix_interval.specs.Tree.{ExpNeg, Ten};
@@ -21,4 +22,11 @@ pub fn power_is_enclosed()
 pub fn decay_is_enclosed()
     ensures ends { (i : Interval) → IsInterval i → IsSomeAnd i.lo (λ x. pos 0 ≤ℤ x) → HoldsDecay i (exp_neg_of i) }
     ensures lawful { IsLawful ExpNeg exp_neg_of }
+{}
+
+/// The power of ten of what lies in a range, and the decay of it, lie in the ranges that the algebra of ranges gives for
+/// them: the power up to 16 times that of the exponent's whole part, the decay from 0 to 1.
+pub fn powers_keep_their_ranges()
+    ensures power { IsRanged ten_of power_range }
+    ensures decay { IsRanged exp_neg_of decay_range }
 {}

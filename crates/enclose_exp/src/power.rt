@@ -2,13 +2,14 @@
 
 ghost use Rattle.std.specs.Prelude.{◌≡◌, ◌<◌, ◌≤◌, ◌*◌, ◌%◌, ◌^◌, ◌≤ℤ◌, IsSomeAnd, IfSome, pos, Some};
 ghost use Rattle.std.specs.Option.{option_map_or};
+ghost use Rattle.fix_interval.specs.Interval.{IsInterval};
 ghost use Rattle.fix_interval.specs.Ten.{ten_of, raised_low, raised_high, fraction_low, fraction_high};
 ghost use Rattle.enclose_exp.specs.Exponent.{counted, low_value, high_value};
 
 use crate::product::{grown_down, grown_up, taken, units_up};
 use crate::starts::{STARTS_HIGH, STARTS_LOW};
-use crate::tables::{GROWTHS_HIGH, GROWTHS_LOW, POWERS_OF_TEN};
-use fix_interval::Iv;
+use crate::tables::{GROWTHS_HIGH, GROWTHS_LOW};
+use fix_interval::{Iv, power_of_ten};
 
 /// The exponent 20, from which on the low end stays and the high end is unbounded.
 const GREATEST: i128 = 20 << 32;
@@ -24,6 +25,7 @@ const LEAST_COUNTED: u64 = 1 << 32;
 /// the high end is above 0, and is unbounded where the exponent may reach 20.
 pub fn ten(a: Iv) -> Iv
     ensures value { result ≡ ten_of a }
+    ensures interval { IsInterval result }
     ensures low { IsSomeAnd result.lo (λ z. pos 0 ≤ℤ z) }
     ensures high { IfSome result.hi (λ z. pos 1 ≤ℤ z) }
 {
@@ -98,11 +100,11 @@ fn power_down(exponent: u64, fraction: u64) -> u128
     ensures value { result ≡ raised_low exponent }
     ensures bound { result < 2 ^ 100 }
 {
-    let whole = (exponent >> 32) as usize;
+    let whole = (exponent >> 32) as u32;
     if whole < 20 {
-        u128::from((fraction >> 28) / power_of_ten(20 - whole))
+        u128::from((fraction >> 28) / small_power_of_ten(20 - whole))
     } else {
-        (u128::from(fraction) * u128::from(power_of_ten(whole - 20))) >> 28
+        (u128::from(fraction) * u128::from(small_power_of_ten(whole - 20))) >> 28
     }
 }
 
@@ -114,22 +116,22 @@ fn power_up(exponent: u64, fraction: u64) -> u128
     ensures value { result ≡ raised_high exponent }
     ensures bound { result < 2 ^ 101 }
 {
-    let whole = (exponent >> 32) as usize;
+    let whole = (exponent >> 32) as u32;
     if whole < 20 {
-        u128::from(units_up(fraction).div_ceil(power_of_ten(20 - whole)))
+        u128::from(units_up(fraction).div_ceil(small_power_of_ten(20 - whole)))
     } else {
-        let product = u128::from(fraction) * u128::from(power_of_ten(whole - 20));
+        let product = u128::from(fraction) * u128::from(small_power_of_ten(whole - 20));
         (product + ((1 << 28) - 1)) >> 28
     }
 }
 
-/// 10 to a whole power below 20.
-fn power_of_ten(exponent: usize) -> u64
+/// 10 to a whole power below 20, which fits 64 bits.
+fn small_power_of_ten(exponent: u32) -> u64
     requires { exponent < 20 }
     ensures value { result ≡ 10 ^ exponent }
     ensures positive { 0 < result }
 {
-    POWERS_OF_TEN[exponent]
+    power_of_ten(exponent) as u64
 }
 
 #[cfg(test)]

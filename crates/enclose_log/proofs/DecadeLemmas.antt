@@ -8,7 +8,7 @@ use Rattle.std.specs.Int.{div_ceil}
 use Rattle.fix_interval.specs.Units.{unit-is}
 use Rattle.fix_interval.specs.Lg.{greatest, decade_of, one_mantissa}
 use Rattle.enclose_log.specs.Decade.{IsDecade}
-use Rattle.enclose_log.proofs.Quotients.{div_ceil-scaled, div_ceil-whole}
+use Rattle.fix_interval.proofs.Ceilings.{div_ceil-scaled, div_ceil-whole}
 
 -- the greatest number that passes, where no greater one does
 pub greatest-is : (passes : ℕ → Bool) (limit k : ℕ) → k ≤ limit → passes k ≡ true → ((j : ℕ) → k < j → passes j ≡ false) → greatest passes limit ≡ k

@@ -7,17 +7,8 @@ use Rattle.std.proofs.lemmas.Nat.{mul-le, pow-add, mul-pow}
 use Rattle.std.proofs.lemmas.Grind.{div_ceil_times}
 use Rattle.std.proofs.Math.Nat.{pow-suc, pow-zero, mul-le-mul_left, le_of_mul-le-mul_right, div-mul-le_self}
 use Rattle.fix_interval.specs.Lg.{LgTurn, turn_low, turn_high, turns, one_mantissa, rounded_up}
+use Rattle.fix_interval.proofs.Powers.{pow-one, pow-mul}
 use Rattle.enclose_log.proofs.Turns.{turn_low-cases, turn_high-cases, turns_low-in_range, turns_high-in_range}
-
--- powers of powers
-pub pow-one : (b : ℕ) → b ^ 1 ≡ b
-pow-one b = (let one : 1 * b ≡ b = omega arith in pow-suc b 0 ∙ ap (λ x. x * b) (pow-zero b) ∙ one)
-
-pub pow-mul : (b i j : ℕ) → b ^ (i * j) ≡ (b ^ i) ^ j
-pow-mul b i zero = (let e : i * 0 ≡ 0 = omega arith in ap (λ j. b ^ j) e ∙ pow-zero b ∙ sym (pow-zero (b ^ i)))
-pow-mul b i (suc j) =
-    let e : i * suc j ≡ i * j + i = omega arith in
-    rw e (pow-add b (i * j) i ∙ ap (λ x. x * b ^ i) (pow-mul b i j) ∙ sym (pow-suc (b ^ i) j))
 
 -- Between two turns that have raised to the power q: the start b and the digits are at most x
 pub record AtMost (b x q : ℕ) (turn : LgTurn) : Type 0 where

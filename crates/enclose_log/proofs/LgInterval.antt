@@ -29,10 +29,10 @@ from_one-abs (pos n) h = omega (arith, ints, h)
 from_one-abs (negsuc n) h = absurd (omega (arith, ints, h))
 
 -- the definition, above 0
-abbrev ends : Option ℤ → Option ℤ → Interval
+abbrev pub ends : Option ℤ → Option ℤ → Interval
 ends lo hi = record { lo = option_map (λ z. lg_low (unsigned_abs z)) lo; hi = option_map (λ z. lg_high (unsigned_abs z)) hi }
 
-lg_of-ends : (lo hi : Option ℤ) → IsPositive lo → lg_of (record { lo = lo; hi = hi }) ≡ ends lo hi
+pub lg_of-ends : (lo hi : Option ℤ) → IsPositive lo → lg_of (record { lo = lo; hi = hi }) ≡ ends lo hi
 unfolding lg_of
 lg_of-ends None hi positive = absurd positive
 lg_of-ends (Some z) hi positive = (let e : int_le (pos 1) z ≡ true = grind (arith, ints) in rw e refl)

@@ -2,8 +2,7 @@ pub mod DecadeLemmas
 pub mod Law
 pub mod LgInterval
 pub mod LogarithmNode
-pub mod Powers
 pub mod Quotients
 pub mod Turns
 pub mod Value
-pub mod LgSpans
+pub mod LgRange

@@ -19,23 +19,3 @@ quotient_up-parts n t c b positive left =
     let rest = mul-mod_first n c t in
     let less : min 1 (n % t * c % t) ≡ min 1 (n * c % t) = ap (λ x. min 1 x) rest in
     omega (arith, same, less, left)
-
--- the quotient rounded up is the only number in its place
-pub div_ceil-is : (a b r : ℕ) → 0 < b → a ≤ r * b → r * b < a + b → div_ceil a b ≡ r
-div_ceil-is a b r positive above below =
-    let d = div_ceil_times a b positive in
-    let first : div_ceil a b < r + 1 = lt_of_mul-lt-mul_right b (omega (arith, d.0, d.1)) in
-    let second : r < div_ceil a b + 1 = lt_of_mul-lt-mul_right b (omega (arith, d.0, d.1)) in
-    omega (arith, first, second)
-
--- a common factor changes neither quotient
-pub div_ceil-scaled : (c m n : ℕ) → 0 < c → 0 < n → div_ceil (c * m) (c * n) ≡ div_ceil m n
-div_ceil-scaled c m n positive above =
-    let d = div_ceil_times m n above in
-    div_ceil-is (c * m) (c * n) (div_ceil m n) (omega (arith, mul-lt-mul_of_pos_left {k = c} above positive))
-    (omega (arith, mul-le-mul_left c d.0))
-    (omega (arith, mul-lt-mul_of_pos_left {k = c} d.1 positive))
-
--- a quotient without remainder
-pub div_ceil-whole : (r b : ℕ) → 0 < b → div_ceil (b * r) b ≡ r
-div_ceil-whole r b positive = div_ceil-is (b * r) b r positive (omega arith) (omega arith)

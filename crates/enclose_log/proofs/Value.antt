@@ -10,7 +10,9 @@ use Rattle.fix_interval.specs.Lg.{greatest, decade_of, mantissa_low, mantissa_hi
 use Rattle.enclose_log.specs.Decade.{IsDecade}
 use Rattle.enclose_log.proofs.DecadeLemmas.{mantissa_low-within, mantissa_high-within}
 use Rattle.enclose_log.proofs.Turns.{turns_low-in_range, turns_high-in_range}
-use Rattle.enclose_log.proofs.Law.{low-law, high-law, pow-mul, rounded_up-cases}
+use Rattle.fix_interval.proofs.Powers.{pow-mul}
+use Rattle.fix_interval.proofs.Shifted.{at_most-shifted, at_least-shifted}
+use Rattle.enclose_log.proofs.Law.{low-law, high-law, rounded_up-cases}
 
 true_or_false : (b : Bool) → (b ≡ true) ⊎ (b ≡ false)
 true_or_false true = inl refl
@@ -75,33 +77,6 @@ decade_of-holds n positive small =
     ])
     last
 
--- what the power of ten is when it's moved to the other side: s - t as a signed exponent
-at_most-shifted : (s t n : ℕ) → 10 ^ s * unit ^ unit ≤ 10 ^ t * n ^ unit → IsAtMostLg (pos s -ℤ pos t) n
-at_most-shifted s t n h =
-    elim (cases_lt s t) [
-      | inl less ↦ (let e : pos s -ℤ pos t ≡ negsuc (t - s - 1) = omega (arith, ints) in
-          let parts : t ≡ s + suc (t - s - 1) = omega arith in
-          let split : 10 ^ t ≡ 10 ^ s * 10 ^ suc (t - s - 1) = ap (λ i. 10 ^ i) parts ∙ pow-add 10 s (suc (t - s - 1)) in
-          rw e (le_of_mul-le-mul_left {k = 10 ^ s} (omega (arith, rw split at h)) (one-le-pow s 10 (omega arith))))
-      | inr more ↦ (let e : pos s -ℤ pos t ≡ pos (s - t) = omega (arith, ints) in
-          let parts : s ≡ t + (s - t) = omega arith in
-          let split : 10 ^ s ≡ 10 ^ t * 10 ^ (s - t) = ap (λ i. 10 ^ i) parts ∙ pow-add 10 t (s - t) in
-          rw e (le_of_mul-le-mul_left {k = 10 ^ t} (omega (arith, rw split at h)) (one-le-pow t 10 (omega arith))))
-    ]
-
-at_least-shifted : (s t n : ℕ) → 10 ^ t * n ^ unit ≤ 10 ^ s * unit ^ unit → IsAtLeastLg (pos s -ℤ pos t) n
-at_least-shifted s t n h =
-    elim (cases_lt s t) [
-      | inl less ↦ (let e : pos s -ℤ pos t ≡ negsuc (t - s - 1) = omega (arith, ints) in
-          let parts : t ≡ s + suc (t - s - 1) = omega arith in
-          let split : 10 ^ t ≡ 10 ^ s * 10 ^ suc (t - s - 1) = ap (λ i. 10 ^ i) parts ∙ pow-add 10 s (suc (t - s - 1)) in
-          rw e (le_of_mul-le-mul_left {k = 10 ^ s} (omega (arith, rw split at h)) (one-le-pow s 10 (omega arith))))
-      | inr more ↦ (let e : pos s -ℤ pos t ≡ pos (s - t) = omega (arith, ints) in
-          let parts : s ≡ t + (s - t) = omega arith in
-          let split : 10 ^ s ≡ 10 ^ t * 10 ^ (s - t) = ap (λ i. 10 ^ i) parts ∙ pow-add 10 t (s - t) in
-          rw e (le_of_mul-le-mul_left {k = 10 ^ t} (omega (arith, rw split at h)) (one-le-pow t 10 (omega arith))))
-    ]
-
 -- the two laws, with all powers of ten on the side where they are whole
 lifted : (n : ℕ) → (10 ^ 10 * n) ^ unit ≡ 10 ^ (10 * unit) * n ^ unit
 lifted n = mul-pow (10 ^ 10) n unit ∙ ap (λ y. y * n ^ unit) (sym (pow-mul 10 10 unit))
@@ -165,13 +140,13 @@ lg-ordered m n positive le small =
     omega (arith, ints, sums)
 
 -- what the digits leave of the decades
-digits_low-small : (n : ℕ) → 0 < n → n < 2 ^ 126 → (digits_low (mantissa_low n)).digits < 2 ^ 32
+pub digits_low-small : (n : ℕ) → 0 < n → n < 2 ^ 126 → (digits_low (mantissa_low n)).digits < 2 ^ 32
 unfolding digits_low
 digits_low-small n positive small =
     let range = mantissa_low-within n (decade_of n) (decade_of-holds n positive small) in
     (turns_low-in_range (mantissa_low n) 32 range.0 range.1).digits
 
-rounded_up-small : (n : ℕ) → 0 < n → n < 2 ^ 126 → rounded_up (digits_high (mantissa_high n)) ≤ 2 ^ 32
+pub rounded_up-small : (n : ℕ) → 0 < n → n < 2 ^ 126 → rounded_up (digits_high (mantissa_high n)) ≤ 2 ^ 32
 unfolding digits_high
 rounded_up-small n positive small =
     let range = mantissa_high-within n (decade_of n) (decade_of-holds n positive small) in

@@ -5,6 +5,7 @@ ghost use Rattle.fix_interval.specs.Interval.{Interval, IsInterval};
 ghost use Rattle.fix_interval.specs.Lawful.{IsLawful};
 ghost use Rattle.fix_interval.specs.Lg.{lg_of};
 ghost use Rattle.fix_interval.specs.Rules.{HoldsLogarithm};
+ghost use Rattle.fix_interval.specs.Ranges.{IsRanged, logarithm_range};
 ghost use Rattle.fix_interval.specs.Tree.{Lg};
 
 /// The value of `lg` encloses the logarithm: for every interval that lies above 0 the powers of ten at its
@@ -13,4 +14,10 @@ ghost use Rattle.fix_interval.specs.Tree.{Lg};
 pub fn logarithm_is_enclosed()
     ensures ends { (i : Interval) → IsInterval i → IsSomeAnd i.lo (λ x. pos 1 ≤ℤ x) → HoldsLogarithm i (lg_of i) }
     ensures lawful { IsLawful Lg lg_of }
+{}
+
+/// The logarithm of what lies in a range lies in the range that the algebra of ranges gives for it: within the decades
+/// of its bounds.
+pub fn logarithm_keeps_its_range()
+    ensures { IsRanged lg_of logarithm_range }
 {}

@@ -5,41 +5,10 @@ ghost use Rattle.std.specs.Int.{div_ceil};
 ghost use Rattle.enclose_log.specs.Decade.{IsDecade};
 ghost use Rattle.fix_interval.specs.Lg.{one_mantissa, decade_of, mantissa_low, mantissa_high};
 
+use fix_interval::power_of_ten;
+
 /// The least 64 bits of a number.
 const WORD: u128 = u64::MAX as u128;
-
-/// The powers of ten up to that of the last decade.
-const POWERS: [u128; 29] = [
-    1,
-    10,
-    100,
-    1_000,
-    10_000,
-    100_000,
-    1_000_000,
-    10_000_000,
-    100_000_000,
-    1_000_000_000,
-    10_000_000_000,
-    100_000_000_000,
-    1_000_000_000_000,
-    10_000_000_000_000,
-    100_000_000_000_000,
-    1_000_000_000_000_000,
-    10_000_000_000_000_000,
-    100_000_000_000_000_000,
-    1_000_000_000_000_000_000,
-    10_000_000_000_000_000_000,
-    100_000_000_000_000_000_000,
-    1_000_000_000_000_000_000_000,
-    10_000_000_000_000_000_000_000,
-    100_000_000_000_000_000_000_000,
-    1_000_000_000_000_000_000_000_000,
-    10_000_000_000_000_000_000_000_000,
-    100_000_000_000_000_000_000_000_000,
-    1_000_000_000_000_000_000_000_000_000,
-    10_000_000_000_000_000_000_000_000_000,
-];
 
 /// The inverse of each of the first powers of ten, in units that give it 64 bits.
 const INVERSES: [u64; 10] = [
@@ -117,14 +86,6 @@ fn mantissas(end: u128, decade: u32) -> (u64, u64)
     } else {
         wide_quotient(end, power)
     }
-}
-
-/// A power of ten, up to that of the last decade.
-fn power_of_ten(exponent: u32) -> u128
-    requires { exponent < 29 }
-    ensures { result ≡ 10 ^ exponent }
-{
-    POWERS[exponent as usize]
 }
 
 /// `end * 2^26 / power`, rounded down and rounded up, where the end fits 64 bits. The power of ten has this exponent.

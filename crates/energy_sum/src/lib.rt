@@ -5,7 +5,7 @@ mod laws;
 mod sum;
 
 ghost use Rattle.std.specs.Prelude.{◌≡◌, ◌*◌, ◌^◌, pos, neg_ℤ, ◌≤ℤ◌, IsSomeAnd};
-ghost use Rattle.fix_interval.specs.Bounds.{IsBetween, AreBetween};
+ghost use Rattle.fix_interval.specs.Bounds.{AreBetween};
 ghost use Rattle.fix_interval.specs.Interval.{IsInterval};
 ghost use Rattle.fix_interval.specs.Tree.{Known, Const, Max, enc};
 ghost use Rattle.energy_sum.specs.Energies.{energy_form, level_form};
@@ -17,14 +17,14 @@ pub use laws::every_formula_is_enclosed;
 pub use sum::Sum;
 
 /// The energy of a level in dB, as a ratio: 10 to the power of a tenth of it (ISO 9613-2, equation 5). It isn't below 0.
-/// Where the level is from -2^29 dB to 199 dB, the energy is at most 7 · 10^29 units of 2^-32.
+/// Where the level is from -2^29 dB to 189 dB, the energy is at most 2^96 units of 2^-32.
 pub fn energy(level: Iv) -> Iv
     ensures value { result ≡ enc (energy_form (Known level)) }
+    ensures interval { IsInterval result }
     ensures low { IsSomeAnd result.lo (λ z. pos 0 ≤ℤ z) }
-    ensures high { AreBetween (neg_ℤ (pos (2 ^ 61))) (pos (199 * 2 ^ 32)) level → IsBetween (pos 0) (pos (7 * 10 ^ 29)) result.hi }
+    ensures bounds { AreBetween (neg_ℤ (pos (2 ^ 61))) (pos (189 * 2 ^ 32)) level
+        → AreBetween (pos 0) (pos (2 ^ 96)) result }
 {
-    // The bound rests on it that the level is an interval, which its ends say.
-    let _ = level.low();
     ten(div(level, exact(10)))
 }
 
@@ -34,20 +34,15 @@ pub fn level(sum: &Sum) -> Iv
     ensures value { result ≡ enc (level_form (Known sum.now)) }
     ensures bounds { AreBetween (pos 0) (pos (290 * 2 ^ 32)) result }
 {
-    mul(exact(10), lg(one_at_least(sum)))
+    mul(exact(10), lg(one_at_least(sum.interval())))
 }
 
-/// A sum of energies, which counts as 1 at least.
-fn one_at_least(sum: &Sum) -> Iv
-    ensures value { result ≡ enc (Max (Const (pos 1) 1) (Known sum.now)) }
-    ensures interval { IsInterval result }
+/// An energy, which counts as 1 at least.
+fn one_at_least(energy: Iv) -> Iv
+    ensures value { result ≡ enc (Max (Const (pos 1) 1) (Known energy)) }
     ensures low { IsSomeAnd result.lo (λ z. pos (2 ^ 32) ≤ℤ z) }
-    ensures bounded { IsSomeAnd sum.now.hi (λ _. Unit {0}) }
 {
-    let energy = max(exact(1), sum.interval());
-    // Its low end says that it is an interval, which the bounds of the level rest on.
-    let _ = energy.low();
-    energy
+    max(exact(1), energy)
 }
 
 #[cfg(test)]

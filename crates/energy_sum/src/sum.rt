@@ -1,4 +1,6 @@
-ghost use Rattle.std.specs.Prelude.{◌≡◌, ◌+◌, ◌<◌, ◌≤◌, ◌^◌, pos, ◌≤ℤ◌, IsSomeAnd};
+//! Exact sums of energies.
+ghost use Rattle.std.specs.Prelude.{◌≡◌, ◌+◌, ◌-◌, ◌<◌, ◌≤◌, ◌^◌, pos, ◌≤ℤ◌, IsSomeAnd};
+ghost use Rattle.fix_interval.specs.Bounds.{AreBetween};
 ghost use Rattle.fix_interval.specs.Tree.{Known, Const, Add, enc};
 ghost use Rattle.energy_sum.specs.Sums.{units_of};
 
@@ -48,7 +50,7 @@ impl Sum {
     /// The sum as an interval.
     pub fn interval(&self) -> Iv
         ensures value { result ≡ self.now }
-        ensures bounded { IsSomeAnd self.now.hi (λ _. Unit {0}) }
+        ensures bounds { AreBetween (pos 0) (pos (2 ^ 126 - 1)) result }
     {
         Iv::of_ends(Some(self.lo as i128), Some(self.hi as i128))
     }

@@ -10,3 +10,11 @@ pub mod Rounding
 pub mod Steps
 pub mod Widening
 pub mod Spans
+pub mod Ranging
+pub mod RangedChoices
+pub mod RangedProducts
+pub mod RangedRoots
+pub mod RangedFormulas
+pub mod Powers
+pub mod Ceilings
+pub mod Shifted

@@ -12,3 +12,4 @@ pub mod Tree
 pub mod Units
 pub mod Values
 pub mod Bounds
+pub mod Ranges

@@ -1,6 +1,6 @@
 //! The type of an interval and its ends.
 
-ghost use Rattle.std.specs.Prelude.{◌≡◌, unwrap_or};
+ghost use Rattle.std.specs.Prelude.{◌≡◌, ◌-◌, ◌^◌, pos, neg_ℤ, unwrap_or};
 ghost use Rattle.fix_interval.specs.Interval.{Interval, IsInterval, All};
 
 use std::marker::Model;
@@ -62,7 +62,7 @@ impl Iv {
 
     /// The low end in units of 2^-32, or `OPEN_LO` where it is unbounded.
     pub const fn lo(&self) -> i128
-        ensures { result ≡ unwrap_or self.now.lo OPEN_LO }
+        ensures { result ≡ unwrap_or self.now.lo (neg_ℤ (pos (2 ^ 127))) }
     {
         match self.lo {
             Some(end) => end,
@@ -72,7 +72,7 @@ impl Iv {
 
     /// The high end in units of 2^-32, or `OPEN_HI` where it is unbounded.
     pub const fn hi(&self) -> i128
-        ensures { result ≡ unwrap_or self.now.hi OPEN_HI }
+        ensures { result ≡ unwrap_or self.now.hi (pos (2 ^ 127 - 1)) }
     {
         match self.hi {
             Some(end) => end,

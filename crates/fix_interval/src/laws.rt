@@ -1,6 +1,6 @@
 //! The laws of the table of enclosures, as functions that do nothing but have a contract.
 
-ghost use Rattle.std.specs.Prelude.{ℕ, ℤ, ◌<◌};
+ghost use Rattle.std.specs.Prelude.{◌≡◌, ℕ, ℤ, ◌<◌, true};
 ghost use Rattle.fix_interval.specs.Interval.{Interval, IsInterval};
 ghost use Rattle.fix_interval.specs.Values.{ratio_of, add_of, neg_of, mul_of, div_of, max_of, min_of, root_of, hull_of, less_of, pick_of};
 ghost use Rattle.fix_interval.specs.Rules.{Holds};
@@ -10,6 +10,8 @@ ghost use Rattle.fix_interval.specs.Ten.{ten_of};
 ghost use Rattle.fix_interval.specs.ExpNeg.{exp_neg_of};
 ghost use Rattle.fix_interval.specs.Lawful.{IsLawful};
 ghost use Rattle.fix_interval.specs.Encloses.{Encloses};
+ghost use Rattle.fix_interval.specs.Bounds.{AreBetween};
+ghost use Rattle.fix_interval.specs.Ranges.{LiesIn, HasRanges, range_of, is_inside};
 ghost use Rattle.fix_interval.specs.declared.truth.Truth.{Truth};
 
 /// The value that the table gives for a node encloses it where the intervals of its parts enclose the parts.
@@ -54,4 +56,12 @@ pub fn table_gives_intervals()
 pub fn formulas_are_enclosed()
     ensures intervals { IsLawful Lg lg_of → IsLawful Ten ten_of → IsLawful ExpNeg exp_neg_of → (t : Tree) → IsSound t → IsInterval (enc t) }
     ensures enclosed { IsLawful Lg lg_of → IsLawful Ten ten_of → IsLawful ExpNeg exp_neg_of → (t : Tree) → IsSound t → Encloses t (enc t) }
+{}
+
+/// Where the parts of a formula lie in ranges, the formula lies in the range that these give for it; and so between two
+/// numbers, where that range does.
+pub fn formulas_keep_their_ranges()
+    ensures range { (t r : Tree) → HasRanges t r → LiesIn (range_of r) (enc t) }
+    ensures between { (low high : ℤ) (t r : Tree) → HasRanges t r
+        → is_inside low high (range_of r).lo (range_of r).hi ≡ true → AreBetween low high (enc t) }
 {}

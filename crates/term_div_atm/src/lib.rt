@@ -2,29 +2,30 @@
 #![tactic(auto)]
 
 ghost use Rattle.std.specs.Prelude.{◌≡◌, ◌*◌, ◌<◌, ◌^◌, pos, ◌≤ℤ◌, IsSomeAnd};
-ghost use Rattle.fix_interval.specs.Interval.{IsInterval};
+ghost use Rattle.fix_interval.specs.Bounds.{AreBetween};
 ghost use Rattle.fix_interval.specs.Tree.{Known, Const, enc};
 ghost use Rattle.term_div_atm.specs.Terms.{at_least_one, divergence, absorption};
-ghost use Rattle.fix_interval.specs.Bounds.{AreBetween};
 
 use enclose_log::lg;
 use fix_interval::{Iv, add, div, exact, max, mul};
 
 /// The attenuation by geometrical divergence in dB (ISO 9613-2, equation 7), at a distance in metres, which counts as
-/// 1 m at least. Where the distance is bounded, both ends are from 11 dB to 600 dB.
+/// 1 m at least. Where the distance is from 0 m to 2^28 m, both ends are from 11 dB to 191 dB.
 pub fn a_div(d: Iv) -> Iv
     ensures value { result ≡ enc (divergence (Known d)) }
-    ensures bounds { IsSomeAnd d.hi (λ _. Unit {0}) → AreBetween (pos (11 * 2 ^ 32)) (pos (600 * 2 ^ 32)) result }
+    ensures bounds { AreBetween (pos 0) (pos (2 ^ 60)) d
+        → AreBetween (pos (11 * 2 ^ 32)) (pos (191 * 2 ^ 32)) result }
 {
     add(mul(exact(20), lg(one_metre_at_least(d))), exact(11))
 }
 
 /// The attenuation by the air in dB (ISO 9613-2, equation 8), at a distance in metres, which counts as 1 m at least, with
-/// the coefficient of Table 2 in tenths of a decibel per kilometre. Where the distance is at most 2^28 m and the
-/// coefficient below 4096, both ends are from 0 dB to 2^28 dB.
+/// the coefficient of Table 2 in tenths of a decibel per kilometre. Where the distance is from 0 m to 2^28 m and the
+/// coefficient below 4096, both ends are from 0 dB to 2^27 dB.
 pub fn a_atm(d: Iv, alpha10: u32) -> Iv
     ensures value { result ≡ enc (absorption (Known d) alpha10) }
-    ensures bounds { IsSomeAnd d.hi (λ z. z ≤ℤ pos (2 ^ 60)) → alpha10 < 4096 → AreBetween (pos 0) (pos (2 ^ 60)) result }
+    ensures bounds { AreBetween (pos 0) (pos (2 ^ 60)) d → alpha10 < 4096
+        → AreBetween (pos 0) (pos (2 ^ 59)) result }
 {
     div(mul(one_metre_at_least(d), whole(alpha10)), exact(10_000))
 }
@@ -32,13 +33,9 @@ pub fn a_atm(d: Iv, alpha10: u32) -> Iv
 /// A distance in metres, which counts as 1 m at least.
 fn one_metre_at_least(d: Iv) -> Iv
     ensures value { result ≡ enc (at_least_one (Known d)) }
-    ensures interval { IsInterval result }
     ensures low { IsSomeAnd result.lo (λ z. pos (2 ^ 32) ≤ℤ z) }
 {
-    let distance = max(exact(1), d);
-    // Its low end says that it is an interval, which the bounds of the attenuations rest on.
-    let _ = distance.low();
-    distance
+    max(exact(1), d)
 }
 
 /// A whole number.

@@ -1,6 +1,5 @@
-use Rattle.std.proofs.Common.{◌∙◌}
 use Rattle.fix_interval.proofs.Spans.{at_least_one-low}
 use Rattle.term_div_atm.proofs.one_metre_at_least.Goals as goal
 
 pub returns-clause-low : goal.returns-clause-low
-returns-clause-low c = rw (c.max-distance.ensures, c.exact.ensures) (at_least_one-low c.args.d)
+returns-clause-low c = rw (c.max.ensures, c.exact.ensures) (at_least_one-low c.args.d)

@@ -1,7 +1,24 @@
--- A table of powers of ten.
-use Rattle.std.proofs.Common.{◌≡◌, ℕ, zero, suc, ◌+◌, ◌^◌, ◌<◌, ◌==◌, Bool, true, false, List, [], ◌∷◌, length, get_or, refl, ap, ◌∙◌, arith, add-zero}
+-- Powers of powers, and a table of powers of ten.
+use Rattle.std.proofs.Common.{◌≡◌, ℕ, zero, suc, ◌+◌, ◌*◌, ◌^◌, ◌<◌, ◌==◌, Bool, true, false, List, [], ◌∷◌, length, get_or, refl, sym, ap, ◌∙◌, arith, add-zero}
 use Rattle.std.specs.Prelude.{◌&&◌}
 use Rattle.std.proofs.lemmas.Bool.{false≢true, eqb-true}
+use Rattle.std.proofs.lemmas.Nat.{pow-add}
+use Rattle.std.proofs.Math.Nat.{pow-suc, pow-zero}
+
+pub pow-one : (b : ℕ) → b ^ 1 ≡ b
+pow-one b = (let one : 1 * b ≡ b = omega arith in pow-suc b 0 ∙ ap (λ x. x * b) (pow-zero b) ∙ one)
+
+pub pow-mul : (b i j : ℕ) → b ^ (i * j) ≡ (b ^ i) ^ j
+pow-mul b i zero = (let e : i * 0 ≡ 0 = omega arith in ap (λ j. b ^ j) e ∙ pow-zero b ∙ sym (pow-zero (b ^ i)))
+pow-mul b i (suc j) =
+    let e : i * suc j ≡ i * j + i = omega arith in
+    rw e (pow-add b (i * j) i ∙ ap (λ x. x * b ^ i) (pow-mul b i j) ∙ sym (pow-suc (b ^ i) j))
+
+pub one-pow : (i : ℕ) → 1 ^ i ≡ 1
+one-pow zero = pow-zero 1
+one-pow (suc i) = pow-suc 1 i ∙ ap (λ x. x * 1) (one-pow i)
+
+-- ---- a table
 
 both-true : (a b : Bool) → (a && b) ≡ true → (a ≡ true) × (b ≡ true)
 both-true true b h = (refl, h)
