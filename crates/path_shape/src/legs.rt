@@ -1,3 +1,5 @@
+//! The legs by which a path leads.
+
 use scene_geom::{Dir, Frac};
 
 /// The legs of a path in plan.

@@ -2,6 +2,7 @@
 #![tactic(auto)]
 
 mod edge;
+pub mod laws;
 mod legs;
 mod path;
 #[cfg(test)]

@@ -1,11 +1,13 @@
-ghost use Rattle.std.specs.Prelude.{◌≡◌, ◌≤◌};
+//! Paths and their plan lengths.
+
+ghost use Rattle.std.specs.Prelude.{◌≡◌, ◌≤◌, unsigned_abs};
 ghost use Rattle.fix_interval.specs.Tree.{enc};
 ghost use Rattle.path_shape.specs.Shape.{squared};
 ghost use Rattle.path_shape.specs.Shape as shape;
 
 use super::legs::Legs;
 use fix_interval::{Iv, ratio, root};
-use scene_geom::{Pt, dir_of};
+use scene_geom::{Frac, Pt, Side, dir_of, unfold};
 
 /// A path from a source to a receiver.
 #[derive(Clone, Copy, Drop)]
@@ -24,14 +26,16 @@ pub struct Path {
 }
 
 impl Path {
-    ghost use Rattle.std.specs.Prelude.{◌≡◌, ◌^◌, pos, ◌≤ℤ◌, ◌⊎◌, Some, IsSomeAnd};
-    ghost use Rattle.fix_interval.specs.Bounds.{AreBetween};
-    ghost use Rattle.path_shape.specs.Shape.{direct_path, IsPath};
+    ghost use Rattle.std.specs.Prelude.{◌≡◌};
+    ghost use Rattle.scene_geom.specs.Reflection.{CanReflect};
+    ghost use Rattle.path_shape.specs.Shape.{direct_path, reflected_path, IsPath, IsZeroOrMore};
 
-    /// The direct path from a source to a receiver, whose heights are in mm.
+    /// The direct path from a source to a receiver, whose heights are in mm. Its plan length is 0 m or
+    /// at least 2^-10 m.
     pub fn direct(s: Pt, hs: u32, r: Pt, hr: u32) -> Path
         ensures value { result ≡ direct_path s hs r hr }
         ensures path { IsPath result }
+        ensures least { IsZeroOrMore result.dp }
     {
         Path {
             s,
@@ -43,14 +47,23 @@ impl Path {
         }
     }
 
-    /// The plan length in metres: at most 2^24 m, and 0 m or at least 2^-10 m.
-    pub fn length(&self) -> Iv
-        requires { IsPath self.now }
-        ensures value { result ≡ self.now.dp }
-        ensures bounds { AreBetween (pos 0) (pos (2 ^ 56)) result }
-        ensures least { (result ≡ record { lo = Some (pos 0); hi = Some (pos 0) }) ⊎ IsSomeAnd result.lo (λ z. pos (2 ^ 22) ≤ℤ z) }
+    /// The path from a source to a receiver, whose heights are in mm, by way of a side of a reflecting
+    /// wall (ISO 9613-2, 7.5), which is at most 262,143 mm long and has both strictly on one side of
+    /// its line.
+    pub fn reflected(side: Side, s: Pt, hs: u32, r: Pt, hr: u32) -> Path
+        requires { CanReflect side s r }
+        ensures value { result ≡ reflected_path side s hs r hr }
+        ensures path { IsPath result }
     {
-        self.dp
+        let plan = unfold(side, s, r);
+        Path {
+            s,
+            hs,
+            r,
+            hr,
+            dp: length_of(plan.square),
+            legs: Legs::Two(plan.first, plan.second, plan.p),
+        }
     }
 }
 
@@ -77,4 +90,12 @@ fn square(mm: u32) -> u64
     ensures bound { result ≤ 64000000000000 }
 {
     u64::from(mm) * u64::from(mm)
+}
+
+/// The length in metres whose square is a fraction of mm².
+fn length_of(square: Frac) -> Iv
+    requires { unsigned_abs square.d ≤ 68718952449 }
+    ensures { result ≡ enc (shape.length_of square) }
+{
+    root(ratio(square.n, square.d * 1_000_000))
 }

@@ -1,6 +1,6 @@
 -- The plan of a path by way of a reflecting wall (ISO 9613-2, 7.5). The line of the wall mirrors both ends of the path:
 -- each leg leads towards the image of the other end, and the path is as long as the straight way to that image.
-use Rattle.std.specs.Prelude.{◌≡◌, ℕ, ℤ, pos, ◌+◌, ◌*◌, ◌^◌, ◌*ℤ◌, ◌≤◌, unsigned_abs, Bool, true, ◌&&◌, ◌||◌, int_lt}
+use Rattle.std.specs.Prelude.{◌≡◌, ℕ, ℤ, pos, ◌+◌, ◌*◌, ◌^◌, ◌*ℤ◌, ◌≤◌, unsigned_abs, Bool, true, ◌&&◌, ◌||◌, int_lt, nat_le}
 use Rattle.scene_geom.specs.declared.plan.Pt.{Pt}
 use Rattle.scene_geom.specs.declared.plan.Side.{Side}
 use Rattle.scene_geom.specs.declared.fraction.Frac.{Frac}
@@ -28,6 +28,10 @@ squared_length side = unsigned_abs (dot (along side) (along side))
 -- the length of the longest side that reflects, in mm
 abbrev pub longest_wall : ℕ
 longest_wall = 262143
+
+-- a side is no longer
+abbrev pub is_short : Side → Bool
+is_short side = nat_le (squared_length side) (longest_wall ^ 2)
 
 -- a side of a wall, source and receiver between which it can reflect sound, so far as the plan tells
 pub record CanReflect (side : Side) (s r : Pt) : Type 0 where

@@ -28,5 +28,5 @@ pub use meeting::meets;
 pub use outline::{area2, extent};
 pub use places::{lies_inside, rest_after};
 pub use plan::{Pt, Side};
-pub use reflection::{Reflection, on_one_side, unfold};
+pub use reflection::{Reflection, is_short, on_one_side, unfold};
 pub use turns::orient;

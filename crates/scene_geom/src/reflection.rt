@@ -3,9 +3,10 @@
 ghost use Rattle.std.specs.Prelude.{◌≡◌, ◌+◌, ◌*◌, ◌^◌, ◌<◌, ◌<ℤ◌, ◌≤◌, ◌-ℤ◌, ◌*ℤ◌, pos, unsigned_abs};
 ghost use Rattle.scene_geom.specs.Direction.{FitsDirection};
 ghost use Rattle.scene_geom.specs.Fraction.{over};
-ghost use Rattle.scene_geom.specs.Reflection.{are_on_one_side, CanReflect, FitsReflection, longest_wall};
+ghost use Rattle.scene_geom.specs.Reflection.{are_on_one_side, CanReflect, FitsReflection};
 ghost use Rattle.scene_geom.specs.Reflection.{off_wall, specular, squared_length, to_image, unfolded};
 ghost use Rattle.scene_geom.specs.Reflection.{have_one_sign, image_dir, unfolded_square};
+ghost use Rattle.scene_geom.specs.Reflection as form;
 ghost use Rattle.scene_geom.specs.Step.{vector};
 
 use super::direction::Dir;
@@ -14,6 +15,10 @@ use super::places::fraction;
 use super::plan::{Pt, Side};
 use super::step::Step;
 use super::turns::turn;
+
+/// The length of the longest side that reflects, in mm. With it 128 bits hold all products over the
+/// legs.
+const LONGEST_WALL: i64 = 262_143;
 
 /// A path by way of a wall, unfolded: each leg leads towards the image of the path's other end in
 /// the line of the wall.
@@ -34,6 +39,13 @@ pub fn on_one_side(side: Side, p: Pt, q: Pt) -> bool
     ensures { result ≡ are_on_one_side side p q }
 {
     one_sign(turn(side.from, side.to, p), turn(side.from, side.to, q))
+}
+
+/// Whether a side is at most 262,143 mm long, as one that reflects has to be.
+pub fn is_short(side: Side) -> bool
+    ensures { result ≡ form.is_short side }
+{
+    wall_square(side) <= LONGEST_WALL * LONGEST_WALL
 }
 
 /// The path from a source to a receiver by way of a side of a wall, which is at most 262,143 mm long

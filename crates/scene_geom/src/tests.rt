@@ -1,8 +1,8 @@
 //! Values from outside, calculated by an independent program over fractions without rounding.
 
 use super::{
-    Dir, Frac, Pt, Side, area2, blocks, crosses, dir_of, extent, hits, lies_inside, meets, orient,
-    passes,
+    Dir, Frac, Pt, Reflection, Side, area2, blocks, crosses, dir_of, extent, hits, is_short,
+    lies_inside, meets, on_one_side, orient, passes, unfold,
 };
 use std::alloc::{AllocError, Global};
 use std::test::Fail;
@@ -273,4 +273,73 @@ fn legs_are_hit(rt: HostRuntime) -> Result<(), Fail> {
         )
     );
     Ok(())
+}
+
+/// The path by way of a side, where it can reflect.
+fn reflection(side: Side, s: Pt, r: Pt) -> Option<Reflection> {
+    if !is_short(side) {
+        None
+    } else if on_one_side(side, s, r) {
+        Some(unfold(side, s, r))
+    } else {
+        None
+    }
+}
+
+#[test]
+fn walls_reflect(rt: HostRuntime) {
+    // The side, source and receiver, the two directions with their divisor, the fraction before the
+    // specular point, and the numerator of the squared length.
+    let rows = [
+        // The specular point is (50000, 30000), and the path the square root of 100² + 60² m long.
+        (
+            ((49_999, 30_000), (149_999, 30_000)),
+            ((0, 0), (100_000, 0)),
+            (1_000_000_000_000_000, 600_000_000_000_000),
+            (-1_000_000_000_000_000, 600_000_000_000_000),
+            10_000_000_000,
+            (3_000_000_000, 6_000_000_000),
+            136_000_000_000_000_000_000,
+        ),
+        (
+            ((60_000, -20_000), (-10_000, 45_000)),
+            ((-30_000, -1_000), (5_000, -7)),
+            (602_188_700_000_000, 313_629_725_000_000),
+            (268_225_000_000_000, 623_738_875_000_000),
+            9_125_000_000,
+            (4_520_000_000, 6_695_490_000),
+            50_519_981_897_125_000_000,
+        ),
+        // The longest wall.
+        (
+            ((0, 0), (0, 262_143)),
+            ((1, 131_071), (2, 131_072)),
+            (-206_156_857_347, 68_718_952_449),
+            (-206_156_857_347, -68_718_952_449),
+            68_718_952_449,
+            (262_143, 786_429),
+            687_189_524_490,
+        ),
+    ];
+    for (wall, ends, (first_x, first_y), (second_x, second_y), w, p, squared) in rows {
+        let line = side(ends);
+        let Some(path) = reflection(side(wall), line.from, line.to) else {
+            assert!(rt; false, "{wall:?}");
+            return;
+        };
+        assert_eq!(rt;
+            (path.first.x, path.first.y, path.first.w),
+            (first_x, first_y, w)
+        );
+        assert_eq!(rt;
+            (path.second.x, path.second.y, path.second.w),
+            (second_x, second_y, w)
+        );
+        assert_eq!(rt; parts(path.p), p);
+        assert_eq!(rt; parts(path.square), (squared, w));
+    }
+    let wall = side(((0, 0), (262_144, 0)));
+    assert!(rt; !is_short(wall));
+    assert!(rt; !on_one_side(wall, at((0, 1)), at((0, -1))));
+    assert!(rt; !on_one_side(wall, at((0, 1)), at((5, 0))));
 }

@@ -1,0 +1,7 @@
+use Rattle.std.proofs.Common.{sym, subst}
+use Rattle.path_shape.specs.Shape.{IsZeroOrMore}
+use Rattle.path_shape.proofs.Lengths.{direct-zero-or-more}
+use Rattle.path_shape.proofs.path.Path.direct.Goals as goal
+
+pub returns-clause-least : goal.returns-clause-least
+returns-clause-least c = rw c.plan_length.ensures (direct-zero-or-more c.args.s c.args.r)
