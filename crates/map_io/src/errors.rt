@@ -1,5 +1,5 @@
 //! What can go wrong outside.
-ghost use Rattle.std.specs.Prelude.{◌≡◌};
+ghost use Rattle.std.specs.Prelude.{◌≡◌, ◌≤◌};
 ghost use Rattle.map_io.specs.Causes.{one_more};
 
 use std::alloc::{AllocError, AllocFailed};
@@ -26,7 +26,8 @@ impl<T: Drop> From<AllocFailed<T>> for NoMemory {
 
 /// Counts a fault, and answers it. The count stands still at its last value.
 pub(crate) fn counted(faults: &mut u64) -> Failed
-    ensures { faults.new ≡ one_more faults.old }
+    ensures counted { faults.new ≡ one_more faults.old }
+    ensures later { faults.old ≤ faults.new }
 {
     *faults = faults.saturating_add(1);
     Failed
