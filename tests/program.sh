@@ -29,13 +29,14 @@ expect() {
 }
 
 # with_room COMMAND..: runs a command with more and more address space, until it ends with a status of the program's own.
+# Below that the system kills it, and the shell would tell.
 with_room() {
-    kilobytes=512
-    while [ "$kilobytes" -le 262144 ]; do
-        (ulimit -v "$kilobytes" && exec "$@") < "$input" > "$room/rows" 2> "$room/said"
+    bytes=524288
+    while [ "$bytes" -le 268435456 ]; do
+        (prlimit --as="$bytes" "$@" < "$input" > "$room/rows" 2> "$room/said"; exit $?) 2> /dev/null
         status=$?
         if [ "$status" -le 6 ]; then return "$status"; fi
-        kilobytes=$((kilobytes + 256))
+        bytes=$((bytes + 262144))
     done
     return 99
 }
