@@ -3,3 +3,4 @@ pub mod Scanning
 pub mod Known
 pub mod Gathering
 pub mod Taking
+pub mod Causes

@@ -1,6 +1,7 @@
 -- Sources and sinks in memory, which fail at the calls of a list.
-use Rattle.std.specs.Prelude.{◌≡◌, ◌==◌, ◌+◌, ◌-◌, ◌^◌, ◌≤◌, ℕ, Bool, if◌then◌else◌, min, List, Result, Ok, MatchBool, IsErr}
+use Rattle.std.specs.Prelude.{◌≡◌, ◌==◌, ◌≤◌, ℕ, Bool, if◌then◌else◌, List, Result, Ok, MatchBool, IsErr}
 use Rattle.std.specs.List.{list_any}
+use Rattle.map_io.specs.Causes.{one_more}
 
 -- what a source in memory has left, how much it gives at most at once, the calls that fail, counted from 1, how many calls there were, and how many of them failed
 pub record Supply : Type 0 where
@@ -17,10 +18,6 @@ pub record Store : Type 0 where
   pub fail : List ℕ
   pub calls : ℕ
   pub faults : ℕ
-
--- a count of 64 bits goes up, and stands still at its last value
-abbrev pub one_more : ℕ → ℕ
-one_more n = min (n + 1) (2 ^ 64 - 1)
 
 -- whether the call with this number fails
 abbrev pub is_among : List ℕ → ℕ → Bool

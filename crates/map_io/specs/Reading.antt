@@ -15,6 +15,10 @@ line_limit = 65536
 abbrev pub input_limit : ℕ
 input_limit = 67108864
 
+-- how many bytes are asked of a source at once
+abbrev pub read_size : ℕ
+read_size = 8192
+
 -- how a reader stands between two calls
 pub record Reading : Type 0 where
   -- the line that was handed out last

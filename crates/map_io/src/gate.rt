@@ -1,3 +1,4 @@
+//! The gate between taking a job and solving it.
 /// What a worker passes between taking a job and solving it: a test can hold workers there.
 pub trait Gate {
     /// Passes the gate, with the worker's number (the editor is 0) and the receiver's place in the job's scene.

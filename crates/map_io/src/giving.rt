@@ -1,3 +1,4 @@
+//! How a source in memory gives its bytes.
 ghost use Rattle.std.specs.Prelude.{◌≡◌, min, length, take};
 
 // Copies the front of what is left into the front of a buffer, as far as there is room and at most that many bytes.

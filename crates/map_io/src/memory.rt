@@ -1,10 +1,12 @@
+//! Sources and sinks in memory, for tests: they fail at the calls of a list.
 ghost use Rattle.std.specs.Prelude.{◌≡◌, ◌+◌, ◌≤◌, ◌||◌, [], min, max, length, Some, OnOk, OnErr, nat_lt};
 ghost use Rattle.std.specs.Io.{ReadsAtMost, WritesAtMost};
 ghost use Rattle.std.specs.Io.KnownBytes.{ReadConsumes, WriteAppends};
-ghost use Rattle.map_io.specs.Causes.{HasCause};
+ghost use Rattle.map_io.specs.Causes.{HasCause, one_more};
 ghost use Rattle.map_io.specs.Putting.{TakesSome};
-ghost use Rattle.map_io.specs.Memory.{one_more, is_among, Answers};
+ghost use Rattle.map_io.specs.Memory.{is_among, Answers};
 
+use crate::errors::counted;
 use crate::giving::give;
 use crate::{Failed, NoMemory, Sink, Source};
 use std::alloc::Global;
@@ -74,8 +76,7 @@ impl Source for MemSource {
     {
         self.calls = self.calls.saturating_add(1);
         if is_listed(&self.fail, self.calls) {
-            self.faults = self.faults.saturating_add(1);
-            return Err(Failed);
+            return Err(counted(&mut self.faults));
         }
         let count = give(&self.bytes[self.given..], self.piece as usize, buf);
         self.given += count;
@@ -164,7 +165,8 @@ impl Sink for MemSink {
         ensures cause { HasCause self.old.faults self.new.faults result }
 
         // It takes the whole piece, but at the calls of the list, and where it has no room.
-        ensures answer { Answers (is_among self.old.fail (one_more self.old.calls) || nat_lt self.old.room (length piece.now))
+        ensures answer { Answers
+            (is_among self.old.fail (one_more self.old.calls) || nat_lt self.old.room (length piece.now))
             result (length piece.now) self.old.faults self.new.faults }
         ensures calls { self.new.calls ≡ one_more self.old.calls }
         ensures room { OnOk result (self.new.room + length piece.now ≡ self.old.room) }
@@ -173,8 +175,7 @@ impl Sink for MemSink {
         self.calls = self.calls.saturating_add(1);
         let size = piece.len() as u64;
         if is_listed(&self.fail, self.calls) || size > self.room {
-            self.faults = self.faults.saturating_add(1);
-            return Err(Failed);
+            return Err(counted(&mut self.faults));
         }
         let _ = self.bytes.extend_from_slice(piece);
         self.room -= size;

@@ -1,7 +1,8 @@
+//! The lines of an input.
 ghost use Rattle.std.specs.Prelude.{◌≡◌, ◌≢◌, ◌<◌, ◌≤◌, ◌++◌, [], length, take, vec_capacity, position, ◌==◌, Contains, IfOk};
 ghost use Rattle.std.specs.Io.KnownBytes.{ReadConsumes};
 ghost use Rattle.map_io.specs.Causes.{HasCause, Rose};
-ghost use Rattle.map_io.specs.Reading.{fresh, ahead, bytes_read, answer_of, line_limit, input_limit, NextGives};
+ghost use Rattle.map_io.specs.Reading.{fresh, ahead, bytes_read, answer_of, line_limit, input_limit, read_size, NextGives};
 ghost use Rattle.map_io.specs.LinesAhead.{IfBothKnown, TakesLine};
 ghost use Rattle.map_io.specs.Steps.{Scans, Fills, Sizes};
 
@@ -105,22 +106,27 @@ impl LineReader {
     /// 8,192 bytes and for no more than the limit leaves; with all of the limit read, one byte is asked for, and it is
     /// the answer `InputLimit` where it comes. A line that a fault or the limit breaks off is never handed out.
     pub fn next<S: Source>(&mut self, source: &mut S) -> Next
-        ensures going { self.old.stop ≡ Stop.Going → NextGives result self.old self.new (S.left source.old) (S.left source.new) }
+        ensures going { self.old.stop ≡ Stop.Going
+            → NextGives result self.old self.new (S.left source.old) (S.left source.new) }
 
         // So where the source tells, an answer takes a line off those of the bytes ahead, however the reads cut them.
         ensures lines { self.old.stop ≡ Stop.Going →
-            IfBothKnown (ahead self.old (S.left source.old)) (ahead self.new (S.left source.new)) (TakesLine result self.new.line) }
+            IfBothKnown (ahead self.old (S.left source.old)) (ahead self.new (S.left source.new))
+            (TakesLine result self.new.line) }
 
         // A stopped reader answers the same, and neither reads nor changes.
         ensures stopped { self.old.stop ≢ Stop.Going →
             (result ≡ answer_of self.old.stop) × (self.new ≡ self.old) × (source.new ≡ source.old) }
 
-        // It doesn't read while it holds a line feed.
+        // It doesn't read while it holds a line feed, and it holds no more than one read brings.
         ensures held { Contains self.old.pending 10 → source.new ≡ source.old }
+        ensures few { (length self.old.pending ≤ read_size) × (length self.new.pending ≤ read_size) }
 
-        // A fault is answered only where the source has failed, in this call or in the one that stopped the reader.
+        // A fault is answered exactly where the source has failed, in this call or in the one that stopped the reader.
         ensures later { S.faults source.old ≤ S.faults source.new }
-        ensures fault { result ≡ Next.ReadFault → self.old.stop ≢ Stop.AfterFault → Rose (S.faults source.old) (S.faults source.new) }
+        ensures well { result ≢ Next.ReadFault → S.faults source.new ≡ S.faults source.old }
+        ensures fault { result ≡ Next.ReadFault → self.old.stop ≢ Stop.AfterFault
+            → Rose (S.faults source.old) (S.faults source.new) }
 
         ensures within { (bytes_read self.old ≤ input_limit) × (bytes_read self.new ≤ input_limit) }
     {
@@ -137,7 +143,9 @@ impl LineReader {
         requires { self.old.stop ≡ Stop.Going }
         ensures gives { NextGives result self.old self.new (S.left source.old) (S.left source.new) }
         ensures held { Contains self.old.pending 10 → source.new ≡ source.old }
+        ensures few { length self.new.pending ≤ read_size }
         ensures later { S.faults source.old ≤ S.faults source.new }
+        ensures well { result ≢ Next.ReadFault → S.faults source.new ≡ S.faults source.old }
         ensures fault { result ≡ Next.ReadFault → Rose (S.faults source.old) (S.faults source.new) }
         ensures within { bytes_read self.new ≤ input_limit }
     {
@@ -193,6 +201,7 @@ impl LineReader {
         requires { self.old.pending ≡ [] }
         ensures fills { Fills self.old self.new (S.left source.old) (S.left source.new) }
         ensures later { S.faults source.old ≤ S.faults source.new }
+        ensures well { self.new.stop ≢ Stop.AfterFault → S.faults source.new ≡ S.faults source.old }
         ensures fault { self.new.stop ≡ Stop.AfterFault → Rose (S.faults source.old) (S.faults source.new) }
     {
         let room = INPUT_LIMIT - self.passed;

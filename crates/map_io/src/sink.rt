@@ -1,3 +1,4 @@
+//! Where bytes go.
 ghost use Rattle.std.specs.Prelude.{List, ℕ, Option, OnOk, OnErr};
 ghost use Rattle.std.specs.Io.{WritesAtMost};
 ghost use Rattle.std.specs.Io.KnownBytes.{Appends, WriteAppends};
@@ -11,7 +12,7 @@ pub trait Sink {
     /// The bytes taken so far, where the sink tells them.
     ghost taken: { Self → Option (List ℕ) };
 
-    /// How often it has failed. The number never falls.
+    /// How often it has failed. A write that is answered leaves the number as it is, and one that fails raises it.
     ghost faults: { Self → ℕ };
 
     /// Takes bytes from the front of `piece`, and answers how many: none only of an empty piece. After `Failed` the

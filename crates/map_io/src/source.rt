@@ -1,3 +1,4 @@
+//! Where bytes come from.
 ghost use Rattle.std.specs.Prelude.{List, ℕ, Option};
 ghost use Rattle.std.specs.Io.{ReadsAtMost};
 ghost use Rattle.std.specs.Io.KnownBytes.{ReadConsumes};
@@ -10,7 +11,7 @@ pub trait Source {
     /// The bytes that are left, where the source tells them.
     ghost left: { Self → Option (List ℕ) };
 
-    /// How often it has failed. The number never falls.
+    /// How often it has failed. A read that is answered leaves the number as it is, and one that fails raises it.
     ghost faults: { Self → ℕ };
 
     /// Reads into the front of `buf`, and answers how many bytes came. None come only at the end of the input, or

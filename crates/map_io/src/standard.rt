@@ -1,14 +1,16 @@
+//! Readers and writers of the standard library as a source and a sink: the edge to standard input and output.
 ghost use Rattle.std.specs.Prelude.{◌≡◌};
 
+use crate::errors::counted;
 use crate::{Failed, Sink, Source};
 use std::io::{Read, Write};
 
-/// A source over a reader of the standard library, as standard input. It counts the reader's errors, and says of what
-/// is left what the reader says: nothing, at standard input.
+/// A source over a reader of the standard library, as standard input. Each error is a fault, and none is tried again,
+/// not even an interruption. Of what is left it says what the reader says: nothing, at standard input.
 #[derive(Drop)]
 pub struct StdSource<R> {
     reader: R,
-    faults: u64,
+    pub(crate) faults: u64,
 }
 
 impl<R: Read> StdSource<R> {
@@ -29,21 +31,18 @@ impl<R: Read> Source for StdSource<R> {
     fn read(&mut self, buf: &mut [u8]) -> Result<usize, Failed> {
         match self.reader.read(buf) {
             Ok(count) => Ok(count),
-            Err(_) => {
-                self.faults = self.faults.saturating_add(1);
-                Err(Failed)
-            }
+            Err(_) => Err(counted(&mut self.faults)),
         }
     }
 }
 
 /// A sink over a writer of the standard library, as standard output. Each write goes straight to the writer, so hand
-/// in one that holds nothing back. It counts the writer's errors, and says of what was taken what the writer says:
-/// nothing, at standard output.
+/// in one that holds nothing back. Each error is a fault, and none is tried again. Of what was taken it says what the
+/// writer says: nothing, at standard output.
 #[derive(Drop)]
 pub struct StdSink<W> {
     writer: W,
-    faults: u64,
+    pub(crate) faults: u64,
 }
 
 impl<W: Write> StdSink<W> {
@@ -65,10 +64,7 @@ impl<W: Write> Sink for StdSink<W> {
         match self.writer.write(piece) {
             Ok(count) if count > 0 || piece.is_empty() => Ok(count),
             // To take nothing of a piece that has a byte is a failure.
-            _ => {
-                self.faults = self.faults.saturating_add(1);
-                Err(Failed)
-            }
+            _ => Err(counted(&mut self.faults)),
         }
     }
 }

@@ -3,3 +3,5 @@ pub mod Hearing
 pub mod Versions
 pub mod Refusing
 pub mod Steps
+pub mod Told
+pub mod Rounding

@@ -1,10 +1,10 @@
 -- A run goes on line by line, and ends.
-use Rattle.std.proofs.Common.{◌≡◌, ◌≢◌, ℕ, ◌+◌, ◌-◌, ◌<◌, ◌≤◌, Bool, true, false, ◌||◌, List, [], ◌∷◌, ◌++◌, length, take, Option, refl, sym, ap, ◌∙◌, subst, append_assoc, add-zero, append-nil, lit≤, arith}
+use Rattle.std.proofs.Common.{◌≡◌, ◌≢◌, ℕ, ◌+◌, ◌-◌, ◌<◌, ◌≤◌, Bool, true, false, ◌||◌, List, [], ◌∷◌, ◌++◌, length, take, Option, refl, sym, ap, ◌∙◌, subst, inl, inr, append_assoc, add-zero, append-nil, lit≤, arith}
 use Rattle.std.proofs.Math.Bool.{or-false, or_assoc}
 use Rattle.std.proofs.lemmas.List.{length-append}
 use Rattle.std.proofs.Math.Seq.{take-append_seam, take-length}
 use Rattle.std.proofs.lemmas.List.Elements.{All-nil, All-push}
-use Rattle.std.specs.Prelude.{Some, None, Result, Ok, Err, All}
+use Rattle.std.specs.Prelude.{Some, None, Result, Ok, Err, All, IfSome}
 use Rattle.std.specs.Io.KnownBytes.{Consumes, Appends, IsAtEnd, prepend_known}
 use Rattle.std.proofs.KnownBytes.{Appends-trans, Appends-nil, Consumes-trans, Consumes-whole, prepend_known-nil}
 use Rattle.map_io.specs.declared.reader.Stop.{Stop}
@@ -13,20 +13,20 @@ use Rattle.map_io.specs.declared.reader.Next.{Next}
 use Rattle.map_io.specs.declared.reader.Next.TheVariants as next
 use Rattle.map_io.specs.Lines.{IsPlain, lines, whole_lines, ended, all_but_last}
 use Rattle.map_io.specs.LineLaws as laws
-use Rattle.map_io.specs.Reading.{Reading, fresh, ahead, PassesLine, NothingAhead, Ends, BreaksOff, ReachesLimit, NextGives, answer_of, bytes_read, input_limit}
+use Rattle.map_io.specs.Reading.{Reading, read_size, fresh, ahead, PassesLine, NothingAhead, Ends, BreaksOff, ReachesLimit, NextGives, answer_of, bytes_read, input_limit}
 use Rattle.noise_map.specs.declared.stopped.Stopped.{Stopped}
 use Rattle.noise_map.specs.declared.stopped.Stopped.TheVariants as stops
 use Rattle.noise_map.specs.declared.status.Status.{Status}
 use Rattle.noise_map.specs.declared.status.Status.TheVariants as status
 use Rattle.noise_map.specs.declared.project.Project.{Project}
 use Rattle.noise_map.specs.Run.{empty_project}
-use Rattle.noise_map.specs.Run.{Done, quiet, line_done, lines_done, followed}
-use Rattle.noise_map.specs.Taking.{TakesFront, Does}
-use Rattle.noise_map.proofs.Versions.{line_done-version}
+use Rattle.noise_map.specs.Run.{Effect, no_effect, line_effect, lines_effect, and_then}
+use Rattle.noise_map.specs.Taking.{TakesFront, HasEffect}
+use Rattle.noise_map.proofs.Versions.{line_effect-version}
 use Rattle.noise_map.specs.Outcome.{run_of, CoversAll, CoversFront, TakesPartOf, Outcome}
 use Rattle.noise_map.specs.Progress.{status_at_end, status_of, ending_of, IsTextOf, HandedOut, Progress}
 
-abbrev done_with : Project → List ℕ → Bool → Done
+abbrev done_with : Project → List ℕ → Bool → Effect
 done_with project text refused = record { project = project; text = text; refused = refused }
 
 with_text : (project : Project) (s t : List ℕ) (refused : Bool) → s ≡ t → done_with project s refused ≡ done_with project t refused
@@ -36,29 +36,29 @@ with_refused : (project : Project) (text : List ℕ) (a b : Bool) → a ≡ b �
 with_refused project text a b e = ap (λ c. done_with project text c) e
 
 -- nothing more, and nothing before
-followed-quiet : (first : Done) → followed first (quiet first.project) ≡ first
-followed-quiet first =
+and_then-no_effect : (first : Effect) → and_then first (no_effect first.project) ≡ first
+and_then-no_effect first =
     with_text first.project _ _ (first.refused || false) (append-nil first.text) ∙ with_refused first.project first.text _ _ (or-false first.refused)
 
-followed-assoc : (first second third : Done) → followed (followed first second) third ≡ followed first (followed second third)
-followed-assoc first second third =
+and_then-assoc : (first second third : Effect) → and_then (and_then first second) third ≡ and_then first (and_then second third)
+and_then-assoc first second third =
     with_text third.project _ _ ((first.refused || second.refused) || third.refused) (append_assoc first.text second.text third.text)
     ∙ with_refused third.project (first.text ++ (second.text ++ third.text)) _ _ (or_assoc first.refused second.refused third.refused)
 
 -- one more line after others
-pub lines_done-push : (bands : Bool) → (number : ℕ) (project : Project) (done : List (List ℕ)) (line : List ℕ) → lines_done bands number project (done ++ line ∷ []) ≡ followed (lines_done bands number project done) (line_done bands (number + length done) (lines_done bands number project done).project line)
-unfolding lines_done
-lines_done-push bands number project [] line =
-    followed-quiet (line_done bands number project line) ∙ ap (λ n. line_done bands n project line) (sym (add-zero number))
-lines_done-push bands number project (first ∷ more) line =
-    let one = line_done bands number project first in
-    let rest = lines_done bands (number + 1) one.project more in
-    ap (followed one) (lines_done-push bands (number + 1) one.project more line)
-    ∙ sym (followed-assoc one rest (line_done bands (number + 1 + length more) rest.project line))
-    ∙ ap (λ n. followed (followed one rest) (line_done bands n rest.project line)) (omega arith)
+pub lines_effect-push : (bands : Bool) → (number : ℕ) (project : Project) (done : List (List ℕ)) (line : List ℕ) → lines_effect bands number project (done ++ line ∷ []) ≡ and_then (lines_effect bands number project done) (line_effect bands (number + length done) (lines_effect bands number project done).project line)
+unfolding lines_effect
+lines_effect-push bands number project [] line =
+    and_then-no_effect (line_effect bands number project line) ∙ ap (λ n. line_effect bands n project line) (sym (add-zero number))
+lines_effect-push bands number project (first ∷ more) line =
+    let one = line_effect bands number project first in
+    let rest = lines_effect bands (number + 1) one.project more in
+    ap (and_then one) (lines_effect-push bands (number + 1) one.project more line)
+    ∙ sym (and_then-assoc one rest (line_effect bands (number + 1 + length more) rest.project line))
+    ∙ ap (λ n. and_then (and_then one rest) (line_effect bands n rest.project line)) (omega arith)
 
-pub run_of-push : (bands : Bool) → (done : List (List ℕ)) (line : List ℕ) → run_of bands (done ++ line ∷ []) ≡ followed (run_of bands done) (line_done bands (length done + 1) (run_of bands done).project line)
-run_of-push bands done line = lines_done-push bands 1 empty_project done line ∙ ap (λ n. followed (run_of bands done) (line_done bands n (run_of bands done).project line)) (omega arith)
+pub run_of-push : (bands : Bool) → (done : List (List ℕ)) (line : List ℕ) → run_of bands (done ++ line ∷ []) ≡ and_then (run_of bands done) (line_effect bands (length done + 1) (run_of bands done).project line)
+run_of-push bands done line = lines_effect-push bands 1 empty_project done line ∙ ap (λ n. and_then (run_of bands done) (line_effect bands n (run_of bands done).project line)) (omega arith)
 
 pub all_but_last-push : (done : List (List ℕ)) (line : List ℕ) → all_but_last (done ++ line ∷ []) ≡ done
 all_but_last-push [] line = refl
@@ -74,7 +74,7 @@ none_plain = All-nil IsPlain
 
 -- a run that has just begun
 pub started : (bands : Bool) → (left taken : Option (List ℕ)) → Progress bands fresh empty_project 0 false left left taken taken
-unfolding lines_done
+unfolding lines_effect
 started bands left taken = record {
   done = [];
   plain = none_plain;
@@ -111,12 +111,13 @@ more_handed_out Going r r' before now after done line plain line_plain handed wi
       passes.counted ∙ ap (λ n. n + length (line ++ 10 ∷ [])) handed.1 ∙ sym (length-append (ended done) (line ++ 10 ∷ [])) ∙ ap length (sym whole),
     )
 more_handed_out AtEnd r r' before now after done line plain line_plain handed within passes =
-    let consumed = Consumes-trans before (ahead r now) (ahead r' after) (ended done) line handed.0 passes.1.taken in
-    let count : length (ended done ++ line) ≤ input_limit = omega (arith, length-append (ended done) line, handed.1, passes.1.counted) in (
-      Consumes-whole before (ahead r' after) (ended done ++ line) (λ bytes. (lines bytes ≡ done ++ line ∷ []) × (length bytes ≤ input_limit)) consumed (nothing_ahead r' after passes.2)
-          (all_lines done line (ended done ++ line) plain line_plain passes.0 refl, count),
-      passes.2,
-    )
+    let consumed = Consumes-trans before (ahead r now) (ahead r' after) (ended done) line handed.0 passes.1.taken in record {
+      read = ended done ++ line;
+      consumed = only_left r' before after (ended done ++ line) passes.2.held consumed;
+      within = omega (arith, length-append (ended done) line, handed.1, passes.1.counted);
+      all = all_lines done line (ended done ++ line) plain line_plain passes.0 refl;
+      nothing = passes.2;
+    }
 more_handed_out AfterFault r r' before now after done line plain line_plain handed within passes = passes
 more_handed_out AtLimit r r' before now after done line plain line_plain handed within passes = passes
 
@@ -127,13 +128,13 @@ passed_more AtEnd r r' now after line passes = omega (arith, passes.0, passes.1.
 passed_more AfterFault r r' now after line passes = absurd passes
 passed_more AtLimit r r' now after line passes = absurd passes
 
-run_of-next : (bands : Bool) → (done : List (List ℕ)) (line : List ℕ) (count : ℕ) (project : Project) → length done ≡ count → (run_of bands done).project ≡ project → run_of bands (done ++ line ∷ []) ≡ followed (run_of bands done) (line_done bands (count + 1) project line)
+run_of-next : (bands : Bool) → (done : List (List ℕ)) (line : List ℕ) (count : ℕ) (project : Project) → length done ≡ count → (run_of bands done).project ≡ project → run_of bands (done ++ line ∷ []) ≡ and_then (run_of bands done) (line_effect bands (count + 1) project line)
 run_of-next bands done line count project counted is =
-    run_of-push bands done line ∙ ap (λ n. followed (run_of bands done) (line_done bands (n + 1) (run_of bands done).project line)) counted ∙ ap (λ s. followed (run_of bands done) (line_done bands (count + 1) s line)) is
+    run_of-push bands done line ∙ ap (λ n. and_then (run_of bands done) (line_effect bands (n + 1) (run_of bands done).project line)) counted ∙ ap (λ s. and_then (run_of bands done) (line_effect bands (count + 1) s line)) is
 
 pub went_on : (bands : Bool) → (r r' : Reading) (project project' : Project) (count : ℕ) (refused was : Bool) (left now after taken_before taken_now taken_after : Option (List ℕ)) (line : List ℕ)
     → (p : Progress bands r project count refused left now taken_before taken_now) → HandedOut Going r left now p.done → IsPlain line → PassesLine r'.stop r r' now after line → r'.passed ≤ input_limit
-    → Does (Ok was) (line_done bands (count + 1) project line) project project' taken_now taken_after
+    → HasEffect (Ok was) (line_effect bands (count + 1) project line) project project' taken_now taken_after
     → Progress bands r' project' (count + 1) (refused || was) left after taken_before taken_after
 went_on bands r r' project project' count refused was left now after taken_before taken_now taken_after line p handed line_plain passes within does =
     let next = run_of-next bands p.done line count project p.counted p.project_is in
@@ -142,10 +143,10 @@ went_on bands r r' project project' count refused was left now after taken_befor
       plain = All-push IsPlain p.done line p.plain line_plain;
       counted = length-append p.done (line ∷ []) ∙ ap (λ n. n + 1) p.counted;
       few = omega (arith, p.few, passed_more r'.stop r r' now after line passes);
-      versions = omega (arith, p.versions, ap (λ (q : Project). q.version) does.1, line_done-version bands (count + 1) project line);
-      project_is = ap (λ (d : Done). d.project) next ∙ sym does.1;
-      refused_is = ap (λ (d : Done). d.refused) next ∙ ap (λ b. b || (line_done bands (count + 1) project line).refused) p.refused_is ∙ ap (λ b. refused || b) (sym does.0);
-      written = subst (Appends taken_before taken_after) (sym (ap (λ (d : Done). d.text) next)) (Appends-trans taken_before taken_now taken_after (run_of bands p.done).text (line_done bands (count + 1) project line).text p.written does.2);
+      versions = omega (arith, p.versions, ap (λ (q : Project). q.version) does.1, line_effect-version bands (count + 1) project line);
+      project_is = ap (λ (d : Effect). d.project) next ∙ sym does.1;
+      refused_is = ap (λ (d : Effect). d.refused) next ∙ ap (λ b. b || (line_effect bands (count + 1) project line).refused) p.refused_is ∙ ap (λ b. refused || b) (sym does.0);
+      written = subst (Appends taken_before taken_after) (sym (ap (λ (d : Effect). d.text) next)) (Appends-trans taken_before taken_now taken_after (run_of bands p.done).text (line_effect bands (count + 1) project line).text p.written does.2);
       handed_out = more_handed_out r'.stop r r' left now after p.done line p.plain line_plain handed within passes;
     }
 
@@ -178,7 +179,8 @@ pub ended_before : (bands : Bool) → (r : Reading) (project : Project) (count :
     → (p : Progress bands r project count refused left now taken_before taken_now) → HandedOut AtEnd r left now p.done
     → Outcome bands (status_at_end refused) count left now taken_before taken_now
 ended_before bands r project count refused left now taken_before taken_now p handed =
-    at_end bands refused count left now taken_before taken_now p.done p.counted (record { ended = handed.1.left; all = handed.0 }) p.refused_is p.written
+    let all = Consumes-whole left now handed.read (AllDone p.done) handed.consumed handed.nothing.left (handed.all, handed.within) in
+    at_end bands refused count left now taken_before taken_now p.done p.counted (record { ended = handed.nothing.left; all = all }) p.refused_is p.written
 
 -- the whole lines of what was read
 whole : (done : List (List ℕ)) (rest : List ℕ) → All IsPlain done → IsPlain rest → whole_lines (ended done ++ rest) ≡ done
@@ -222,26 +224,53 @@ reached_limit bands r r' project count refused left now after taken_before taken
 
 -- ---- how a run is broken off
 
+abbrev AreFirst : List (List ℕ) → List ℕ → Type 0
+AreFirst done bytes = take (length done) (lines bytes) ≡ done
+
 -- these lines are the first of the input
-first_lines : (stop : Stop) (r : Reading) (before after : Option (List ℕ)) (done : List (List ℕ)) → All IsPlain done → HandedOut stop r before after done → CoversFront before done
+first_lines : (stop : Stop) (r : Reading) (before after : Option (List ℕ)) (done : List (List ℕ)) → All IsPlain done → HandedOut stop r before after done → IfSome before (AreFirst done)
 first_lines Going r None after done plain handed = tt
 first_lines Going r (Some bytes) None done plain handed = absurd handed.0
 first_lines Going r (Some bytes) (Some rest) done plain handed =
     ap (take (length done)) (ap lines handed.0 ∙ laws.lines-ended done (r.pending ++ rest) plain) ∙ take-append_seam done (lines (r.pending ++ rest))
-first_lines AtEnd r None after done plain handed = tt
-first_lines AtEnd r (Some bytes) after done plain handed = ap (take (length done)) handed.0.0 ∙ take-length done
+first_lines AtEnd r before after done plain handed =
+    Consumes-whole before after handed.read (AreFirst done) handed.consumed handed.nothing.left (ap (take (length done)) handed.all ∙ take-length done)
 first_lines AfterFault r before after done plain handed = absurd handed
 first_lines AtLimit r before after done plain handed = absurd handed
 
+held_off : (r : Reading) (after : Option (List ℕ)) → Consumes (ahead r after) after r.pending
+held_off r None = tt
+held_off r (Some bytes) = refl
+
+-- and nothing was read after them
+covers_front : (stop : Stop) (r : Reading) (before after : Option (List ℕ)) (done : List (List ℕ)) → All IsPlain done → HandedOut stop r before after done
+    → bytes_read r ≤ input_limit → length r.pending ≤ read_size → CoversFront before after done
+covers_front Going r before after done plain handed within few = record {
+  first = first_lines Going r before after done plain handed;
+  read = ended done ++ r.pending;
+  consumed = Consumes-trans before (ahead r after) after (ended done) r.pending handed.0 (held_off r after);
+  within = omega (arith, within, handed.1, length-append (ended done) r.pending);
+  no_further = inl (r.pending, refl, few);
+}
+covers_front AtEnd r before after done plain handed within few = record {
+  first = first_lines AtEnd r before after done plain handed;
+  read = handed.read;
+  consumed = handed.consumed;
+  within = handed.within;
+  no_further = inr (handed.all, handed.nothing.left);
+}
+covers_front AfterFault r before after done plain handed within few = absurd handed
+covers_front AtLimit r before after done plain handed within few = absurd handed
+
 broken_front : (bands : Bool) → (r r' : Reading) (project : Project) (count : ℕ) (refused : Bool) (left now after taken_before taken_now : Option (List ℕ)) (line : List ℕ)
-    → (p : Progress bands r project count refused left now taken_before taken_now) → HandedOut Going r left now p.done → IsPlain line → PassesLine r'.stop r r' now after line → r'.passed ≤ input_limit
-    → CoversFront left (p.done ++ line ∷ [])
-broken_front bands r r' project count refused left now after taken_before taken_now line p handed line_plain passes within =
-    first_lines r'.stop r' left after (p.done ++ line ∷ []) (All-push IsPlain p.done line p.plain line_plain)
-    (more_handed_out r'.stop r r' left now after p.done line p.plain line_plain handed within passes)
+    → (p : Progress bands r project count refused left now taken_before taken_now) → HandedOut Going r left now p.done → IsPlain line → PassesLine r'.stop r r' now after line → bytes_read r' ≤ input_limit
+    → length r'.pending ≤ read_size → CoversFront left after (p.done ++ line ∷ [])
+broken_front bands r r' project count refused left now after taken_before taken_now line p handed line_plain passes within few =
+    covers_front r'.stop r' left after (p.done ++ line ∷ []) (All-push IsPlain p.done line p.plain line_plain)
+    (more_handed_out r'.stop r r' left now after p.done line p.plain line_plain handed (omega (arith, within)) passes) within few
 
 broken_text : (bands : Bool) → (r : Reading) (project : Project) (count : ℕ) (refused : Bool) (left now taken_before taken_now taken_after : Option (List ℕ)) (line : List ℕ)
-    → (p : Progress bands r project count refused left now taken_before taken_now) → TakesFront taken_now taken_after (line_done bands (count + 1) project line).text
+    → (p : Progress bands r project count refused left now taken_before taken_now) → TakesFront taken_now taken_after (line_effect bands (count + 1) project line).text
     → TakesPartOf bands taken_before taken_after (p.done ++ line ∷ [])
 broken_text bands r project count refused left now taken_before taken_now taken_after line p takes =
     let next = run_of-next bands p.done line count project p.counted p.project_is in
@@ -249,38 +278,51 @@ broken_text bands r project count refused left now taken_before taken_now taken_
     record {
       part = before ++ takes.front;
       rest = takes.rest;
-      front = ap (λ (d : Done). d.text) next ∙ ap (λ t. before ++ t) takes.parts ∙ sym (append_assoc before takes.front takes.rest);
+      front = ap (λ (d : Effect). d.text) next ∙ ap (λ t. before ++ t) takes.parts ∙ sym (append_assoc before takes.front takes.rest);
       last = takes.front;
       others = ap (λ ls. (run_of bands ls).text ++ takes.front) (sym (all_but_last-push p.done line));
       taken = Appends-trans taken_before taken_now taken_after before takes.front p.written takes.taken;
     }
 
 pub broken_off : (bands : Bool) → (stopped : Stopped) (r r' : Reading) (project project' : Project) (count : ℕ) (refused : Bool) (left now after taken_before taken_now taken_after : Option (List ℕ)) (line : List ℕ)
-    → (p : Progress bands r project count refused left now taken_before taken_now) → HandedOut Going r left now p.done → IsPlain line → PassesLine r'.stop r r' now after line → r'.passed ≤ input_limit
-    → Does (Err stopped) (line_done bands (count + 1) project line) project project' taken_now taken_after
+    → (p : Progress bands r project count refused left now taken_before taken_now) → HandedOut Going r left now p.done → IsPlain line → PassesLine r'.stop r r' now after line → bytes_read r' ≤ input_limit → length r'.pending ≤ read_size
+    → HasEffect (Err stopped) (line_effect bands (count + 1) project line) project project' taken_now taken_after
     → Outcome bands (status_of stopped) (count + 1) left after taken_before taken_after
-broken_off bands stops.WriteFault r r' project project' count refused left now after taken_before taken_now taken_after line p handed line_plain passes within does = record {
+broken_off bands stops.WriteFault r r' project project' count refused left now after taken_before taken_now taken_after line p handed line_plain passes within few does = record {
   done = p.done ++ line ∷ [];
   counted = length-append p.done (line ∷ []) ∙ ap (λ n. n + 1) p.counted;
-  covers = broken_front bands r r' project count refused left now after taken_before taken_now line p handed line_plain passes within;
+  covers = broken_front bands r r' project count refused left now after taken_before taken_now line p handed line_plain passes within few;
   refused = tt;
   writes = broken_text bands r project count refused left now taken_before taken_now taken_after line p does.1;
 }
-broken_off bands stops.NoMemory r r' project project' count refused left now after taken_before taken_now taken_after line p handed line_plain passes within does = record {
+broken_off bands stops.NoMemory r r' project project' count refused left now after taken_before taken_now taken_after line p handed line_plain passes within few does = record {
   done = p.done ++ line ∷ [];
   counted = length-append p.done (line ∷ []) ∙ ap (λ n. n + 1) p.counted;
-  covers = broken_front bands r r' project count refused left now after taken_before taken_now line p handed line_plain passes within;
+  covers = broken_front bands r r' project count refused left now after taken_before taken_now line p handed line_plain passes within few;
   refused = tt;
   writes = broken_text bands r project count refused left now taken_before taken_now taken_after line p does.1;
 }
 
 -- a run that had no memory for its reader
-nothing_covered : (left : Option (List ℕ)) → CoversFront left []
-nothing_covered None = tt
-nothing_covered (Some bytes) = refl
+nothing_read : (left : Option (List ℕ)) → Consumes left left []
+nothing_read None = tt
+nothing_read (Some bytes) = refl
+
+none_first : (left : Option (List ℕ)) → IfSome left (AreFirst [])
+none_first None = tt
+none_first (Some bytes) = refl
+
+nothing_covered : (left : Option (List ℕ)) → CoversFront left left []
+nothing_covered left = record {
+  first = none_first left;
+  read = [];
+  consumed = nothing_read left;
+  within = lit≤ tt;
+  no_further = inl ([], refl, lit≤ tt);
+}
 
 pub never_begun : (bands : Bool) → (left taken : Option (List ℕ)) → Outcome bands status.NoMemory 0 left left taken taken
-unfolding lines_done
+unfolding lines_effect
 never_begun bands left taken = record {
   done = [];
   counted = refl;
@@ -365,15 +407,15 @@ pub line_handed : (bands : Bool) → (answer : Next) (r r' : Reading) (project :
 line_handed bands answer r r' project count refused left now after taken_before taken_now p goes gives stays = handed_by r.stop answer r r' refused left now after p.done refl p.handed_out goes gives stays
 
 -- what a line that the reader holds has done, or one that is too long
-abbrev pub DoesNext : Bool → Result Bool Stopped → Next → List ℕ → ℕ → Project → Project → Option (List ℕ) → Option (List ℕ) → Type 0
-DoesNext bands result answer held number old new before after = (text : List ℕ) → IsTextOf answer held text → Does result (line_done bands number old text) old new before after
+abbrev pub HasNextEffect : Bool → Result Bool Stopped → Next → List ℕ → ℕ → Project → Project → Option (List ℕ) → Option (List ℕ) → Type 0
+HasNextEffect bands result answer held number old new before after = (text : List ℕ) → IsTextOf answer held text → HasEffect result (line_effect bands number old text) old new before after
 
 text_held : (answer : Next) (r r' : Reading) (left now after : Option (List ℕ)) (done : List (List ℕ)) (held : List ℕ) → held ≡ r'.line → (h : Handed answer r r' left now after done) → IsTextOf answer held h.line
 text_held answer r r' left now after done held is h = subst (λ (t : List ℕ). IsTextOf answer t h.line) (sym is) h.text
 
 pub turned : (bands : Bool) → (answer : Next) (held : List ℕ) (r r' : Reading) (project project' : Project) (count : ℕ) (refused was : Bool) (left now after taken_before taken_now taken_after : Option (List ℕ))
     → Progress bands r project count refused left now taken_before taken_now → ending_of answer refused ≡ None → (r.stop ≡ Going → NextGives answer r r' now after) → StaysStopped answer r r' now after
-    → bytes_read r' ≤ input_limit → held ≡ r'.line → DoesNext bands (Ok was) answer held (count + 1) project project' taken_now taken_after
+    → bytes_read r' ≤ input_limit → held ≡ r'.line → HasNextEffect bands (Ok was) answer held (count + 1) project project' taken_now taken_after
     → Progress bands r' project' (count + 1) (refused || was) left after taken_before taken_after
 turned bands answer held r r' project project' count refused was left now after taken_before taken_now taken_after p goes gives stays within is does =
     let h = line_handed bands answer r r' project count refused left now after taken_before taken_now p goes gives stays in
@@ -382,11 +424,11 @@ turned bands answer held r r' project project' count refused was left now after 
 
 pub turned_off : (bands : Bool) → (stopped : Stopped) (answer : Next) (held : List ℕ) (r r' : Reading) (project project' : Project) (count : ℕ) (refused : Bool) (left now after taken_before taken_now taken_after : Option (List ℕ))
     → Progress bands r project count refused left now taken_before taken_now → ending_of answer refused ≡ None → (r.stop ≡ Going → NextGives answer r r' now after) → StaysStopped answer r r' now after
-    → bytes_read r' ≤ input_limit → held ≡ r'.line → DoesNext bands (Err stopped) answer held (count + 1) project project' taken_now taken_after
+    → bytes_read r' ≤ input_limit → length r'.pending ≤ read_size → held ≡ r'.line → HasNextEffect bands (Err stopped) answer held (count + 1) project project' taken_now taken_after
     → Outcome bands (status_of stopped) (count + 1) left after taken_before taken_after
-turned_off bands stopped answer held r r' project project' count refused left now after taken_before taken_now taken_after p goes gives stays within is does =
+turned_off bands stopped answer held r r' project project' count refused left now after taken_before taken_now taken_after p goes gives stays within few is does =
     let h = line_handed bands answer r r' project count refused left now after taken_before taken_now p goes gives stays in
-    broken_off bands stopped r r' project project' count refused left now after taken_before taken_now taken_after h.line p h.so_far h.plain h.passes (omega arith)
+    broken_off bands stopped r r' project project' count refused left now after taken_before taken_now taken_after h.line p h.so_far h.plain h.passes within few
     (does h.line (text_held answer r r' left now after p.done held is h))
 
 pub passes_on : (bands : Bool) → (answer : Next) (r r' : Reading) (project : Project) (count : ℕ) (refused : Bool) (left now after taken_before taken_now : Option (List ℕ))

@@ -1,16 +1,16 @@
 -- What a run promises for each of its statuses.
-use Rattle.std.specs.Prelude.{◌≡◌, ℕ, ◌≤◌, Bool, true, false, List, [], ◌∷◌, ◌++◌, length, take, Option, IfSome}
+use Rattle.std.specs.Prelude.{◌≡◌, ◌≢◌, ℕ, ◌≤◌, ◌⊎◌, Bool, true, false, List, [], ◌∷◌, ◌++◌, length, take, Option, IfSome}
 use Rattle.std.specs.Io.KnownBytes.{Consumes, Appends, IsAtEnd}
-use Rattle.map_io.specs.Lines.{lines, whole_lines, all_but_last}
-use Rattle.map_io.specs.Reading.{input_limit}
+use Rattle.map_io.specs.Causes.{Rose}
+use Rattle.map_io.specs.Lines.{lines, whole_lines, all_but_last, ended}
+use Rattle.map_io.specs.Reading.{input_limit, read_size}
 use Rattle.noise_map.specs.declared.status.Status.{Status}
 use Rattle.noise_map.specs.declared.status.Status.TheVariants.{Done, SomeRefused, Usage, ReadFault, WriteFault, NoMemory, InputLimit}
-use Rattle.noise_map.specs.Run.{empty_project}
-use Rattle.noise_map.specs.Run as run
+use Rattle.noise_map.specs.Run.{Effect, empty_project, lines_effect}
 
 -- what these lines do, from an empty scene on, where the rows of bands are asked for or not
-abbrev pub run_of : Bool → List (List ℕ) → run.Done
-run_of bands done = run.lines_done bands 1 empty_project done
+abbrev pub run_of : Bool → List (List ℕ) → Effect
+run_of bands done = lines_effect bands 1 empty_project done
 
 -- the input was read to its end, and these are all its lines
 pub record CoversAll (before after : Option (List ℕ)) (done : List (List ℕ)) : Type 0 where
@@ -32,9 +32,19 @@ pub record CoversLimit (before after : Option (List ℕ)) (done : List (List ℕ
   pub full : length read ≡ input_limit
   pub all : whole_lines read ≡ done
 
--- these are the first lines of the input
-abbrev pub CoversFront : Option (List ℕ) → List (List ℕ) → Type 0
-CoversFront before done = IfSome before (λ bytes. take (length done) (lines bytes) ≡ done)
+-- Nothing was read after the last of these lines: behind them was read at most what the read that brought its end brought
+-- beside it, or the input is at its end, and these are all its lines.
+abbrev pub ReadsNoFurther : List ℕ → Option (List ℕ) → List (List ℕ) → Type 0
+ReadsNoFurther read after done =
+    ((beyond : List ℕ) × (read ≡ ended done ++ beyond) × (length beyond ≤ read_size)) ⊎ ((lines read ≡ done) × IsAtEnd after)
+
+-- these are the first lines of the input, and no more was read, nor beyond the limit
+pub record CoversFront (before after : Option (List ℕ)) (done : List (List ℕ)) : Type 0 where
+  pub first : IfSome before (λ bytes. take (length done) (lines bytes) ≡ done)
+  pub read : List ℕ
+  pub consumed : Consumes before after read
+  pub within : length read ≤ input_limit
+  pub no_further : ReadsNoFurther read after done
 
 -- which lines of the input were done
 abbrev pub Covers : Status → Option (List ℕ) → Option (List ℕ) → List (List ℕ) → Type 0
@@ -42,8 +52,8 @@ Covers Done before after done = CoversAll before after done
 Covers SomeRefused before after done = CoversAll before after done
 Covers Usage before after done = ⊥
 Covers ReadFault before after done = CoversRead before after done
-Covers WriteFault before after done = CoversFront before done
-Covers NoMemory before after done = CoversFront before done
+Covers WriteFault before after done = CoversFront before after done
+Covers NoMemory before after done = CoversFront before after done
 Covers InputLimit before after done = CoversLimit before after done
 
 -- The sink has taken a part of the text of these lines, which holds the whole text of all but the last.
@@ -82,3 +92,22 @@ pub record Outcome (bands : Bool) (status : Status) (count : ℕ) (left_before l
   pub covers : Covers status left_before left_after done
   pub refused : TellsRefused status (run_of bands done).refused
   pub writes : Writes bands status taken_before taken_after done
+
+-- This fault is the status only where its count rose in this run, and with every other status the count is as before.
+pub record TellsFault (fault status : Status) (before after : ℕ) : Type 0 where
+  pub rose : status ≡ fault → Rose before after
+  pub well : status ≢ fault → after ≡ before
+
+-- the status of a run that neither a fault nor a limit broke off
+abbrev pub IsUnbroken : Status → Type 0
+IsUnbroken Done = Unit {0}
+IsUnbroken SomeRefused = Unit {0}
+IsUnbroken Usage = ⊥
+IsUnbroken ReadFault = ⊥
+IsUnbroken WriteFault = ⊥
+IsUnbroken NoMemory = Unit {0}
+IsUnbroken InputLimit = ⊥
+
+-- Where the source tells an input within the limit, the run came to its end, unless there was no memory.
+abbrev pub RunsToTheEnd : Status → Option (List ℕ) → Type 0
+RunsToTheEnd status left = IfSome left (λ bytes. length bytes ≤ input_limit → IsUnbroken status)

@@ -1,5 +1,5 @@
 -- How far a run has come.
-use Rattle.std.specs.Prelude.{◌≡◌, ℕ, ◌<◌, ◌≤◌, Bool, List, length, Option, Some, None, if◌then◌else◌, All, IfSome}
+use Rattle.std.specs.Prelude.{◌≡◌, ℕ, ◌<◌, ◌≤◌, Bool, List, length, Option, Some, None, if◌then◌else◌, All}
 use Rattle.std.specs.Io.KnownBytes.{Consumes, Appends}
 use Rattle.map_io.specs.declared.reader.Stop.{Stop}
 use Rattle.map_io.specs.declared.reader.Stop.TheVariants.{Going, AtEnd, AfterFault, AtLimit}
@@ -26,10 +26,18 @@ ending_of next.End refused = Some (status_at_end refused)
 ending_of next.ReadFault refused = Some status.ReadFault
 ending_of next.InputLimit refused = Some status.InputLimit
 
+-- all lines of the input were handed out
+pub record AllHandedOut (reader : Reading) (before now : Option (List ℕ)) (done : List (List ℕ)) : Type 0 where
+  pub read : List ℕ
+  pub consumed : Consumes before now read
+  pub within : length read ≤ input_limit
+  pub all : lines read ≡ done
+  pub nothing : NothingAhead reader now
+
 -- these lines were handed out: each with its line feed, or all there are, the last of them with none
 abbrev pub HandedOut : Stop → Reading → Option (List ℕ) → Option (List ℕ) → List (List ℕ) → Type 0
 HandedOut Going reader before now done = Consumes before (ahead reader now) (ended done) × (reader.passed ≡ length (ended done))
-HandedOut AtEnd reader before now done = IfSome before (λ bytes. (lines bytes ≡ done) × (length bytes ≤ input_limit)) × NothingAhead reader now
+HandedOut AtEnd reader before now done = AllHandedOut reader before now done
 HandedOut AfterFault reader before now done = ⊥
 HandedOut AtLimit reader before now done = ⊥
 

@@ -18,6 +18,7 @@ use Rattle.path_calc.specs.declared.band.Band.{Band}
 use Rattle.path_calc.specs.Levels.{Levels}
 use Rattle.path_calc.specs.Show.{show_of}
 use Rattle.fix_interval.specs.Interval.{Interval}
+use Rattle.map_io.specs.Reading.{line_limit}
 use Rattle.noise_map.specs.declared.project.Project.{Project}
 use Rattle.noise_map.specs.declared.refusal.Refusal.{Refusal}
 use Rattle.noise_map.specs.declared.refusal.Refusal.TheVariants.{LongLine, Line, NotBuilt, Edit as OfEdit}
@@ -29,17 +30,17 @@ abbrev pub empty_project : Project
 empty_project = record { scene = empty_book; version = 0 }
 
 -- what one line has done, or several: the scene after them, the text of their rows, and whether one was refused
-pub record Done : Type 0 where
+pub record Effect : Type 0 where
   pub project : Project
   pub text : List ℕ
   pub refused : Bool
 
 -- nothing is written
-abbrev pub quiet : Project → Done
-quiet project = record { project = project; text = []; refused = false }
+abbrev pub no_effect : Project → Effect
+no_effect project = record { project = project; text = []; refused = false }
 
 -- a refused line has one row that names its fault, and changes nothing
-abbrev pub refusal : ℕ → Project → Refusal → Done
+abbrev pub refusal : ℕ → Project → Refusal → Effect
 refusal number project fault = record { project = project; text = refused_row project.version number fault; refused = true }
 
 -- ---- settles
@@ -93,21 +94,21 @@ is_unbuilt (edits.Grid grid) = false
 is_unbuilt (edits.Set setting) = is_unbuilt_setting setting
 
 -- the scene after an edit is the next version; a refused edit changes nothing
-abbrev pub applied : ℕ → Project → Result (Book × Option Part) EditFault → Done
-applied number project (Ok after) = quiet (record { scene = after.0; version = project.version + 1 })
-applied number project (Err fault) = refusal number project (OfEdit fault)
+abbrev pub apply_effect : ℕ → Project → Result (Book × Option Part) EditFault → Effect
+apply_effect number project (Ok after) = no_effect (record { scene = after.0; version = project.version + 1 })
+apply_effect number project (Err fault) = refusal number project (OfEdit fault)
 
-unfoldable pub edited : ℕ → Project → Edit → Done
-edited number project edit =
-    if is_unbuilt edit then refusal number project NotBuilt else applied number project (apply_of edit project.scene)
+unfoldable pub edit_effect : ℕ → Project → Edit → Effect
+edit_effect number project edit =
+    if is_unbuilt edit then refusal number project NotBuilt else apply_effect number project (apply_of edit project.scene)
 
 -- ---- lines
 
 -- what a command does, where the rows of bands are asked for or not
-unfoldable pub obeyed : Bool → ℕ → Project → Command → Done
-obeyed bands number project (commands.Edit edit) = edited number project edit
-obeyed bands number project commands.Settle = record { project = project; text = settle_rows bands project; refused = false }
-obeyed bands number project commands.Look = refusal number project NotBuilt
+unfoldable pub command_effect : Bool → ℕ → Project → Command → Effect
+command_effect bands number project (commands.Edit edit) = edit_effect number project edit
+command_effect bands number project commands.Settle = record { project = project; text = settle_rows bands project; refused = false }
+command_effect bands number project commands.Look = refusal number project NotBuilt
 
 -- spaces, tabs and carriage returns alone
 abbrev pub is_blank_byte : ℕ → Bool
@@ -116,23 +117,23 @@ is_blank_byte b = (b == 32) || (b == 9) || (b == 13)
 abbrev pub is_blank : List ℕ → Bool
 is_blank line = list_all is_blank_byte line
 
-unfoldable pub obeyed_or_refused : Bool → ℕ → Project → Result Command LineFault → Done
-obeyed_or_refused bands number project (Ok command) = obeyed bands number project command
-obeyed_or_refused bands number project (Err fault) = refusal number project (Line fault)
+unfoldable pub answer_effect : Bool → ℕ → Project → Result Command LineFault → Effect
+answer_effect bands number project (Ok command) = command_effect bands number project command
+answer_effect bands number project (Err fault) = refusal number project (Line fault)
 
 -- what the line of this number does: a long one is refused, a blank one passed over
-unfoldable pub line_done : Bool → ℕ → Project → List ℕ → Done
-line_done bands number project line =
-    if nat_lt 65536 (length line) then refusal number project LongLine
-    else (if is_blank line then quiet project else obeyed_or_refused bands number project (command_of line))
+unfoldable pub line_effect : Bool → ℕ → Project → List ℕ → Effect
+line_effect bands number project line =
+    if nat_lt line_limit (length line) then refusal number project LongLine
+    else (if is_blank line then no_effect project else answer_effect bands number project (command_of line))
 
 -- one thing after another
-abbrev pub followed : Done → Done → Done
-followed first next = record { project = next.project; text = first.text ++ next.text; refused = first.refused || next.refused }
+abbrev pub and_then : Effect → Effect → Effect
+and_then first next = record { project = next.project; text = first.text ++ next.text; refused = first.refused || next.refused }
 
 -- what these lines do, the first of which has this number
-unfoldable pub lines_done : Bool → ℕ → Project → List (List ℕ) → Done
-lines_done bands number project [] = quiet project
-lines_done bands number project (line ∷ more) =
-    let first = line_done bands number project line in
-    followed first (lines_done bands (number + 1) first.project more)
+unfoldable pub lines_effect : Bool → ℕ → Project → List (List ℕ) → Effect
+lines_effect bands number project [] = no_effect project
+lines_effect bands number project (line ∷ more) =
+    let first = line_effect bands number project line in
+    and_then first (lines_effect bands (number + 1) first.project more)

@@ -1,11 +1,11 @@
 -- What a line that was done, or was broken off, has left in the sink and in the scene.
-use Rattle.std.specs.Prelude.{◌≡◌, ℕ, ◌≤◌, Bool, List, ◌++◌, Option, Result, Ok, Err, IsErrOf}
+use Rattle.std.specs.Prelude.{◌≡◌, ℕ, Bool, List, ◌++◌, Option, Result, Ok, Err, OnOk, IsErrOf}
 use Rattle.std.specs.Io.KnownBytes.{Appends}
 use Rattle.map_io.specs.Causes.{Rose}
 use Rattle.noise_map.specs.declared.stopped.Stopped.{Stopped}
-use Rattle.noise_map.specs.declared.stopped.Stopped.TheVariants.{WriteFault}
+use Rattle.noise_map.specs.declared.stopped.Stopped.TheVariants.{WriteFault, NoMemory}
 use Rattle.noise_map.specs.declared.project.Project.{Project}
-use Rattle.noise_map.specs.Run.{Done}
+use Rattle.noise_map.specs.Run.{Effect}
 
 -- the sink has taken a front of the text, where it tells
 pub record TakesFront (before after : Option (List ℕ)) (text : List ℕ) : Type 0 where
@@ -19,12 +19,13 @@ abbrev pub Takes : {X : Type 0} → Result X Stopped → Option (List ℕ) → O
 Takes (Ok x) before after text = Appends before after text
 Takes (Err stopped) before after text = TakesFront before after text
 
--- the count of the sink's faults doesn't fall, and it rose where a write fault is the answer
-pub record Stops {X : Type 0} (result : Result X Stopped) (before after : ℕ) : Type 0 where
-  pub later : before ≤ after
+-- The count of the sink's faults rose where a write fault is the answer, and is else as before.
+pub record CausedByWriteFault {X : Type 0} (result : Result X Stopped) (before after : ℕ) : Type 0 where
+  pub done : OnOk result (after ≡ before)
+  pub memory : IsErrOf result NoMemory → after ≡ before
   pub fault : IsErrOf result WriteFault → Rose before after
 
 -- a line was done, or was broken off and left the scene as it was; the answer says whether it was refused
-abbrev pub Does : Result Bool Stopped → Done → Project → Project → Option (List ℕ) → Option (List ℕ) → Type 0
-Does (Ok refused) done old new before after = (refused ≡ done.refused) × (new ≡ done.project) × Appends before after done.text
-Does (Err stopped) done old new before after = (new ≡ old) × TakesFront before after done.text
+abbrev pub HasEffect : Result Bool Stopped → Effect → Project → Project → Option (List ℕ) → Option (List ℕ) → Type 0
+HasEffect (Ok refused) done old new before after = (refused ≡ done.refused) × (new ≡ done.project) × Appends before after done.text
+HasEffect (Err stopped) done old new before after = (new ≡ old) × TakesFront before after done.text

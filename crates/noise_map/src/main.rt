@@ -3,6 +3,7 @@
 
 mod faults;
 mod heard;
+mod laws;
 mod level;
 mod project;
 mod refusal;

@@ -1,12 +1,12 @@
 //! The top call: all that the program does.
-ghost use Rattle.std.specs.Prelude.{◌≡◌, ◌↔◌, ◌≤◌, ◌<◌, ℕ, List, length, map, string_bytes, None, IfSome};
+ghost use Rattle.std.specs.Prelude.{◌≡◌, ◌≢◌, ◌↔◌, ◌≤◌, ◌<◌, ℕ, List, length, map, string_bytes, None, IfSome};
 ghost use Rattle.map_io.specs.Causes.{Rose};
 ghost use Rattle.map_io.specs.Reading.{fresh};
 ghost use Rattle.noise_map.specs.Words as command_words;
-ghost use Rattle.noise_map.specs.Run.{empty_project, line_done};
-ghost use Rattle.noise_map.specs.Taking.{Does, Stops};
+ghost use Rattle.noise_map.specs.Run.{empty_project, line_effect};
+ghost use Rattle.noise_map.specs.Taking.{HasEffect, CausedByWriteFault};
 ghost use Rattle.noise_map.specs.Progress.{ending_of, status_of, IsLineOf, IsTextOf};
-ghost use Rattle.noise_map.specs.Outcome.{Outcome};
+ghost use Rattle.noise_map.specs.Outcome.{Outcome, TellsFault, RunsToTheEnd};
 
 use crate::project::Project;
 use crate::status::{Report, Status};
@@ -50,8 +50,10 @@ fn do_next<K: Sink>(
 ) -> Result<bool, Stopped>
     requires version { project.old.version < number }
     requires line { IsLineOf next line.now }
-    ensures done { (text : List ℕ) → IsTextOf next line.now text → Does result (line_done bands number project.old text) project.old project.new (K.taken out.old) (K.taken out.new) }
-    ensures cause { Stops result (K.faults out.old) (K.faults out.new) }
+    ensures done { (text : List ℕ) → IsTextOf next line.now text
+        → HasEffect result (line_effect bands number project.old text)
+            project.old project.new (K.taken out.old) (K.taken out.new) }
+    ensures cause { CausedByWriteFault result (K.faults out.old) (K.faults out.new) }
 {
     if matches!(next, Next::LongLine) {
         refuse_long(alloc, bands, project, number, out)
@@ -71,9 +73,10 @@ fn do_lines<S: Source, K: Sink>(
 ) -> Report
     requires reader { reader.old ≡ fresh }
     requires project { project.old ≡ empty_project }
-    ensures outcome { Outcome bands result.status result.lines (S.left input.old) (S.left input.new) (K.taken out.old) (K.taken out.new) }
-    ensures read_fault { result.status ≡ Status.ReadFault → Rose (S.faults input.old) (S.faults input.new) }
-    ensures write_fault { result.status ≡ Status.WriteFault → Rose (K.faults out.old) (K.faults out.new) }
+    ensures outcome { Outcome bands result.status result.lines
+        (S.left input.old) (S.left input.new) (K.taken out.old) (K.taken out.new) }
+    ensures read_fault { TellsFault Status.ReadFault result.status (S.faults input.old) (S.faults input.new) }
+    ensures write_fault { TellsFault Status.WriteFault result.status (K.faults out.old) (K.faults out.new) }
 {
     let mut lines = 0;
     let mut refused = false;
@@ -97,9 +100,10 @@ fn do_lines<S: Source, K: Sink>(
 
 /// A run with an empty scene over all lines of the input.
 fn run_lines<S: Source, K: Sink>(alloc: Global, bands: bool, input: &mut S, out: &mut K) -> Report
-    ensures outcome { Outcome bands result.status result.lines (S.left input.old) (S.left input.new) (K.taken out.old) (K.taken out.new) }
-    ensures read_fault { result.status ≡ Status.ReadFault → Rose (S.faults input.old) (S.faults input.new) }
-    ensures write_fault { result.status ≡ Status.WriteFault → Rose (K.faults out.old) (K.faults out.new) }
+    ensures outcome { Outcome bands result.status result.lines
+        (S.left input.old) (S.left input.new) (K.taken out.old) (K.taken out.new) }
+    ensures read_fault { TellsFault Status.ReadFault result.status (S.faults input.old) (S.faults input.new) }
+    ensures write_fault { TellsFault Status.WriteFault result.status (K.faults out.old) (K.faults out.new) }
 {
     let Ok(mut reader) = LineReader::new(alloc) else {
         return Report {
@@ -126,16 +130,25 @@ pub fn run<S: Source + Send, K: Sink + Send, G: Gate + Sync>(
     _gate: &G,
 ) -> Report
     // The words are no command line: nothing is read or written.
-    ensures usage { (result.status ≡ Status.Usage) ↔ (command_words.bands_asked (map string_bytes words.now) ≡ None) }
-    ensures untouched { result.status ≡ Status.Usage → (input.new ≡ input.old) × (out.new ≡ out.old) × (result.lines ≡ 0) }
+    ensures usage { (result.status ≡ Status.Usage)
+        ↔ (command_words.bands_asked (map string_bytes words.now) ≡ None) }
+    ensures untouched { result.status ≡ Status.Usage
+        → (input.new ≡ input.old) × (out.new ≡ out.old) × (result.lines ≡ 0) }
 
     // Else the lines done, by the status, and what the sink has taken of their text, with the rows of bands where they are
     // asked for.
-    ensures outcome { IfSome (command_words.bands_asked (map string_bytes words.now)) (λ bands. Outcome bands result.status result.lines (S.left input.old) (S.left input.new) (K.taken out.old) (K.taken out.new)) }
+    ensures outcome { IfSome (command_words.bands_asked (map string_bytes words.now)) (λ bands.
+        Outcome bands result.status result.lines
+            (S.left input.old) (S.left input.new) (K.taken out.old) (K.taken out.new)) }
 
-    // A fault is answered only where the source or the sink has failed in this call.
-    ensures read_fault { result.status ≡ Status.ReadFault → Rose (S.faults input.old) (S.faults input.new) }
-    ensures write_fault { result.status ≡ Status.WriteFault → Rose (K.faults out.old) (K.faults out.new) }
+    // A fault is answered exactly where the source or the sink has failed in this call.
+    ensures read_fault { TellsFault Status.ReadFault result.status (S.faults input.old) (S.faults input.new) }
+    ensures write_fault { TellsFault Status.WriteFault result.status (K.faults out.old) (K.faults out.new) }
+
+    // Without a fault the run comes to the end of an input within the limit, unless there is no memory.
+    ensures complete { command_words.bands_asked (map string_bytes words.now) ≢ None
+        → (Rose (S.faults input.old) (S.faults input.new) → ⊥) → (Rose (K.faults out.old) (K.faults out.new) → ⊥)
+        → RunsToTheEnd result.status (S.left input.old) }
 {
     let Some(bands) = bands_asked(words) else {
         return Report {

@@ -2,7 +2,7 @@
 ghost use Rattle.std.specs.Prelude.{◌≡◌, flat_map, length};
 ghost use Rattle.path_calc.specs.Bands.{all_bands};
 ghost use Rattle.path_calc.specs.Show.{show_of};
-ghost use Rattle.noise_map.specs.Taking.{Takes, Stops};
+ghost use Rattle.noise_map.specs.Taking.{Takes, CausedByWriteFault};
 ghost use Rattle.noise_map.specs.Rows.{settle_row};
 ghost use Rattle.noise_map.specs.Run.{level_row, band_row, band_rows, level_rows, receiver_rows, settle_rows};
 
@@ -18,7 +18,7 @@ use std::alloc::Global;
 /// Writes a row.
 pub fn write_row<K: Sink>(out: &mut K, row: &[u8]) -> Result<(), Stopped>
     ensures taken { Takes result (K.taken out.old) (K.taken out.new) row.now }
-    ensures cause { Stops result (K.faults out.old) (K.faults out.new) }
+    ensures cause { CausedByWriteFault result (K.faults out.old) (K.faults out.new) }
 {
     put_all(out, row)?;
     Ok(())
@@ -32,7 +32,7 @@ fn write_level<K: Sink>(
     out: &mut K,
 ) -> Result<(), Stopped>
     ensures taken { Takes result (K.taken out.old) (K.taken out.new) (level_row version name.now levels.now) }
-    ensures cause { Stops result (K.faults out.old) (K.faults out.new) }
+    ensures cause { CausedByWriteFault result (K.faults out.old) (K.faults out.new) }
 {
     let row = level_text(alloc, version, name, levels)?;
     write_row(out, row.as_slice())
@@ -47,7 +47,7 @@ fn write_band<K: Sink>(
     out: &mut K,
 ) -> Result<(), Stopped>
     ensures taken { Takes result (K.taken out.old) (K.taken out.new) (band_row version name.now levels.now band) }
-    ensures cause { Stops result (K.faults out.old) (K.faults out.new) }
+    ensures cause { CausedByWriteFault result (K.faults out.old) (K.faults out.new) }
 {
     let row = band_text(alloc, version, name, levels, band)?;
     write_row(out, row.as_slice())
@@ -62,7 +62,7 @@ fn write_bands<K: Sink>(
     out: &mut K,
 ) -> Result<(), Stopped>
     ensures taken { Takes result (K.taken out.old) (K.taken out.new) (flat_map (band_row version name.now levels.now) bands.now) }
-    ensures cause { Stops result (K.faults out.old) (K.faults out.new) }
+    ensures cause { CausedByWriteFault result (K.faults out.old) (K.faults out.new) }
 {
     for band in bands {
         write_band(alloc, version, name, levels, *band, out)?;
@@ -80,7 +80,7 @@ fn write_bands_asked<K: Sink>(
     out: &mut K,
 ) -> Result<(), Stopped>
     ensures taken { Takes result (K.taken out.old) (K.taken out.new) (band_rows bands version name.now levels.now) }
-    ensures cause { Stops result (K.faults out.old) (K.faults out.new) }
+    ensures cause { CausedByWriteFault result (K.faults out.old) (K.faults out.new) }
 {
     if bands {
         let all = Band::all();
@@ -100,7 +100,7 @@ fn write_levels<K: Sink>(
     out: &mut K,
 ) -> Result<(), Stopped>
     ensures taken { Takes result (K.taken out.old) (K.taken out.new) (level_rows bands version name.now levels.now) }
-    ensures cause { Stops result (K.faults out.old) (K.faults out.new) }
+    ensures cause { CausedByWriteFault result (K.faults out.old) (K.faults out.new) }
 {
     write_level(alloc, version, name, levels, out)?;
     write_bands_asked(alloc, bands, version, name, levels, out)
@@ -116,7 +116,7 @@ fn write_receiver<K: Sink>(
     out: &mut K,
 ) -> Result<(), Stopped>
     ensures taken { Takes result (K.taken out.old) (K.taken out.new) (receiver_rows bands project.now receiver.now) }
-    ensures cause { Stops result (K.faults out.old) (K.faults out.new) }
+    ensures cause { CausedByWriteFault result (K.faults out.old) (K.faults out.new) }
 {
     let levels = levels_at(alloc, &project.scene, receiver)?;
     write_levels(
@@ -136,7 +136,7 @@ fn write_receivers<K: Sink>(
     out: &mut K,
 ) -> Result<(), Stopped>
     ensures taken { Takes result (K.taken out.old) (K.taken out.new) (flat_map (receiver_rows bands project.now) project.now.scene.receivers) }
-    ensures cause { Stops result (K.faults out.old) (K.faults out.new) }
+    ensures cause { CausedByWriteFault result (K.faults out.old) (K.faults out.new) }
 {
     for receiver in project.scene.receivers() {
         write_receiver(alloc, bands, project, receiver, out)?;
@@ -146,7 +146,7 @@ fn write_receivers<K: Sink>(
 
 fn write_head<K: Sink>(alloc: Global, project: &Project, out: &mut K) -> Result<(), Stopped>
     ensures taken { Takes result (K.taken out.old) (K.taken out.new) (settle_row project.now.version (length project.now.scene.receivers)) }
-    ensures cause { Stops result (K.faults out.old) (K.faults out.new) }
+    ensures cause { CausedByWriteFault result (K.faults out.old) (K.faults out.new) }
 {
     let head = settle_text(alloc, project.version, project.scene.receivers().len())?;
     write_row(out, head.as_slice())
@@ -161,7 +161,7 @@ pub fn settle<K: Sink>(
     out: &mut K,
 ) -> Result<(), Stopped>
     ensures taken { Takes result (K.taken out.old) (K.taken out.new) (settle_rows bands project.now) }
-    ensures cause { Stops result (K.faults out.old) (K.faults out.new) }
+    ensures cause { CausedByWriteFault result (K.faults out.old) (K.faults out.new) }
 {
     write_head(alloc, project, out)?;
     write_receivers(alloc, bands, project, out)

@@ -6,10 +6,11 @@ ghost use Rattle.scene_book.specs.Applying as applying;
 ghost use Rattle.command_lines.specs.declared.commands.Command.{Command as CommandSaid};
 ghost use Rattle.command_lines.specs.Answers as answers;
 ghost use Rattle.noise_map.specs.Faults.{edit_lacks_memory, line_lacks_memory};
-ghost use Rattle.noise_map.specs.Taking.{Stops, Does};
+ghost use Rattle.noise_map.specs.Taking.{CausedByWriteFault, HasEffect};
 ghost use Rattle.scene_book.specs.Applying.{apply_of};
 ghost use Rattle.command_lines.specs.Lines.{command_of};
-ghost use Rattle.noise_map.specs.Run.{refusal, applied, edited, obeyed, is_blank, is_blank_byte, obeyed_or_refused, line_done};
+ghost use Rattle.map_io.specs.Reading.{line_limit};
+ghost use Rattle.noise_map.specs.Run.{refusal, apply_effect, edit_effect, command_effect, is_blank, is_blank_byte, answer_effect, line_effect};
 
 use crate::faults::refused_text;
 use crate::project::Project;
@@ -30,8 +31,9 @@ fn refuse<K: Sink>(
     fault: &Refusal,
     out: &mut K,
 ) -> Result<bool, Stopped>
-    ensures done { Does result (refusal number project.now fault.now) project.now project.now (K.taken out.old) (K.taken out.new) }
-    ensures cause { Stops result (K.faults out.old) (K.faults out.new) }
+    ensures done { HasEffect result (refusal number project.now fault.now)
+        project.now project.now (K.taken out.old) (K.taken out.new) }
+    ensures cause { CausedByWriteFault result (K.faults out.old) (K.faults out.new) }
 {
     let row = refused_text(alloc, project.version, number, fault)?;
     write_row(out, row.as_slice())?;
@@ -52,8 +54,11 @@ fn refuse_edit<K: Sink>(
     fault: EditFault,
     out: &mut K,
 ) -> Result<bool, Stopped>
-    ensures done { (after : Book) (said : Result (Book × Option Part) EditFault) → applying.Gives after (Err fault) said → Does result (applied number project.now said) project.now project.now (K.taken out.old) (K.taken out.new) }
-    ensures cause { Stops result (K.faults out.old) (K.faults out.new) }
+    ensures done { (after : Book) (said : Result (Book × Option Part) EditFault)
+        → applying.Gives after (Err fault) said
+        → HasEffect result (apply_effect number project.now said)
+        project.now project.now (K.taken out.old) (K.taken out.new) }
+    ensures cause { CausedByWriteFault result (K.faults out.old) (K.faults out.new) }
 {
     if edit_lacks_memory(&fault) {
         return Err(Stopped::NoMemory);
@@ -70,8 +75,9 @@ fn apply<K: Sink>(
     out: &mut K,
 ) -> Result<bool, Stopped>
     requires { project.old.version < number }
-    ensures done { Does result (applied number project.old (apply_of edit.now project.old.scene)) project.old project.new (K.taken out.old) (K.taken out.new) }
-    ensures cause { Stops result (K.faults out.old) (K.faults out.new) }
+    ensures done { HasEffect result (apply_effect number project.old (apply_of edit.now project.old.scene))
+        project.old project.new (K.taken out.old) (K.taken out.new) }
+    ensures cause { CausedByWriteFault result (K.faults out.old) (K.faults out.new) }
 {
     match project.scene.apply(alloc, edit) {
         Ok(_) => {
@@ -83,7 +89,7 @@ fn apply<K: Sink>(
 }
 
 /// Applies an edit, or refuses one that asks for what the calculation doesn't have yet.
-#[tactic(auto, unfolding(crate::specs::Run::edited))]
+#[tactic(auto, unfolding(crate::specs::Run::edit_effect))]
 fn edit<K: Sink>(
     alloc: Global,
     project: &mut Project,
@@ -92,8 +98,9 @@ fn edit<K: Sink>(
     out: &mut K,
 ) -> Result<bool, Stopped>
     requires { project.old.version < number }
-    ensures done { Does result (edited number project.old edit.now) project.old project.new (K.taken out.old) (K.taken out.new) }
-    ensures cause { Stops result (K.faults out.old) (K.faults out.new) }
+    ensures done { HasEffect result (edit_effect number project.old edit.now)
+        project.old project.new (K.taken out.old) (K.taken out.new) }
+    ensures cause { CausedByWriteFault result (K.faults out.old) (K.faults out.new) }
 {
     if is_unbuilt(edit) {
         refuse(alloc, project, number, &Refusal::NotBuilt, out)
@@ -102,8 +109,8 @@ fn edit<K: Sink>(
     }
 }
 
-#[tactic(auto, unfolding(crate::specs::Run::obeyed))]
-fn obey<K: Sink>(
+#[tactic(auto, unfolding(crate::specs::Run::command_effect))]
+fn execute<K: Sink>(
     alloc: Global,
     bands: bool,
     project: &mut Project,
@@ -112,8 +119,9 @@ fn obey<K: Sink>(
     out: &mut K,
 ) -> Result<bool, Stopped>
     requires { project.old.version < number }
-    ensures done { Does result (obeyed bands number project.old command.now) project.old project.new (K.taken out.old) (K.taken out.new) }
-    ensures cause { Stops result (K.faults out.old) (K.faults out.new) }
+    ensures done { HasEffect result (command_effect bands number project.old command.now)
+        project.old project.new (K.taken out.old) (K.taken out.new) }
+    ensures cause { CausedByWriteFault result (K.faults out.old) (K.faults out.new) }
 {
     match command {
         Command::Edit(change) => edit(alloc, project, number, change, out),
@@ -152,8 +160,10 @@ fn refuse_line<K: Sink>(
     fault: LineFault,
     out: &mut K,
 ) -> Result<bool, Stopped>
-    ensures done { (said : Result CommandSaid LineFault) → answers.Gives (Err fault) said → Does result (obeyed_or_refused bands number project.now said) project.now project.now (K.taken out.old) (K.taken out.new) }
-    ensures cause { Stops result (K.faults out.old) (K.faults out.new) }
+    ensures done { (said : Result CommandSaid LineFault) → answers.Gives (Err fault) said
+        → HasEffect result (answer_effect bands number project.now said)
+        project.now project.now (K.taken out.old) (K.taken out.new) }
+    ensures cause { CausedByWriteFault result (K.faults out.old) (K.faults out.new) }
 {
     if line_lacks_memory(&fault) {
         return Err(Stopped::NoMemory);
@@ -161,8 +171,8 @@ fn refuse_line<K: Sink>(
     refuse(alloc, project, number, &Refusal::Line(fault), out)
 }
 
-#[tactic(auto, unfolding(crate::specs::Run::obeyed_or_refused))]
-fn read_and_obey<K: Sink>(
+#[tactic(auto, unfolding(crate::specs::Run::answer_effect))]
+fn read_and_execute<K: Sink>(
     alloc: Global,
     bands: bool,
     project: &mut Project,
@@ -171,17 +181,18 @@ fn read_and_obey<K: Sink>(
     out: &mut K,
 ) -> Result<bool, Stopped>
     requires { project.old.version < number }
-    ensures done { Does result (obeyed_or_refused bands number project.old (command_of line.now)) project.old project.new (K.taken out.old) (K.taken out.new) }
-    ensures cause { Stops result (K.faults out.old) (K.faults out.new) }
+    ensures done { HasEffect result (answer_effect bands number project.old (command_of line.now))
+        project.old project.new (K.taken out.old) (K.taken out.new) }
+    ensures cause { CausedByWriteFault result (K.faults out.old) (K.faults out.new) }
 {
     match command(alloc, line) {
-        Ok(command) => obey(alloc, bands, project, number, &command, out),
+        Ok(command) => execute(alloc, bands, project, number, &command, out),
         Err(fault) => refuse_line(alloc, bands, project, number, fault, out),
     }
 }
 
 /// Does a line of at most 65,536 bytes, by its number from 1, and answers whether it was refused.
-#[tactic(auto, unfolding(crate::specs::Run::line_done))]
+#[tactic(auto, unfolding(crate::specs::Run::line_effect))]
 pub fn do_line<K: Sink>(
     alloc: Global,
     bands: bool,
@@ -191,19 +202,20 @@ pub fn do_line<K: Sink>(
     out: &mut K,
 ) -> Result<bool, Stopped>
     requires version { project.old.version < number }
-    requires length { length line.now ≤ 65536 }
-    ensures done { Does result (line_done bands number project.old line.now) project.old project.new (K.taken out.old) (K.taken out.new) }
-    ensures cause { Stops result (K.faults out.old) (K.faults out.new) }
+    requires length { length line.now ≤ line_limit }
+    ensures done { HasEffect result (line_effect bands number project.old line.now)
+        project.old project.new (K.taken out.old) (K.taken out.new) }
+    ensures cause { CausedByWriteFault result (K.faults out.old) (K.faults out.new) }
 {
     if is_blank_text(line) {
         Ok(false)
     } else {
-        read_and_obey(alloc, bands, project, number, line, out)
+        read_and_execute(alloc, bands, project, number, line, out)
     }
 }
 
 /// Refuses a line of more than 65,536 bytes.
-#[tactic(auto, unfolding(crate::specs::Run::line_done))]
+#[tactic(auto, unfolding(crate::specs::Run::line_effect))]
 pub fn refuse_long<K: Sink>(
     alloc: Global,
     bands: bool,
@@ -211,8 +223,10 @@ pub fn refuse_long<K: Sink>(
     number: u64,
     out: &mut K,
 ) -> Result<bool, Stopped>
-    ensures done { (line : List ℕ) → 65536 < length line → Does result (line_done bands number project.now line) project.now project.now (K.taken out.old) (K.taken out.new) }
-    ensures cause { Stops result (K.faults out.old) (K.faults out.new) }
+    ensures done { (line : List ℕ) → line_limit < length line
+        → HasEffect result (line_effect bands number project.now line)
+        project.now project.now (K.taken out.old) (K.taken out.new) }
+    ensures cause { CausedByWriteFault result (K.faults out.old) (K.faults out.new) }
 {
     refuse(alloc, project, number, &Refusal::LongLine, out)
 }

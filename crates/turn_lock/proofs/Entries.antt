@@ -8,7 +8,7 @@ use native.Mathlib.Decide.{ℕ_discrete}
 use Rattle.turn_lock.specs.declared.entry.Entry.{Entry}
 use Rattle.turn_lock.specs.declared.entry.Joined.{Joined}
 use Rattle.turn_lock.specs.History.{entries_of, StepRelation, Permission}
-use Rattle.turn_lock.specs.Standing.{Standing, numbers_of, IsSound, all_parts}
+use Rattle.turn_lock.specs.Standing.{Standing, numbers_of, SeatIsSound, all_parts}
 
 pairs_head : {A : Type 0} (related : A → A → Type 0) (x : A) (xs : List A) → AllPairs related (x ∷ xs) → All (related x) xs
 pairs_head related x xs pairs j d lt = pairs 0 (suc j) d (omega arith) (omega arith)
@@ -72,7 +72,7 @@ module _ {C R : Type 0} where
       omega (arith, all_entries ns differ es (All-tail (λ (x : Entry C R). Contains ns x.number) e es h))
 
 module _ {S C R : Type 0} (start : S) (steps : StepRelation S C R) (may : Permission C R) where
-  pub every_entry_counted : (seat : Standing C R) → IsSound start steps may seat → seat.parts ≡ all_parts → length seat.seen ≡ length seat.mine + sum_by (λ j. length j.mine) seat.joined
+  pub every_entry_counted : (seat : Standing C R) → SeatIsSound start steps may seat → seat.parts ≡ all_parts → length seat.seen ≡ length seat.mine + sum_by (λ j. length j.mine) seat.joined
   every_entry_counted seat sound whole =
       let entries : ℕ → ℕ = λ n. length (entries_of n seat.seen) in
       let all : sum_by (λ n. length (entries_of n seat.seen)) (numbers_of seat) ≡ length seat.seen = all_entries (numbers_of seat) sound.numbers_differ seat.seen (sound.none_else whole) in

@@ -12,12 +12,12 @@ use Rattle.atomic_table.specs.Seated.{TableId}
 use Rattle.turn_lock.specs.declared.entry.Entry.{Entry}
 use Rattle.turn_lock.specs.declared.entry.Joined.{Joined}
 use Rattle.turn_lock.specs.declared.view.View.{View}
-use Rattle.turn_lock.specs.History.{Begins, entries_of, entry, IsRun, Lawful, StepRelation, Permission}
-use Rattle.turn_lock.specs.Standing.{Standing, numbers_of, IsSound, IsNew, HasCalled, all_parts}
+use Rattle.turn_lock.specs.History.{Begins, entries_of, IsRun, Lawful, StepRelation, Permission}
+use Rattle.turn_lock.specs.Standing.{Standing, numbers_of, SeatIsSound, IsNew, all_parts}
 use Rattle.turn_lock.specs.Rule.{own_claim, claims, uses, parts_of, IsKept, first_view}
-use Rattle.turn_lock.specs.Steps.{standing, names, Knows, in_turn, with_entries, with_part_less, HasTurn}
+use Rattle.turn_lock.specs.Steps.{standing, names, Knows, with_part_less, HasTurn}
 use Rattle.turn_lock.specs.Places.{MayEnd}
-use Rattle.turn_lock.proofs.Histories.{begins_none, legal_front, run_none, begins_nil}
+use Rattle.turn_lock.proofs.Histories.{begins_none, legal_front, run_none, begins_nil, none_behind}
 use Rattle.turn_lock.proofs.Counts.{one_below, two_below, one_there, differ_from_counts}
 
 module _ {C R : Type 0} where
@@ -107,18 +107,12 @@ module _ {C R : Type 0} where
       All-head (λ (j : Joined C R). entries_of j.number history ≡ j.mine) record { number = n; mine = v.mine } v.joined
       (subst (All (λ (j : Joined C R). entries_of j.number history ≡ j.mine)) (claims_named v n name) done)
 
-  -- a turn, as callers see it
-  pub has_called : (table same : TableId) (v w : View C R) (ticket bound : ℕ) (history : List (Entry C R)) (call : C) (reply : R) → Begins v.seen history → same ≡ table
-      → w ≡ with_entries (entry (unwrap_or v.name 0) call reply ∷ []) (in_turn ticket history bound v) → HasCalled (standing table v) call reply (standing same w)
-  has_called table same v w ticket bound history call reply seen of_table is = record {
-    between = seen.rest;
-    seen = ap (λ (u : View C R). u.seen) is ∙ ap (λ l. l ++ entry (unwrap_or v.name 0) call reply ∷ []) seen.is;
-    mine = ap (λ (u : View C R). u.mine) is;
-    table = of_table;
-    number = ap (λ (u : View C R). unwrap_or u.name 0) is;
-    parts = ap (λ (u : View C R). u.parts) is;
-    joined = ap (λ (u : View C R). u.joined) is;
-  }
+  -- a turn adds nothing of its number but what it does itself
+  pub others_alone : (v : View C R) (n : ℕ) (history : List (Entry C R)) → v.name ≡ Some n → All (λ j. entries_of j.number history ≡ j.mine) (claims v) → All (λ j. entries_of j.number v.seen ≡ j.mine) (claims v)
+      → (seen : Begins v.seen history) → (number : ℕ) → unwrap_or v.name 0 ≡ number → entries_of number seen.rest ≡ []
+  others_alone v n history name done done_seen seen number is =
+      let same : entries_of n (v.seen ++ seen.rest) ≡ entries_of n v.seen = ap (entries_of n) (sym seen.is) ∙ (own_in v n history name done ∙ sym (own_in v n v.seen name done_seen)) in
+      subst (λ m. entries_of m seen.rest ≡ []) (sym (number_named v n name) ∙ is) (none_behind n v.seen seen.rest same)
 
   -- a number that is at least the bound is new to the seat
   pub new_above : (table : TableId) (v : View C R) (n number : ℕ) → v.name ≡ Some n → All (λ j. j.number < v.bound) (claims v) → All (λ e. e.number < v.bound) v.seen → v.bound ≤ number → IsNew number (standing table v)
@@ -130,7 +124,7 @@ module _ {C R : Type 0} where
 
 module _ {S C R : Type 0} (start : S) (steps : StepRelation S C R) (may : Permission C R) where
   -- what callers are told of a seat follows from what its view knows
-  pub sound : (table : TableId) (v : View C R) (n : ℕ) → v.name ≡ Some n → Knows start steps may v → IsSound start steps may (standing table v)
+  pub sound : (table : TableId) (v : View C R) (n : ℕ) → v.name ≡ Some n → Knows start steps may v → SeatIsSound start steps may (standing table v)
   sound table v n name k =
       let named = claims_named v n name in
       let done = subst (All (λ (j : Joined C R). entries_of j.number v.seen ≡ j.mine)) named k.done_seen in record {
@@ -142,6 +136,9 @@ module _ {S C R : Type 0} (start : S) (steps : StepRelation S C R) (may : Permis
         few_parts = k.some_parts;
         none_else = λ whole. subst (λ (ns : List ℕ). All (λ (e : Entry C R). Contains ns e.number) v.seen) (names_seen table v n name) (k.none_else whole);
       }
+
+  pub sound_seen : (table : TableId) (v : View C R) (n : ℕ) → v.name ≡ Some n → Knows start steps may v → (seat : Standing C R) → standing table v ≡ seat → SeatIsSound start steps may seat
+  sound_seen table v n name k seat is = subst (SeatIsSound start steps may) is (sound table v n name k)
 
   -- what its seat may ask can be answered, once its turn has come
   pub can_answer : (can : S → C → Type 0) (table : TableId) (v : View C R) (n : ℕ) (history : List (Entry C R)) (state : S) (call : C) → Lawful start steps can may → v.name ≡ Some n

@@ -1,8 +1,9 @@
 -- Lists that begin with others, and histories with one entry more or fewer.
 use Rattle.std.proofs.Common.{◌≡◌, ◌≢◌, ℕ, zero, suc, ◌+◌, ◌≤◌, ◌<◌, eqb, List, [], ◌∷◌, ◌++◌, length, filter, refl, sym, ap, ◌∙◌, subst, arith, append_assoc, length-append, eq-eqb, ne_eqb}
 use Rattle.std.proofs.lemmas.List.{append-nil}
-use Rattle.std.proofs.lemmas.List.Elements.{filter-append}
+use Rattle.std.proofs.lemmas.List.Elements.{filter-append, All-head, All-tail}
 use Rattle.turn_lock.specs.declared.entry.Entry.{Entry}
+use Rattle.turn_lock.specs.Laws.{LastStep, RunThrough, KeptWhere, BetweenNone}
 use Rattle.turn_lock.specs.History.{Begins, entries_of, Leads, EachAllowed, IsRun, IsLegal, StepRelation, Permission}
 
 module _ {X : Type 0} where
@@ -72,6 +73,12 @@ module _ {C R : Type 0} where
       let none : more ≡ [] = nil_from_length more (omega (arith, length-append (mine ++ more) most, length-append mine more)) in
       middle ∙ (ap (λ l. mine ++ l) none ∙ append-nil mine)
 
+  -- where all entries of a number stand in front, none stands behind
+  pub none_behind : BetweenNone C R
+  none_behind n front between same =
+      let both = entries_of-append n front between in
+      nil_from_length (entries_of n between) (omega (arith, ap length both, ap length same, length-append (entries_of n front) (entries_of n between)))
+
   -- entries of a number below which all numbers of a list lie
   pub none_of : (n : ℕ) (xs : List (Entry C R)) → ((k : ℕ) (d : Entry C R) → k < length xs → (Rattle.std.proofs.Common.get_or xs k d).number ≢ n) → entries_of n xs ≡ []
   none_of n [] h = refl
@@ -82,9 +89,9 @@ module _ {S C R : Type 0} (steps : StepRelation S C R) where
   leads_more from mid to [] e l s = (to, subst (λ (z : S). steps z e.call e.reply to) (sym l) s, refl)
   leads_more from mid to (x ∷ xs) e l s = (l.0, l.1, leads_more l.0 mid to xs e l.2 s)
 
-  leads_front : (from to : S) (xs ys : List (Entry C R)) → Leads steps from (xs ++ ys) to → (mid : S) × Leads steps from xs mid
-  leads_front from to [] ys l = (from, refl)
-  leads_front from to (x ∷ xs) ys l = let r = leads_front l.0 to xs ys l.2 in (r.0, (l.0, l.1, r.1))
+  leads_through : (from to : S) (xs ys : List (Entry C R)) → Leads steps from (xs ++ ys) to → (mid : S) × Leads steps from xs mid × Leads steps mid ys to
+  leads_through from to [] ys l = (from, refl, l)
+  leads_through from to (x ∷ xs) ys l = let r = leads_through l.0 to xs ys l.2 in (r.0, (l.0, l.1, r.1), r.2)
 
 module _ {C R : Type 0} (may : Permission C R) where
   allowed_more : (before xs : List (Entry C R)) (e : Entry C R) → EachAllowed may before xs → may e.number (entries_of e.number (before ++ xs)) e.call → EachAllowed may before (xs ++ e ∷ [])
@@ -95,6 +102,10 @@ module _ {C R : Type 0} (may : Permission C R) where
   allowed_front before [] ys a = tt
   allowed_front before (x ∷ xs) ys a = (a.0, allowed_front (before ++ x ∷ []) xs ys a.1)
 
+  allowed_back : (before xs ys : List (Entry C R)) → EachAllowed may before (xs ++ ys) → EachAllowed may (before ++ xs) ys
+  allowed_back before [] ys a = subst (λ l. EachAllowed may l ys) (sym (append-nil before)) a
+  allowed_back before (x ∷ xs) ys a = subst (λ l. EachAllowed may l ys) (append_assoc before (x ∷ []) xs) (allowed_back (before ++ x ∷ []) xs ys a.1)
+
 module _ {S C R : Type 0} (start : S) (steps : StepRelation S C R) (may : Permission C R) where
   -- a run goes on with an allowed step
   pub run_more : (xs : List (Entry C R)) (mid to : S) (e : Entry C R) → IsRun start steps may xs mid → may e.number (entries_of e.number xs) e.call → steps mid e.call e.reply to → IsRun start steps may (xs ++ e ∷ []) to
@@ -103,9 +114,35 @@ module _ {S C R : Type 0} (start : S) (steps : StepRelation S C R) (may : Permis
   pub run_none : IsRun start steps may [] start
   run_none = record { allowed = tt; leads = refl }
 
+  -- a run through any place in it
+  pub run_cut : RunThrough start steps may
+  run_cut front back after run =
+      let lead = leads_through steps start after front back run.leads in record {
+        state = lead.0;
+        run = record { allowed = allowed_front may [] front back run.allowed; leads = lead.1 };
+        allowed = allowed_back may [] front back run.allowed;
+        leads = lead.2;
+      }
+
+  -- a run's last entry
+  pub run_last : LastStep start steps may
+  run_last before last after run =
+      let cut = run_cut before (last ∷ []) after run in record {
+        state = cut.state;
+        run = cut.run;
+        allowed = cut.allowed.0;
+        step = subst (λ (to : S). steps cut.state last.call last.reply to) cut.leads.2 cut.leads.1;
+      }
+
+  -- what each further entry keeps
+  pub kept_by_all : (OfKind : Entry C R → Type 0) (Holds : S → Type 0) → KeptWhere start steps may OfKind Holds
+  kept_by_all OfKind Holds each front [] between after run allowed leads kind holds = subst Holds leads holds
+  kept_by_all OfKind Holds each front (e ∷ back) between after run allowed leads kind holds =
+      let next = run_more front between leads.0 e run allowed.0 leads.1 in
+      kept_by_all OfKind Holds each (front ++ e ∷ []) back leads.0 after next allowed.1 leads.2 (All-tail OfKind e back kind)
+      (each front between leads.0 e run allowed.0 leads.1 (All-head OfKind e back kind) holds)
+
   -- a beginning of a legal history is legal
   pub legal_front : (xs ys : List (Entry C R)) → Begins xs ys → IsLegal start steps may ys → IsLegal start steps may xs
   legal_front xs ys b l =
-      let whole = subst (λ (z : List (Entry C R)). IsRun start steps may z l.0) b.is l.1 in
-      let lead = leads_front steps start l.0 xs b.rest whole.leads in
-      (lead.0, record { allowed = allowed_front may [] xs b.rest whole.allowed; leads = lead.1 })
+      let cut = run_cut xs b.rest l.0 (subst (λ (z : List (Entry C R)). IsRun start steps may z l.0) b.is l.1) in (cut.state, cut.run)

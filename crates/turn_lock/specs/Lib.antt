@@ -1,4 +1,5 @@
 pub mod History
+pub mod Laws
 pub mod Standing
 pub mod Rule
 pub mod Steps

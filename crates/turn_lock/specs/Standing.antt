@@ -23,8 +23,8 @@ all_parts = 2 ^ 64
 abbrev pub numbers_of : {C R : Type 0} → Standing C R → List ℕ
 numbers_of seat = seat.number ∷ map (λ j. j.number) seat.joined
 
--- what holds of every seat after every call
-pub record IsSound {S C R : Type 0} (start : S) (steps : StepRelation S C R) (may : Permission C R)
+-- what holds of every seat
+pub record SeatIsSound {S C R : Type 0} (start : S) (steps : StepRelation S C R) (may : Permission C R)
     (seat : Standing C R) : Type 0 where
   -- it has seen a legal history
   pub legal : IsLegal start steps may seat.seen
@@ -68,9 +68,10 @@ taken_in seat other = record {
   joined = seat.joined ++ record { number = other.number; mine = other.mine } ∷ other.joined;
 }
 
--- the seat made this one call more: it saw what others did in between, and then its own entry, at the end
+-- the seat made this one call more: it saw what others alone did in between, and then its own entry, at the end
 pub record HasCalled {C R : Type 0} (before : Standing C R) (call : C) (reply : R) (after : Standing C R) : Type 0 where
   pub between : List (Entry C R)
+  pub others : entries_of before.number between ≡ []
   pub seen : after.seen ≡ (before.seen ++ between) ++ entry before.number call reply ∷ []
   pub mine : after.mine ≡ before.mine ++ entry before.number call reply ∷ []
   pub table : after.table ≡ before.table

@@ -6,6 +6,7 @@
 #![tactic(auto)]
 
 mod entry;
+mod laws;
 mod machine;
 mod plays;
 mod seat;
@@ -14,6 +15,7 @@ mod turn;
 mod view;
 
 pub use entry::{Entry, Joined};
+pub use laws::{Fact, between_none, kept_where, last_step, run_through};
 pub use machine::Machine;
 pub use seat::Seat;
 pub use turn::{NoMemory, Turn};

@@ -1,4 +1,6 @@
 //! A caller's seat at a lock.
+ghost use Rattle.turn_lock.specs.Standing.{SeatIsSound};
+
 use crate::machine::Machine;
 use crate::view::View;
 use std::marker::Model;
@@ -28,4 +30,13 @@ impl<M: Machine> Model for Seat<M> {
     ghost view = { λ s. standing s.place.table_id s.place.me.0 };
 
     ghost invariant = { λ s. IsSeated M.start M.steps M.may s.place.me };
+}
+
+impl<M: Machine> Seat<M> {
+    /// Nothing is done. Every seat is sound, wherever it comes from, so that what holds one need not say so.
+    pub fn stays_sound(&self)
+        ensures { SeatIsSound M.start M.steps M.may self.now }
+    {
+        let _ = &self.place;
+    }
 }

@@ -2,7 +2,7 @@
 ghost use Rattle.std.specs.Prelude.{◌≡◌, ℕ, ◌+◌, ◌<◌, ◌^◌, [], ◌∷◌, Some, None, unwrap_or};
 ghost use Rattle.turn_lock.specs.Answering.{AnswersAs};
 ghost use Rattle.turn_lock.specs.History.{entry};
-ghost use Rattle.turn_lock.specs.Standing.{Standing, IsSound, HasCalled};
+ghost use Rattle.turn_lock.specs.Standing.{Standing, SeatIsSound, HasCalled};
 ghost use Rattle.turn_lock.specs.Steps.{HasTurn, Knows, with_entries};
 ghost use Rattle.turn_lock.specs.Places.{IsSamePlace, IsFree, IsWaiting, Waits, MayEnd};
 ghost use Rattle.turn_lock.specs.declared.view.Phase.TheVariants.{Free, Waiting};
@@ -33,7 +33,8 @@ impl<M: Machine> Turn<M> {
         requires own { seat.old.table ≡ self.now }
         requires allowed { M.may seat.old.number seat.old.mine call }
         ensures called { HasCalled seat.old call result seat.new }
-        ensures sound { IsSound M.start M.steps M.may seat.new }
+        ensures sound_before { SeatIsSound M.start M.steps M.may seat.old }
+        ensures sound { SeatIsSound M.start M.steps M.may seat.new }
     {
         self.turn_by(
             rt,
@@ -56,7 +57,8 @@ impl<M: Machine> Turn<M> {
         requires allowed { M.may seat.old.number seat.old.mine call }
         requires answers { AnswersAs F.FnOnce M.state M.can M.steps f call }
         ensures called { HasCalled seat.old call result seat.new }
-        ensures sound { IsSound M.start M.steps M.may seat.new }
+        ensures sound_before { SeatIsSound M.start M.steps M.may seat.old }
+        ensures sound { SeatIsSound M.start M.steps M.may seat.new }
     {
         let place = &mut seat.place;
         let said = Snapshot::of(&call);

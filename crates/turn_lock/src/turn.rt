@@ -2,7 +2,7 @@
 ghost use Rattle.std.specs.Prelude.{◌≡◌, ℕ, ◌+◌, ◌-◌, ◌≤◌, length, sum_by, IfOk};
 ghost use Rattle.turn_lock.specs.History.{Begins, IsRun};
 ghost use Rattle.turn_lock.specs.Places.{IsSamePlace, IsUnnamed, HasDrawn};
-ghost use Rattle.turn_lock.specs.Standing.{Standing, IsSound, IsNew, all_parts, first_standing, newcomer, taken_in};
+ghost use Rattle.turn_lock.specs.Standing.{Standing, SeatIsSound, IsNew, all_parts, first_standing, newcomer, taken_in};
 
 use crate::machine::Machine;
 use crate::plays::{Look, Merge, Number, OnePart, Order};
@@ -55,7 +55,7 @@ impl<M: Machine> Turn<M> {
     pub fn start(alloc: Global, machine: M) -> Result<(Turn<M>, Seat<M>), NoMemory>
         requires { M.state machine ≡ M.start }
         ensures seat { IfOk result (λ r. r.1 ≡ first_standing r.0) }
-        ensures sound { IfOk result (λ r. IsSound M.start M.steps M.may r.1) }
+        ensures sound { IfOk result (λ r. SeatIsSound M.start M.steps M.may r.1) }
     {
         let mut slots = Vec::new(alloc);
         if slots.push(Some(machine)).is_err() {
@@ -75,8 +75,9 @@ impl<M: Machine> Turn<M> {
         ensures new { result ≡ newcomer result.number seat.old }
         ensures number { IsNew result.number seat.old }
         ensures old { seat.new ≡ record seat.old { parts = seat.old.parts - 1 } }
-        ensures sound { IsSound M.start M.steps M.may seat.new }
-        ensures sound_new { IsSound M.start M.steps M.may result }
+        ensures sound_before { SeatIsSound M.start M.steps M.may seat.old }
+        ensures sound { SeatIsSound M.start M.steps M.may seat.new }
+        ensures sound_new { SeatIsSound M.start M.steps M.may result }
     {
         let place = &mut seat.place;
         let mut other = self.table.shared.split_seat::<OnePart>(place);
@@ -112,7 +113,9 @@ impl<M: Machine> Turn<M> {
         ensures both { seat.new ≡ taken_in seat.old other }
         ensures seen { Begins seat.old.seen seat.new.seen }
         ensures seen_other { Begins other.seen seat.new.seen }
-        ensures sound { IsSound M.start M.steps M.may seat.new }
+        ensures sound_before { SeatIsSound M.start M.steps M.may seat.old }
+        ensures sound_other { SeatIsSound M.start M.steps M.may other }
+        ensures sound { SeatIsSound M.start M.steps M.may seat.new }
     {
         let Seat { place: other } = other;
         let place = &mut seat.place;
@@ -127,6 +130,7 @@ impl<M: Machine> Turn<M> {
         requires whole { seat.parts ≡ all_parts }
         ensures run { IsRun M.start M.steps M.may seat.seen (M.state result) }
         ensures entries { length seat.seen ≡ length seat.mine + sum_by (λ j. length j.mine) seat.joined }
+        ensures sound { SeatIsSound M.start M.steps M.may seat }
     {
         let Turn { table } = self;
         let Seat { place } = seat;

@@ -1,5 +1,5 @@
--- The lines handed out so far are done, and no count of faults has fallen. Each turn passes a byte of the input at least.
-use Rattle.std.proofs.Common.{◌≤◌, ◌-◌}
+-- The lines handed out so far are done, and no count of faults has risen. Each turn passes a byte of the input at least.
+use Rattle.std.proofs.Common.{◌≡◌, ◌≤◌, ◌-◌}
 use Rattle.map_io.specs.Reading.{bytes_read, input_limit}
 use Rattle.noise_map.specs.Progress.{Progress}
 use Rattle.noise_map.proofs.run.do_lines.Given as goal
@@ -8,8 +8,8 @@ abbrev pub invariant-loop-status : goal.invariant-loop-status
 invariant-loop-status g l = record {
   progress : Progress l.bands l.reader l.project l.lines l.refused (g.S.Source.left l.initial.input) (g.S.Source.left l.input) (g.K.Sink.taken l.initial.out) (g.K.Sink.taken l.out);
   within : bytes_read l.reader ≤ input_limit;
-  reads : g.S.Source.faults l.initial.input ≤ g.S.Source.faults l.input;
-  writes : g.K.Sink.faults l.initial.out ≤ g.K.Sink.faults l.out;
+  reads : g.S.Source.faults l.input ≡ g.S.Source.faults l.initial.input;
+  writes : g.K.Sink.faults l.out ≡ g.K.Sink.faults l.initial.out;
 }
 
 abbrev pub decreases-loop-status : goal.decreases-loop-status

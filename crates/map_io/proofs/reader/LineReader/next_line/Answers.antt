@@ -1,7 +1,8 @@
 -- The line is gathered by scans and reads, and the last of them decides the answer.
-use Rattle.std.proofs.Common.{◌∙◌, sym, ap, subst, refl, List, ℕ, arith}
+use Rattle.std.proofs.Common.{◌≡◌, ◌∙◌, sym, ap, subst, refl, List, ℕ, arith}
 use Rattle.std.specs.Prelude.{Contains}
 use Rattle.map_io.specs.Reading.{Reading}
+use Rattle.map_io.specs.declared.reader.Stop.TheVariants.{Going, AfterFault}
 use Rattle.map_io.proofs.Scanning.{scan_had_none}
 use Rattle.map_io.proofs.Gathering.{line_ended, gather_all, gather_filled, ends, last_line, breaks_off, reaches_limit}
 use Rattle.map_io.proofs.reader.LineReader.next_line.Goals as goal
@@ -21,7 +22,7 @@ loop-self-preserved g c =
       unread = λ held.
           let same = c.loop-self.invariant.unread held in
           absurd (scan_had_none _ _ scan (subst (λ (bytes : List ℕ). Contains bytes 10) (sym same.1) held));
-      later = omega (arith, c.loop-self.invariant.later, c.fill.ensures.later);
+      faults = c.fill.ensures.well (λ after. let clash : Going ≡ AfterFault = sym stop ∙ after in cc) ∙ c.loop-self.invariant.faults;
       within = c.fill.ensures.fills.within;
     }
 

@@ -1,7 +1,7 @@
 -- What was passed since the call began is the line so far.
 use Rattle.std.proofs.Common.{◌≡◌, ◌≤◌, ◌-◌}
 use Rattle.std.specs.Prelude.{Contains}
-use Rattle.map_io.specs.Reading.{bytes_read}
+use Rattle.map_io.specs.Reading.{bytes_read, input_limit}
 use Rattle.map_io.specs.Steps.{Gathers}
 use Rattle.map_io.proofs.reader.LineReader.next_line.Given as goal
 
@@ -10,9 +10,9 @@ invariant-loop-self g l = record {
   began : l.began ≡ l.fn.self.passed;
   gathers : Gathers l.fn.self l.self (g.S.Source.left l.fn.source) (g.S.Source.left l.source);
   unread : Contains l.fn.self.pending 10 → (l.source ≡ l.fn.source) × (l.self.pending ≡ l.fn.self.pending);
-  later : g.S.Source.faults l.fn.source ≤ g.S.Source.faults l.source;
-  within : bytes_read l.self ≤ 67108864;
+  faults : g.S.Source.faults l.source ≡ g.S.Source.faults l.fn.source;
+  within : bytes_read l.self ≤ input_limit;
 }
 
 abbrev pub decreases-loop-self : goal.decreases-loop-self
-decreases-loop-self g l = 67108864 - bytes_read l.self
+decreases-loop-self g l = input_limit - bytes_read l.self

@@ -1,9 +1,8 @@
 use Rattle.std.proofs.Common.{◌≡◌, Some, sym, ap, ◌∙◌, subst}
 use mathlib.Core.Option.{some-injective}
 use Rattle.turn_lock.specs.History.{IsRun}
-use Rattle.turn_lock.specs.Standing.{IsSound}
 use Rattle.turn_lock.proofs.Parting.{closes}
-use Rattle.turn_lock.proofs.Facts.{sound}
+use Rattle.turn_lock.proofs.Facts.{sound_seen}
 use Rattle.turn_lock.proofs.Entries.{every_entry_counted}
 use Rattle.turn_lock.proofs.turn.Turn.close.Goals as goal
 
@@ -24,5 +23,7 @@ returns-clause-run g c =
 
 pub returns-clause-entries : goal.returns-clause-entries
 returns-clause-entries g c =
-    let known = sound _ _ _ c.seat.inside.place.table_id _ c.seat.invariant.number c.seat.invariant.name c.seat.invariant.knows in
-    every_entry_counted _ _ _ c.args.seat (subst (IsSound g.M.Machine.start g.M.Machine.steps g.M.Machine.may) c.seat.view_is known) c.requires.whole
+    every_entry_counted _ _ _ c.args.seat (sound_seen _ _ _ _ _ _ c.seat.invariant.name c.seat.invariant.knows _ c.seat.view_is) c.requires.whole
+
+pub returns-clause-sound : goal.returns-clause-sound
+returns-clause-sound g c = sound_seen _ _ _ _ _ _ c.seat.invariant.name c.seat.invariant.knows _ c.seat.view_is

@@ -3,7 +3,7 @@ use Rattle.std.specs.Prelude.{unwrap_or}
 use Rattle.turn_lock.specs.Standing.{IsNew}
 use Rattle.turn_lock.specs.Steps.{Knows}
 use Rattle.turn_lock.proofs.Parting.{splits}
-use Rattle.turn_lock.proofs.Facts.{sound, new_above, knows_less}
+use Rattle.turn_lock.proofs.Facts.{sound, sound_seen, new_above, knows_less}
 use Rattle.turn_lock.proofs.turn.Turn.split.Goals as goal
 
 pub split_seat-other-requires : goal.split_seat-other-requires
@@ -43,3 +43,6 @@ pub returns-clause-sound_new : goal.returns-clause-sound_new
 returns-clause-sound_new g c =
     let drawn = c.draw_number.ensures.named in
     sound _ _ _ _ _ drawn.number (ap (λ me. me.0.name) drawn.me) drawn.knows
+
+pub returns-clause-sound_before : goal.returns-clause-sound_before
+returns-clause-sound_before g c = sound_seen _ _ _ _ _ _ c.seat.invariant.name c.seat.invariant.knows _ c.seat.view_is

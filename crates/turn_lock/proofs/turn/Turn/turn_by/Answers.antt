@@ -1,6 +1,6 @@
 use Rattle.std.proofs.Common.{rules, ◌≡◌, sym, ap, ◌∙◌, subst}
 use Rattle.std.specs.Borrow.{MutBor}
-use Rattle.turn_lock.proofs.Facts.{sound, can_answer, may_end}
+use Rattle.turn_lock.proofs.Facts.{sound, sound_seen, can_answer, may_end, others_alone}
 use Rattle.turn_lock.proofs.turn.Turn.turn_by.Goals as goal
 
 pub f-reply-requires : goal.f-reply-requires
@@ -24,3 +24,13 @@ returns-clause-sound g c =
     let turn = c.take_turn-ticket.ensures.turn in
     let name = ap (λ me. me.0.name) c.end_turn.ensures.passed ∙ (ap (λ me. me.0.name) turn.me ∙ seat.name) in
     sound _ _ _ _ _ seat.number name c.end_turn.ensures.knows
+
+pub returns-clause-called : goal.returns-clause-called
+returns-clause-called g c =
+    let seat = c.seat.invariant in
+    let turn = c.take_turn-ticket.ensures.turn in
+    let others = others_alone c.seat.inside.place.me.0 seat.number turn.history seat.name turn.done seat.knows.done_seen turn.seen _ (ap (λ s. s.number) c.seat.view_is) in
+    search (rules, others)
+
+pub returns-clause-sound_before : goal.returns-clause-sound_before
+returns-clause-sound_before g c = sound_seen _ _ _ _ _ _ c.seat.invariant.name c.seat.invariant.knows _ c.seat.view_is

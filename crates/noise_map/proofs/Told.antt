@@ -1,0 +1,116 @@
+-- Which faults a status tells, and that a run without them comes to its end.
+use Rattle.std.proofs.Common.{◌≡◌, ◌≢◌, ◌≤◌, ℕ, Bool, true, false, List, [], ◌∷◌, ◌++◌, length, refl, ap, sym, ◌∙◌, subst, arith, length-append}
+use Rattle.std.specs.Prelude.{Option, Some, None, Result, Err}
+use Rattle.map_io.specs.Causes.{Rose}
+use Rattle.map_io.specs.declared.reader.Stop.{Stop}
+use Rattle.map_io.specs.declared.reader.Stop.TheVariants.{Going, AtEnd, AfterFault, AtLimit}
+use Rattle.map_io.specs.declared.reader.Next.{Next}
+use Rattle.map_io.specs.declared.reader.Next.TheVariants as next
+use Rattle.map_io.specs.Reading.{Reading, input_limit}
+use Rattle.noise_map.specs.declared.stopped.Stopped.{Stopped}
+use Rattle.noise_map.specs.declared.stopped.Stopped.TheVariants as stops
+use Rattle.noise_map.specs.declared.status.Status.{Status}
+use Rattle.noise_map.specs.declared.status.Status.TheVariants as status
+use Rattle.noise_map.specs.declared.project.Project.{Project}
+use Rattle.noise_map.specs.Taking.{CausedByWriteFault}
+use Rattle.noise_map.specs.Outcome.{Outcome, CoversLimit, TellsFault, IsUnbroken, RunsToTheEnd}
+use Rattle.noise_map.specs.Progress.{status_at_end, status_of, ending_of, HandedOut, Progress}
+
+same_some : {X : Type 0} {x y : X} → Some x ≡ Some y → x ≡ y
+same_some e = cc
+
+not_by_fault : (stop : Stop) (r : Reading) (left now : Option (List ℕ)) (done : List (List ℕ)) → HandedOut stop r left now done → stop ≢ AfterFault
+not_by_fault Going r left now done handed is = cc
+not_by_fault AtEnd r left now done handed is = cc
+not_by_fault AfterFault r left now done handed is = handed
+not_by_fault AtLimit r left now done handed is = handed
+
+-- a run in progress has a reader that no fault has stopped
+pub goes_without_fault : (bands : Bool) (r : Reading) (project : Project) (count : ℕ) (refused : Bool) (left now taken_before taken_now : Option (List ℕ))
+    → Progress bands r project count refused left now taken_before taken_now → r.stop ≢ AfterFault
+goes_without_fault bands r project count refused left now taken_before taken_now p = not_by_fault r.stop r left now p.done p.handed_out
+
+-- a line is no fault
+pub line_is_no_fault : (answer : Next) (refused : Bool) → ending_of answer refused ≡ None → answer ≢ next.ReadFault
+line_is_no_fault (next.Line n) refused goes is = cc
+line_is_no_fault next.LongLine refused goes is = cc
+line_is_no_fault next.End refused goes is = cc
+line_is_no_fault next.ReadFault refused goes is = cc
+line_is_no_fault next.InputLimit refused goes is = cc
+
+-- the status of a run that ended tells a read fault where the reader answered it, and no write fault
+ending_tells : (answer : Next) (refused : Bool) → answer ≢ next.ReadFault → (end : Status) → ending_of answer refused ≡ Some end → end ≢ status.ReadFault
+ending_tells (next.Line n) refused other end ends is = cc
+ending_tells next.LongLine refused other end ends is = cc
+ending_tells next.End true other end ends is = let clash : status.SomeRefused ≡ status.ReadFault = same_some ends ∙ is in cc
+ending_tells next.End false other end ends is = let clash : status.Done ≡ status.ReadFault = same_some ends ∙ is in cc
+ending_tells next.ReadFault refused other end ends is = other refl
+ending_tells next.InputLimit refused other end ends is = let clash : status.InputLimit ≡ status.ReadFault = same_some ends ∙ is in cc
+
+pub read_told : (answer : Next) (refused : Bool) (end : Status) (before now after : ℕ) → ending_of answer refused ≡ Some end → now ≡ before
+    → (answer ≡ next.ReadFault → Rose now after) → (answer ≢ next.ReadFault → after ≡ now) → TellsFault status.ReadFault end before after
+read_told next.ReadFault refused end before now after ends same rose well = record {
+  rose = λ told. subst (λ n. Rose n after) same (rose refl);
+  well = λ untold. absurd (untold (sym (same_some ends)));
+}
+read_told (next.Line n) refused end before now after ends same rose well = cc
+read_told next.LongLine refused end before now after ends same rose well = cc
+read_told next.End refused end before now after ends same rose well =
+    let other : next.End ≢ next.ReadFault = λ is. cc in
+    record { rose = λ told. absurd (ending_tells next.End refused other end ends told); well = λ untold. well other ∙ same }
+read_told next.InputLimit refused end before now after ends same rose well =
+    let other : next.InputLimit ≢ next.ReadFault = λ is. cc in
+    record { rose = λ told. absurd (ending_tells next.InputLimit refused other end ends told); well = λ untold. well other ∙ same }
+
+no_write : (answer : Next) (refused : Bool) (end : Status) → ending_of answer refused ≡ Some end → end ≢ status.WriteFault
+no_write (next.Line n) refused end ends is = cc
+no_write next.LongLine refused end ends is = cc
+no_write next.End true end ends is = let clash : status.SomeRefused ≡ status.WriteFault = same_some ends ∙ is in cc
+no_write next.End false end ends is = let clash : status.Done ≡ status.WriteFault = same_some ends ∙ is in cc
+no_write next.ReadFault refused end ends is = let clash : status.ReadFault ≡ status.WriteFault = same_some ends ∙ is in cc
+no_write next.InputLimit refused end ends is = let clash : status.InputLimit ≡ status.WriteFault = same_some ends ∙ is in cc
+
+pub write_untold : (answer : Next) (refused : Bool) (end : Status) (before after : ℕ) → ending_of answer refused ≡ Some end → after ≡ before → TellsFault status.WriteFault end before after
+write_untold answer refused end before after ends same = record { rose = λ told. absurd (no_write answer refused end ends told); well = λ untold. same }
+
+-- a line that was broken off is no read fault, and a write fault where the sink has failed
+pub read_untold : (stopped : Stopped) (before after : ℕ) → after ≡ before → TellsFault status.ReadFault (status_of stopped) before after
+read_untold stops.WriteFault before after same = record { rose = λ told. let clash : status.WriteFault ≡ status.ReadFault = told in cc; well = λ untold. same }
+read_untold stops.NoMemory before after same = record { rose = λ told. let clash : status.NoMemory ≡ status.ReadFault = told in cc; well = λ untold. same }
+
+pub write_told : {X : Type 0} (stopped : Stopped) (before now after : ℕ) → now ≡ before → CausedByWriteFault {X = X} (Err stopped) now after → TellsFault status.WriteFault (status_of stopped) before after
+write_told stops.WriteFault before now after same cause = record {
+  rose = λ told. subst (λ n. Rose n after) same (cause.fault refl);
+  well = λ untold. absurd (untold refl);
+}
+write_told stops.NoMemory before now after same cause = record {
+  rose = λ told. let clash : status.NoMemory ≡ status.WriteFault = told in cc;
+  well = λ untold. cause.memory refl ∙ same;
+}
+
+-- ---- completeness
+
+over_limit : (bytes : List ℕ) (after : Option (List ℕ)) (done : List (List ℕ)) → CoversLimit (Some bytes) after done → length bytes ≤ input_limit → ⊥
+over_limit bytes None done covers few = covers.consumed
+over_limit bytes (Some rest) done covers few =
+    omega (arith, few, ap length covers.consumed, length-append (covers.read ++ covers.more ∷ []) rest, length-append covers.read (covers.more ∷ []), covers.full)
+
+complete_within : (bands : Bool) (end : Status) (count : ℕ) (bytes : List ℕ) (after taken_before taken_after : Option (List ℕ)) (reads reads_after writes writes_after : ℕ)
+    → Outcome bands end count (Some bytes) after taken_before taken_after
+    → TellsFault status.ReadFault end reads reads_after → TellsFault status.WriteFault end writes writes_after
+    → (Rose reads reads_after → ⊥) → (Rose writes writes_after → ⊥) → length bytes ≤ input_limit → IsUnbroken end
+complete_within bands status.Done count bytes after taken_before taken_after reads reads_after writes writes_after outcome read write no_read no_write few = tt
+complete_within bands status.SomeRefused count bytes after taken_before taken_after reads reads_after writes writes_after outcome read write no_read no_write few = tt
+complete_within bands status.Usage count bytes after taken_before taken_after reads reads_after writes writes_after outcome read write no_read no_write few = outcome.covers
+complete_within bands status.ReadFault count bytes after taken_before taken_after reads reads_after writes writes_after outcome read write no_read no_write few = no_read (read.rose refl)
+complete_within bands status.WriteFault count bytes after taken_before taken_after reads reads_after writes writes_after outcome read write no_read no_write few = no_write (write.rose refl)
+complete_within bands status.NoMemory count bytes after taken_before taken_after reads reads_after writes writes_after outcome read write no_read no_write few = tt
+complete_within bands status.InputLimit count bytes after taken_before taken_after reads reads_after writes writes_after outcome read write no_read no_write few = over_limit bytes after outcome.done outcome.covers few
+
+pub complete : (bands : Bool) (end : Status) (count : ℕ) (left after taken_before taken_after : Option (List ℕ)) (reads reads_after writes writes_after : ℕ)
+    → Outcome bands end count left after taken_before taken_after
+    → TellsFault status.ReadFault end reads reads_after → TellsFault status.WriteFault end writes writes_after
+    → (Rose reads reads_after → ⊥) → (Rose writes writes_after → ⊥) → RunsToTheEnd end left
+complete bands end count None after taken_before taken_after reads reads_after writes writes_after outcome read write no_read no_write = tt
+complete bands end count (Some bytes) after taken_before taken_after reads reads_after writes writes_after outcome read write no_read no_write =
+    complete_within bands end count bytes after taken_before taken_after reads reads_after writes writes_after outcome read write no_read no_write

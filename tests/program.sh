@@ -1,0 +1,115 @@
+#!/bin/sh
+# The program from outside: its words, its rows, its exit status and what it says on standard error, also where the
+# system fails it. Without a word it tries what `rt ci` has built, by each of its two compilers; else the programs named.
+cd "$(dirname "$0")/.." || exit 1
+room=$(mktemp -d) || exit 1
+trap 'rm -rf "$room"' EXIT
+: > "$room/nothing"
+passed=0
+failed=0
+
+# judge NAME STATUS WANTED-STATUS WANTED-ROWS WARNING: looks at what a run has left in $room/rows and $room/said.
+judge() {
+    if [ -n "$5" ]; then echo "noisemap: $5"; fi > "$room/warning"
+    if [ "$2" -eq "$3" ] && cmp -s "$4" "$room/rows" && cmp -s "$room/warning" "$room/said"; then
+        passed=$((passed + 1))
+    else
+        failed=$((failed + 1))
+        echo "FAILED: $program: $1: status $2, wanted $3; the first lines of its rows and of what it said:"
+        head -n 3 "$room/rows" "$room/said"
+    fi
+}
+
+# expect NAME WANTED-STATUS WANTED-ROWS WARNING COMMAND..: runs a command on the standard input given.
+expect() {
+    name=$1 wanted=$2 rows=$3 warning=$4
+    shift 4
+    "$@" > "$room/rows" 2> "$room/said"
+    judge "$name" $? "$wanted" "$rows" "$warning"
+}
+
+# with_room COMMAND..: runs a command with more and more address space, until it ends with a status of the program's own.
+# Below that the system kills it, and the shell would tell.
+with_room() {
+    bytes=524288
+    while [ "$bytes" -le 268435456 ]; do
+        (prlimit --as="$bytes" "$@" < "$input" > "$room/rows" 2> "$room/said"; exit $?) 2> /dev/null
+        status=$?
+        if [ "$status" -le 6 ]; then return "$status"; fi
+        bytes=$((bytes + 262144))
+    done
+    return 99
+}
+
+# Each example, with its words and its status where they aren't none and 0.
+try_examples() {
+    for input in examples/*.jsonl; do
+        example=${input%.jsonl}
+        words=
+        wanted=0
+        if [ -f "$example.args" ]; then words=$(cat "$example.args"); fi
+        if [ -f "$example.status" ]; then wanted=$(cat "$example.status"); fi
+        # One word a line, and no blank in it.
+        # shellcheck disable=SC2086
+        expect "$example" "$wanted" "$example.csv" "" "$program" $words < "$input"
+    done
+}
+
+try_words() {
+    for words in --help --bands=1 -- x; do
+        expect "the word $words" 2 "$room/nothing" usage "$program" "$words" < examples/first.jsonl
+    done
+    expect "an empty word" 2 "$room/nothing" usage "$program" "" < examples/first.jsonl
+    expect "an option twice" 2 "$room/nothing" usage "$program" --bands --bands < examples/first.jsonl
+    expect "a word that is no text" 2 "$room/nothing" usage "$program" "$(printf '\377')" < examples/first.jsonl
+}
+
+try_ends() {
+    expect "empty input" 0 "$room/nothing" "" "$program" < "$room/nothing"
+    expect "a directory as input" 3 "$room/nothing" "read fault" "$program" < /
+    expect "closed input" 3 "$room/nothing" "read fault" "$program" <&-
+    expect "a full device" 4 "$room/nothing" "write fault" \
+        sh -c '"$0" > /dev/full' "$program" < examples/first.jsonl
+    expect "closed output" 4 "$room/nothing" "write fault" sh -c '"$0" >&-' "$program" < examples/first.jsonl
+    expect "closed output, and nothing to write" 0 "$room/nothing" "" sh -c '"$0" >&-' "$program" < "$room/nothing"
+    expect "closed standard error" 2 "$room/nothing" "" sh -c '"$0" --help 2>&-' "$program" < examples/first.jsonl
+    { "$program" < "$room/many" 2> "$room/said"; echo $? > "$room/status"; } | head -n 1 > "$room/rows"
+    echo "settle,1,4096,,,," > "$room/head"
+    judge "a broken pipe" "$(cat "$room/status")" 4 "$room/head" "write fault"
+    expect "67,108,864 bytes" 0 "$room/nothing" "" "$program" < "$room/full"
+    expect "67,108,865 bytes" 6 "$room/nothing" "input limit" "$program" < "$room/over"
+}
+
+try_memory() {
+    input=$room/zones
+    with_room "$program"
+    judge "a scene without memory" $? 5 "$room/nothing" "no memory"
+    input=$room/nothing
+    word=$(printf '%0100000d' 0)
+    with_room "$program" "$word" "$word" "$word" "$word" "$word" "$word" "$word" "$word" "$word" "$word"
+    judge "words without memory" $? 5 "$room/nothing" "no memory"
+}
+
+# Inputs: many rows; the limit, and one byte more; much memory.
+{
+    echo '{"do":"grid","name":"g","x":0,"y":0,"step":1000,"columns":64,"rows":64,"h":4000}'
+    yes '{"do":"settle"}' | head -n 20
+} > "$room/many"
+yes "$(printf '%65535s' '')" | head -n 1024 > "$room/full"
+{ cat "$room/full"; printf ' '; } > "$room/over"
+points=$(seq 1 1023 | sed 's/.*/[&,&],/' | tr -d '\n')
+for number in $(seq 1 100); do
+    echo "{\"do\":\"zone\",\"name\":\"z$number\",\"points\":[${points}[0,1000]],\"g\":50}"
+done > "$room/zones"
+
+if [ $# -eq 0 ]; then
+    set -- crates/noise_map/out/noise_map crates/noise_map/out/noise_map.by-rattle
+fi
+for program in "$@"; do
+    try_examples
+    try_words
+    try_ends
+    try_memory
+done
+echo "program: $passed passed, $failed failed"
+[ "$failed" -eq 0 ]
