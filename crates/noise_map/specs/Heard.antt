@@ -1,6 +1,6 @@
 -- What a receiver hears of one source.
 use Rattle.std.specs.Prelude.{List, [], ◌∷◌, if◌then◌else◌}
-use Rattle.scene_parts.specs.Seen.{Source, Receiver}
+use Rattle.scene_parts.specs.Views.{Source, Receiver}
 use Rattle.scene_book.specs.Book.{Book}
 use Rattle.path_calc.specs.Lengths.{is_within}
 use Rattle.path_calc.specs.Bundles.{Bundle, bundle_of}

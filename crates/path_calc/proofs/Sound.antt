@@ -4,7 +4,7 @@ use Rattle.std.specs.Prelude.{Some, None, fold}
 use Rattle.std.specs.Option.{option_map}
 use Rattle.fix_interval.specs.Tree.{Tree, Const, Add, IsSound}
 use Rattle.energy_sum.specs.Energies.{energy_form}
-use Rattle.scene_parts.specs.Seen.{Source, Receiver, Zone, Globals}
+use Rattle.scene_parts.specs.Views.{Source, Receiver, Zone, Globals}
 use Rattle.scene_book.specs.Book.{Book}
 use Rattle.path_shape.specs.Shape.{plan_length}
 use Rattle.term_ground.proofs.Sound.{ground-sound}

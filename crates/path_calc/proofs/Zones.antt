@@ -2,7 +2,7 @@
 use Rattle.std.proofs.Common.{◌≡◌, ℕ, Bool, true, false, List, [], ◌∷◌, length, map, refl, ap}
 use Rattle.std.specs.Prelude.{cond}
 use Rattle.fix_interval.specs.Tree.{Tree}
-use Rattle.scene_parts.specs.Seen.{Zone}
+use Rattle.scene_parts.specs.Views.{Zone}
 use Rattle.path_shape.specs.declared.path.Path.{Path}
 use Rattle.term_ground.specs.declared.region.Region.{Region}
 use Rattle.term_ground.specs.declared.region.Region.TheVariants.{Source, Middle, Receiver}

@@ -2,7 +2,7 @@
 use Rattle.std.specs.Prelude.{ℕ, ℤ, pos, List, [], ◌∷◌, Option, Some, None, slice_index_or}
 use Rattle.std.specs.Option.{option_map}
 use Rattle.fix_interval.specs.Tree.{Tree, Const, Add, Sub}
-use Rattle.scene_parts.specs.Seen.{Source, Receiver, Zone, Globals}
+use Rattle.scene_parts.specs.Views.{Source, Receiver, Zone, Globals}
 use Rattle.path_shape.specs.Shape.{plan_length}
 use Rattle.term_div_atm.specs.Terms.{divergence, absorption}
 use Rattle.term_ground.specs.Ground.{ground}

@@ -6,7 +6,7 @@ use Rattle.fix_interval.specs.Tree.{Tree, Known, enc}
 use Rattle.energy_sum.specs.Energies.{energy_form}
 use Rattle.scene_geom.specs.declared.band.Band.{Band}
 use Rattle.scene_geom.specs.Bands.{place_of}
-use Rattle.scene_parts.specs.Seen.{Source, Receiver}
+use Rattle.scene_parts.specs.Views.{Source, Receiver}
 use Rattle.scene_book.specs.Book.{Book}
 use Rattle.path_calc.specs.declared.propagation.Propagation.{Propagation}
 use Rattle.path_calc.specs.Absorption.{coefficient_in}

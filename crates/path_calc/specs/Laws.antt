@@ -2,7 +2,7 @@
 use Rattle.std.specs.Prelude.{◌≡◌, map}
 use Rattle.fix_interval.specs.Encloses.{Encloses}
 use Rattle.fix_interval.specs.Tree.{enc}
-use Rattle.scene_parts.specs.Seen.{Source, Receiver, Globals}
+use Rattle.scene_parts.specs.Views.{Source, Receiver, Globals}
 use Rattle.scene_book.specs.Book.{Book}
 use Rattle.scene_geom.specs.declared.band.Band.{Band}
 use Rattle.scene_geom.specs.Bands.{all_bands}

@@ -4,7 +4,7 @@ use Rattle.std.specs.Option.{option_map}
 use Rattle.fix_interval.specs.Interval.{Interval}
 use Rattle.fix_interval.specs.Bounds.{AreBetween}
 use Rattle.fix_interval.specs.Tree.{enc}
-use Rattle.scene_parts.specs.Seen.{Source}
+use Rattle.scene_parts.specs.Views.{Source}
 use Rattle.scene_geom.specs.declared.band.Band.{Band}
 use Rattle.scene_geom.specs.Bands.{all_bands, place_of}
 use Rattle.path_calc.specs.Contributions.{emission_in}

@@ -1,7 +1,7 @@
 -- What a source and a receiver read of the parts of a scene. Beside it they read only what holds of the whole scene.
 -- Parts stand in it by their values, none by its name or its place in a list: so an edit elsewhere leaves it as it is.
 use Rattle.std.specs.Prelude.{List, [], map}
-use Rattle.scene_parts.specs.Seen.{Source, Receiver, Zone}
+use Rattle.scene_parts.specs.Views.{Source, Receiver, Zone}
 use Rattle.scene_book.specs.Book.{Book}
 use Rattle.path_shape.specs.Shape.{direct_path}
 use Rattle.path_shape.specs.declared.path.Path.{Path}

@@ -1,7 +1,7 @@
 //! Laws of bundles and levels. Each function does nothing: its contract is the law.
 
 ghost use Rattle.scene_book.specs.Book.{Book};
-ghost use Rattle.scene_parts.specs.Seen.{Receiver};
+ghost use Rattle.scene_parts.specs.Views.{Receiver};
 ghost use Rattle.path_calc.specs.Laws.{BandsAreEnclosed, LongIsEnclosed, LevelsAreEnclosed};
 ghost use Rattle.path_calc.specs.Laws.{SameBetween};
 

@@ -24,7 +24,7 @@ use Rattle.fix_interval.proofs.Multiplying.{times-mono}
 use Rattle.fix_interval.proofs.Dividing.{quotient_of_ends-positive, ≤ℤ_trans}
 use Rattle.fix_interval.proofs.Spans.{Span, span-of, within-product}
 use Rattle.enclose_exp.proofs.DecayInterval.{exp_neg_of-interval, exp_neg_of-low, exp_neg_of-high}
-use Rattle.scene_parts.specs.Seen.{Zone}
+use Rattle.scene_parts.specs.Views.{Zone}
 use Rattle.path_shape.specs.declared.path.Path.{Path}
 use Rattle.path_shape.proofs.Lengths.{span-between, path-span, path-interval, path-zero-or-more}
 use Rattle.path_shape.specs.Shape.{IsPath}

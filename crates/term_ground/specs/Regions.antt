@@ -1,7 +1,7 @@
 -- The three regions of a path, and the part of each that is porous ground (ISO 9613-2, 7.3.1).
 use Rattle.std.specs.Prelude.{ℕ, ◌+◌, List, map}
 use Rattle.fix_interval.specs.Tree.{Tree, Sub, Mul, Div, Max, Min, Pick}
-use Rattle.scene_parts.specs.Seen.{Zone}
+use Rattle.scene_parts.specs.Views.{Zone}
 use Rattle.path_shape.specs.declared.path.Path.{Path}
 use Rattle.term_ground.specs.declared.region.Region.{Region}
 use Rattle.term_ground.specs.declared.region.Region.TheVariants.{Source, Middle, Receiver}

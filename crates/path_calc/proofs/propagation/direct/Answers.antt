@@ -1,6 +1,6 @@
 use Rattle.std.proofs.Common.{ap, ◌∙◌, map}
 use Rattle.fix_interval.specs.Tree.{Known, enc}
-use Rattle.scene_parts.specs.Seen.{Source, Receiver, Globals}
+use Rattle.scene_parts.specs.Views.{Source, Receiver, Globals}
 use Rattle.path_shape.specs.Shape.{direct_path}
 use Rattle.term_ground.specs.Ground.{ground}
 use Rattle.path_calc.specs.Lengths.{distance}
