@@ -14,9 +14,9 @@ use super::edges::{side_at, side_count};
 use super::faults::PartFault;
 use super::kinds::{Field, Shape};
 use super::limits::{LEAST_DENSITY, LONGEST_SIDE, MOST_CORNERS, WEAK_REFLECTION};
-use super::ranges::plan_point;
 use super::memory::NoMemory;
 use super::outlines::{Outline, RawPt};
+use super::ranges::plan_point;
 use scene_geom::{Pt, Side, area2};
 use std::alloc::Global;
 
