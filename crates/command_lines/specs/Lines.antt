@@ -1,5 +1,5 @@
--- What one line of the input says: a command, or the first fault in the order NotJson, NotObject, Missing and WrongType of
--- `do`, UnknownDo, Missing, WrongType, and the faults of a part.
+-- What one line of the input says: a command, or the first fault in the order NotJson, NotObject, Missing and WrongType
+-- of `do`, UnknownDo, Missing, WrongType, and the faults of a part.
 use Rattle.std.specs.Prelude.{ℕ, List, [], ◌∷◌, is_some, Result, Err, if◌then◌else◌}
 use Rattle.std.specs.Str.{is_utf8}
 use Rattle.serde_json.specs.Data.{Data}

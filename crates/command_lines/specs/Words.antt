@@ -18,10 +18,12 @@ use Rattle.command_lines.specs.Answers.{of_part}
 -- The fields of each word
 
 abbrev pub source_fields : List Entry
-source_fields = needed Name name ∷ needed Kind text ∷ needed X whole ∷ needed Y whole ∷ needed H whole ∷ needed Lw powers ∷ optional Dc whole ∷ []
+source_fields =
+    needed Name name ∷ needed Kind text ∷ needed X whole ∷ needed Y whole ∷ needed H whole ∷ needed Lw powers ∷ optional Dc whole ∷ []
 
 abbrev pub barrier_fields : List Entry
-barrier_fields = needed Name name ∷ needed Points points ∷ needed H whole ∷ needed Density whole ∷ optional Rho whole ∷ []
+barrier_fields =
+    needed Name name ∷ needed Points points ∷ needed H whole ∷ needed Density whole ∷ optional Rho whole ∷ []
 
 abbrev pub building_fields : List Entry
 building_fields = needed Name name ∷ needed Points points ∷ needed H whole ∷ optional Rho whole ∷ []
@@ -33,7 +35,9 @@ abbrev pub receiver_fields : List Entry
 receiver_fields = needed Name name ∷ needed X whole ∷ needed Y whole ∷ needed H whole ∷ []
 
 abbrev pub grid_fields : List Entry
-grid_fields = needed Name name ∷ needed X whole ∷ needed Y whole ∷ needed Step whole ∷ needed Columns whole ∷ needed Rows whole ∷ needed H whole ∷ []
+grid_fields =
+    needed Name name ∷ needed X whole ∷ needed Y whole ∷ needed Step whole ∷ needed Columns whole ∷ needed Rows whole
+    ∷ needed H whole ∷ []
 
 abbrev pub set_fields : List Entry
 set_fields = optional Reach whole ∷ optional G whole ∷ optional Air text ∷ optional C0 whole ∷ []
@@ -45,10 +49,13 @@ remove_fields = needed Name any_name ∷ []
 -- and an absent setting keeps its value
 
 abbrev pub source_in : Data → RawPart
-source_in line = raw.Source (name_at Name line) (text_at Kind line) (whole_at X line) (whole_at Y line) (whole_at H line) (powers_at Lw line) (whole_at Dc line)
+source_in line =
+    raw.Source (name_at Name line) (text_at Kind line) (whole_at X line) (whole_at Y line) (whole_at H line)
+    (powers_at Lw line) (whole_at Dc line)
 
 abbrev pub barrier_in : Data → RawPart
-barrier_in line = raw.Barrier (name_at Name line) (points_at Points line) (whole_at H line) (whole_at Density line) (whole_at Rho line)
+barrier_in line =
+    raw.Barrier (name_at Name line) (points_at Points line) (whole_at H line) (whole_at Density line) (whole_at Rho line)
 
 abbrev pub building_in : Data → RawPart
 building_in line = raw.Building (name_at Name line) (points_at Points line) (whole_at H line) (whole_at Rho line)
@@ -60,10 +67,14 @@ abbrev pub receiver_in : Data → RawPart
 receiver_in line = raw.Receiver (name_at Name line) (whole_at X line) (whole_at Y line) (whole_at H line)
 
 abbrev pub grid_in : Data → RawPart
-grid_in line = raw.Grid (name_at Name line) (whole_at X line) (whole_at Y line) (whole_at Step line) (whole_at Columns line) (whole_at Rows line) (whole_at H line)
+grid_in line =
+    raw.Grid (name_at Name line) (whole_at X line) (whole_at Y line) (whole_at Step line) (whole_at Columns line)
+    (whole_at Rows line) (whole_at H line)
 
 abbrev pub set_in : Data → RawPart
-set_in line = raw.Set (optional_whole_at Reach line) (optional_whole_at G line) (optional_text_at Air line) (optional_whole_at C0 line)
+set_in line =
+    raw.Set (optional_whole_at Reach line) (optional_whole_at G line) (optional_text_at Air line)
+    (optional_whole_at C0 line)
 
 -- What a line gives for its word: Missing, then WrongType, else the part with its fields
 

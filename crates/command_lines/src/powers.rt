@@ -39,7 +39,10 @@ fn eight_powers(
     at_4000: &Value,
     at_8000: &Value,
 ) -> Option<[Option<i64>; 8]>
-    ensures { result ≡ all_of power_of (items_view (at_63.now ∷ at_125.now ∷ at_250.now ∷ at_500.now ∷ at_1000.now ∷ at_2000.now ∷ at_4000.now ∷ at_8000.now ∷ [])) }
+    ensures { result ≡ all_of power_of
+        (items_view
+        (at_63.now ∷ at_125.now ∷ at_250.now ∷ at_500.now
+        ∷ at_1000.now ∷ at_2000.now ∷ at_4000.now ∷ at_8000.now ∷ [])) }
 {
     Some([
         power_in(at_63)?,

@@ -8,7 +8,8 @@ ghost use Rattle.command_lines.specs.Words.{source_of, barrier_of, building_of, 
 use super::commands::Command;
 use super::faults::LineFault;
 use super::fields::{
-    bytes_of, needed, optional_whole, optional_word, part_name, plain_name, points, powers, whole, word,
+    bytes_of, needed, optional_whole, optional_word, part_name, plain_name, points, powers, whole,
+    word,
 };
 use scene_book::Edit;
 use scene_parts::{Field, RawPart, Word, check};

@@ -39,7 +39,7 @@ module _ {A : Type 0} where
     put-step : (b : Bool) (new x : A) (xs : List A)
         → Edited (option_to_list (named name_of (name_of new) xs)) (new ∷ []) xs (put_in name_of new xs)
         → Edited (option_to_list (cond b (Some x) (named name_of (name_of new) xs))) (new ∷ []) (x ∷ xs)
-            (cond b (new ∷ xs) (x ∷ put_in name_of new xs))
+        (cond b (new ∷ xs) (x ∷ put_in name_of new xs))
     put-step true new x xs e = record { before = []; after = xs; was = refl; is = refl }
     put-step false new x xs e = later x (option_to_list (named name_of (name_of new) xs)) (new ∷ []) xs (put_in name_of new xs) e
 
@@ -51,7 +51,7 @@ module _ {A : Type 0} where
     take-step : (b : Bool) (name : List ℕ) (x : A) (xs : List A)
         → Edited (option_to_list (named name_of name xs)) [] xs (take_out name_of name xs)
         → Edited (option_to_list (cond b (Some x) (named name_of name xs))) [] (x ∷ xs)
-            (cond b xs (x ∷ take_out name_of name xs))
+        (cond b xs (x ∷ take_out name_of name xs))
     take-step true name x xs e = record { before = []; after = xs; was = refl; is = refl }
     take-step false name x xs e = later x (option_to_list (named name_of name xs)) [] xs (take_out name_of name xs) e
 
@@ -136,78 +136,78 @@ own_receiver r = r.name
 put-source : (s : Source) (a : Book) (found : Option Source) → named (λ s. s.name) s.name a.sources ≡ found
     → ListsEdited (pieces_of_any (option_map parts.Source found)) (pieces_of (parts.Source s)) a (with_part (parts.Source s) a)
 put-source s a (Some old) e = record {
-      sources = subst (λ found. Edited (option_to_list found) (s ∷ []) a.sources (put_in own_source s a.sources)) e
-          (put-edited own_source s a.sources);
-      obstacles = same a.obstacles;
-      zones = same a.zones;
-      receivers = same a.receivers;
-      globals = refl;
-    }
+  sources = subst (λ found. Edited (option_to_list found) (s ∷ []) a.sources (put_in own_source s a.sources)) e
+      (put-edited own_source s a.sources);
+  obstacles = same a.obstacles;
+  zones = same a.zones;
+  receivers = same a.receivers;
+  globals = refl;
+}
 put-source s a None e = record {
-      sources = subst (λ found. Edited (option_to_list found) (s ∷ []) a.sources (put_in own_source s a.sources)) e
-          (put-edited own_source s a.sources);
-      obstacles = same a.obstacles;
-      zones = same a.zones;
-      receivers = same a.receivers;
-      globals = refl;
-    }
+  sources = subst (λ found. Edited (option_to_list found) (s ∷ []) a.sources (put_in own_source s a.sources)) e
+      (put-edited own_source s a.sources);
+  obstacles = same a.obstacles;
+  zones = same a.zones;
+  receivers = same a.receivers;
+  globals = refl;
+}
 
 put-obstacle : (o : Obstacle) (a : Book) (found : Option Obstacle) → named (λ o. o.name) o.name a.obstacles ≡ found
     → ListsEdited (pieces_of_any (option_map parts.Obstacle found)) (pieces_of (parts.Obstacle o)) a (with_part (parts.Obstacle o) a)
 put-obstacle o a (Some old) e = record {
-      sources = same a.sources;
-      obstacles = subst (λ found. Edited (option_to_list found) (o ∷ []) a.obstacles (put_in own_obstacle o a.obstacles)) e
-          (put-edited own_obstacle o a.obstacles);
-      zones = same a.zones;
-      receivers = same a.receivers;
-      globals = refl;
-    }
+  sources = same a.sources;
+  obstacles = subst (λ found. Edited (option_to_list found) (o ∷ []) a.obstacles (put_in own_obstacle o a.obstacles)) e
+      (put-edited own_obstacle o a.obstacles);
+  zones = same a.zones;
+  receivers = same a.receivers;
+  globals = refl;
+}
 put-obstacle o a None e = record {
-      sources = same a.sources;
-      obstacles = subst (λ found. Edited (option_to_list found) (o ∷ []) a.obstacles (put_in own_obstacle o a.obstacles)) e
-          (put-edited own_obstacle o a.obstacles);
-      zones = same a.zones;
-      receivers = same a.receivers;
-      globals = refl;
-    }
+  sources = same a.sources;
+  obstacles = subst (λ found. Edited (option_to_list found) (o ∷ []) a.obstacles (put_in own_obstacle o a.obstacles)) e
+      (put-edited own_obstacle o a.obstacles);
+  zones = same a.zones;
+  receivers = same a.receivers;
+  globals = refl;
+}
 
 put-zone : (z : Zone) (a : Book) (found : Option Zone) → named (λ z. z.name) z.name a.zones ≡ found
     → ListsEdited (pieces_of_any (option_map parts.Zone found)) (pieces_of (parts.Zone z)) a (with_part (parts.Zone z) a)
 put-zone z a (Some old) e = record {
-      sources = same a.sources;
-      obstacles = same a.obstacles;
-      zones = subst (λ found. Edited (option_to_list found) (z ∷ []) a.zones (put_in own_zone z a.zones)) e
-          (put-edited own_zone z a.zones);
-      receivers = same a.receivers;
-      globals = refl;
-    }
+  sources = same a.sources;
+  obstacles = same a.obstacles;
+  zones = subst (λ found. Edited (option_to_list found) (z ∷ []) a.zones (put_in own_zone z a.zones)) e
+      (put-edited own_zone z a.zones);
+  receivers = same a.receivers;
+  globals = refl;
+}
 put-zone z a None e = record {
-      sources = same a.sources;
-      obstacles = same a.obstacles;
-      zones = subst (λ found. Edited (option_to_list found) (z ∷ []) a.zones (put_in own_zone z a.zones)) e
-          (put-edited own_zone z a.zones);
-      receivers = same a.receivers;
-      globals = refl;
-    }
+  sources = same a.sources;
+  obstacles = same a.obstacles;
+  zones = subst (λ found. Edited (option_to_list found) (z ∷ []) a.zones (put_in own_zone z a.zones)) e
+      (put-edited own_zone z a.zones);
+  receivers = same a.receivers;
+  globals = refl;
+}
 
 put-receiver : (r : Receiver) (a : Book) (found : Option Receiver) → named (λ r. r.name) r.name a.receivers ≡ found
     → ListsEdited (pieces_of_any (option_map parts.Receiver found)) (pieces_of (parts.Receiver r)) a (with_part (parts.Receiver r) a)
 put-receiver r a (Some old) e = record {
-      sources = same a.sources;
-      obstacles = same a.obstacles;
-      zones = same a.zones;
-      receivers = subst (λ found. Edited (option_to_list found) (r ∷ []) a.receivers (put_in own_receiver r a.receivers)) e
-          (put-edited own_receiver r a.receivers);
-      globals = refl;
-    }
+  sources = same a.sources;
+  obstacles = same a.obstacles;
+  zones = same a.zones;
+  receivers = subst (λ found. Edited (option_to_list found) (r ∷ []) a.receivers (put_in own_receiver r a.receivers)) e
+      (put-edited own_receiver r a.receivers);
+  globals = refl;
+}
 put-receiver r a None e = record {
-      sources = same a.sources;
-      obstacles = same a.obstacles;
-      zones = same a.zones;
-      receivers = subst (λ found. Edited (option_to_list found) (r ∷ []) a.receivers (put_in own_receiver r a.receivers)) e
-          (put-edited own_receiver r a.receivers);
-      globals = refl;
-    }
+  sources = same a.sources;
+  obstacles = same a.obstacles;
+  zones = same a.zones;
+  receivers = subst (λ found. Edited (option_to_list found) (r ∷ []) a.receivers (put_in own_receiver r a.receivers)) e
+      (put-edited own_receiver r a.receivers);
+  globals = refl;
+}
 
 put-lists : (part : Part) (a : Book) → ListsEdited (pieces_of_any (replaced part a)) (pieces_of part) a (with_part part a)
 put-lists (parts.Source s) a = put-source s a (named (λ s. s.name) s.name a.sources) refl
@@ -219,9 +219,9 @@ take-lists : (name : List ℕ) (a b : Book) (old : Option Part) (ms : Option Sou
     (mr : Option Receiver) → named (λ s. s.name) name a.sources ≡ ms → named (λ o. o.name) name a.obstacles ≡ mo
     → named (λ z. z.name) name a.zones ≡ mz → named (λ r. r.name) name a.receivers ≡ mr
     → taken name (option_or (option_map parts.Source ms) (option_or (option_map parts.Obstacle mo)
-        (option_or (option_map parts.Zone mz) (option_map parts.Receiver mr)))) a ≡ Ok (b, old)
+    (option_or (option_map parts.Zone mz) (option_map parts.Receiver mr)))) a ≡ Ok (b, old)
     → ListsEdited (pieces_of_any (option_or (option_map parts.Source ms) (option_or (option_map parts.Obstacle mo)
-        (option_or (option_map parts.Zone mz) (option_map parts.Receiver mr))))) no_pieces a b
+    (option_or (option_map parts.Zone mz) (option_map parts.Receiver mr))))) no_pieces a b
 take-lists name a b old (Some s) mo mz mr es eo ez er h =
     subst (ListsEdited (pieces_of (parts.Source s)) no_pieces a) (result-first _ (b, old) h) (record {
       sources = subst (λ found. Edited (option_to_list found) [] a.sources (take_out own_source name a.sources)) es

@@ -111,7 +111,7 @@ same_digits (c ∷ ds) [] xs ys d e h =
     absurd (no_slash c (ap first_of h) (left (is_ascii_digit c) (all_ascii_digits ds) d))
 same_digits (c ∷ ds) (b ∷ es) xs ys d e h =
     let rest = same_digits ds es xs ys (right (is_ascii_digit c) (all_ascii_digits ds) d)
-        (right (is_ascii_digit b) (all_ascii_digits es) e) (ap tail_of h) in
+    (right (is_ascii_digit b) (all_ascii_digits es) e) (ap tail_of h) in
     (ap (λ x. x ∷ ds) (ap first_of h) ∙ ap (λ (l : List ℕ). b ∷ l) rest.0, rest.1)
 
 grouped : (name : List ℕ) (row column : ℕ)
@@ -124,9 +124,9 @@ same_place : (name : List ℕ) (r c q b : ℕ) → r < 4096 → c < 4096 → q <
     → name_in name r c ≡ name_in name q b → (c ≡ b) × (r ≡ q)
 same_place name r c q b r_few c_few q_few b_few h =
     let behind = append_cancel_left (name ++ 47 ∷ []) (decimal c ++ 47 ∷ decimal r) (decimal b ++ 47 ∷ decimal q)
-        (sym (grouped name r c) ∙ h ∙ grouped name q b) in
+    (sym (grouped name r c) ∙ h ∙ grouped name q b) in
     let both = same_digits (decimal c) (decimal b) (decimal r) (decimal q)
-        (digits_decimal own c (omega arith)) (digits_decimal own b (omega arith)) behind in
+    (digits_decimal own c (omega arith)) (digits_decimal own b (omega arith)) behind in
     (decimal_injective c b (omega arith) (omega arith) both.0, decimal_injective r q (omega arith) (omega arith) both.1)
 
 unlike : (name : List ℕ) (r c q b : ℕ) → r < 4096 → c < 4096 → q < 4096 → b < 4096 → (r ≡ q → c ≡ b → ⊥)
@@ -147,9 +147,10 @@ none-append name (x ∷ xs) ys h k = (h.0, none-append name xs ys h.1 k)
 not_in_row : (grid : Grid) (r c q b count : ℕ) → r < 4096 → c < 4096 → q < 4096 → b + count ≤ 4096 → (r ≡ q → c < b)
     → NoneNamed (λ r. r.name) (name_in grid.name r c) (columns_from grid q b count)
 not_in_row grid r c q b zero r_few c_few q_few few before = tt
-not_in_row grid r c q b (suc count) r_few c_few q_few few before =
-    (unlike grid.name r c q b r_few c_few q_few (omega arith) (λ e f. absurd (omega (arith, before e, f))),
-    not_in_row grid r c q (suc b) count r_few c_few q_few (omega arith) (λ e. omega (arith, before e)))
+not_in_row grid r c q b (suc count) r_few c_few q_few few before = (
+  unlike grid.name r c q b r_few c_few q_few (omega arith) (λ e f. absurd (omega (arith, before e, f))),
+  not_in_row grid r c q (suc b) count r_few c_few q_few (omega arith) (λ e. omega (arith, before e)),
+)
 
 not_in_rows : (grid : Grid) (r c q count : ℕ) → c < 4096 → r < q → q + count ≤ 4096 → grid.columns ≤ 4096
     → NoneNamed (λ r. r.name) (name_in grid.name r c) (rows_from grid q count)
@@ -163,11 +164,12 @@ row-apart : (grid : Grid) (r b count : ℕ) (rest : List Receiver) → r < 4096 
     → AreApart (λ r. r.name) rest → ((c : ℕ) → c < 4096 → NoneNamed (λ r. r.name) (name_in grid.name r c) rest)
     → AreApart (λ r. r.name) (columns_from grid r b count ++ rest)
 row-apart grid r b zero rest r_few few apart none = apart
-row-apart grid r b (suc count) rest r_few few apart none =
-    (none-append (name_in grid.name r b) (columns_from grid r (suc b) count) rest
-    (not_in_row grid r b r (suc b) count r_few (omega arith) r_few (omega arith) (λ e. omega arith))
-    (none b (omega arith)),
-    row-apart grid r (suc b) count rest r_few (omega arith) apart none)
+row-apart grid r b (suc count) rest r_few few apart none = (
+  none-append (name_in grid.name r b) (columns_from grid r (suc b) count) rest
+      (not_in_row grid r b r (suc b) count r_few (omega arith) r_few (omega arith) (λ e. omega arith))
+      (none b (omega arith)),
+  row-apart grid r (suc b) count rest r_few (omega arith) apart none,
+)
 
 pub rows-apart : (grid : Grid) (r count : ℕ) → r + count ≤ 4096 → grid.columns ≤ 4096
     → AreApart (λ r. r.name) (rows_from grid r count)

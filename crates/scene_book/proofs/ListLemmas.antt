@@ -157,11 +157,11 @@ module _ {A : Type 0} (name_of : A → List ℕ) where
       → length (put_all name_of news xs) ≡ length xs + absent news xs
   length-put_all [] xs h = omega arith
   length-put_all (new ∷ news) xs h = omega (
-      arith,
-      length-put_all news (put_in name_of new xs) h.1,
-      still-absent news new xs h.0,
-      length_put_in new xs,
-    )
+    arith,
+    length-put_all news (put_in name_of new xs) h.1,
+    still-absent news new xs h.0,
+    length_put_in new xs,
+  )
 
   pub absent-step : (news xs : List A) (i : ℕ) (d : A) → i < length news
       → absent (drop i news) xs

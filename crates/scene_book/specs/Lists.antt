@@ -8,12 +8,14 @@ named name_of name things = find (λ thing. bytes_eq name (name_of thing)) thing
 -- a thing put in: in the place of the one of its name, else at the end
 abbrev pub put_in : {A : Type 0} → (A → List ℕ) → A → List A → List A
 put_in name_of new [] = new ∷ []
-put_in name_of new (thing ∷ things) = if bytes_eq (name_of new) (name_of thing) then new ∷ things else thing ∷ put_in name_of new things
+put_in name_of new (thing ∷ things) =
+    if bytes_eq (name_of new) (name_of thing) then new ∷ things else thing ∷ put_in name_of new things
 
 -- the first thing of a name taken out; the others close up
 abbrev pub take_out : {A : Type 0} → (A → List ℕ) → List ℕ → List A → List A
 take_out name_of name [] = []
-take_out name_of name (thing ∷ things) = if bytes_eq name (name_of thing) then things else thing ∷ take_out name_of name things
+take_out name_of name (thing ∷ things) =
+    if bytes_eq name (name_of thing) then things else thing ∷ take_out name_of name things
 
 -- things put in one after another
 abbrev pub put_all : {A : Type 0} → (A → List ℕ) → List A → List A → List A

@@ -16,9 +16,7 @@ impl Scene {
     /// grid puts its receivers row by row. A refused edit changes nothing, nor does want of memory.
     #[tactic(auto, unfolding(crate::specs::Applying::apply_of))]
     pub fn apply(&mut self, alloc: Global, edit: &Edit) -> Result<Option<Part>, EditFault>
-        ensures value {
-            MatchesUnlessMemory lacks_memory (beside self.new result) (apply_of edit.now self.old)
-        }
+        ensures value { MatchesUnlessMemory lacks_memory (beside self.new result) (apply_of edit.now self.old) }
         ensures unchanged { OnErr result (self.new ≡ self.old) }
     {
         match edit {
@@ -34,9 +32,7 @@ impl Scene {
 
     #[tactic(auto, unfolding(crate::specs::Applying::put_of))]
     fn apply_put(&mut self, alloc: Global, part: &Part) -> Result<Option<Part>, EditFault>
-        ensures value {
-            MatchesUnlessMemory lacks_memory (beside self.new result) (put_of part.now self.old)
-        }
+        ensures value { MatchesUnlessMemory lacks_memory (beside self.new result) (put_of part.now self.old) }
         ensures unchanged { OnErr result (self.new ≡ self.old) }
     {
         self.own_class(part_name(part), part_class(part))?;
@@ -45,9 +41,7 @@ impl Scene {
 
     #[tactic(auto, unfolding(crate::specs::Applying::remove_of))]
     fn apply_remove(&mut self, name: &Name) -> Result<Option<Part>, EditFault>
-        ensures value {
-            MatchesUnlessMemory lacks_memory (beside self.new result) (remove_of name.now self.old)
-        }
+        ensures value { MatchesUnlessMemory lacks_memory (beside self.new result) (remove_of name.now self.old) }
         ensures unchanged { OnErr result (self.new ≡ self.old) }
     {
         match self.take(name.items()) {
@@ -60,9 +54,7 @@ impl Scene {
 
     #[tactic(auto, unfolding(crate::specs::Applying::grid_of, crate::specs::Applying::put_receivers))]
     fn apply_grid(&mut self, alloc: Global, grid: &GridSpec) -> Result<Option<Part>, EditFault>
-        ensures value {
-            MatchesUnlessMemory lacks_memory (beside self.new result) (grid_of grid.now self.old)
-        }
+        ensures value { MatchesUnlessMemory lacks_memory (beside self.new result) (grid_of grid.now self.old) }
         ensures unchanged { OnErr result (self.new ≡ self.old) }
     {
         at_most(Class::Receiver, MOST_RECEIVERS, count(grid))?;
@@ -84,10 +76,8 @@ impl Scene {
 
     /// No part of another class bears a name, or `OtherClass`.
     fn own_class(&self, name: &Name, class: Class) -> Result<(), EditFault>
-        ensures {
-            MatchesUnlessMemory lacks_memory result
-                (own_class_of name.now class (holder self.now name.now))
-        }
+        ensures { MatchesUnlessMemory lacks_memory result
+            (own_class_of name.now class (holder self.now name.now)) }
     {
         match self.class_of_name(name.items()) {
             None => Ok(()),

@@ -30,10 +30,7 @@ pub(crate) fn filed<T: Named>(alloc: Global, things: Vec<T>) -> Result<Vec<(Vec<
 }
 
 /// Inserts entries one after another where there is room for all: this needs no memory.
-pub(crate) fn insert_all<T: Named>(
-    things: &mut IndexMap<Vec<u8>, T>,
-    entries: Vec<(Vec<u8>, T)>,
-)
+pub(crate) fn insert_all<T: Named>(things: &mut IndexMap<Vec<u8>, T>, entries: Vec<(Vec<u8>, T)>)
     requires room { length entries.items ≤ spare things.old }
     requires unique { IsUnique same_key things.old }
     ensures entries { things.new.entries ≡ insert_all_of same_key things.old.entries entries.items }

@@ -31,10 +31,9 @@ fn add_row(
     receivers: &mut Vec<Receiver>,
 ) -> Result<(), NoMemory>
     requires { row < grid.now.rows }
-    ensures {
-        OnOk result
-            (receivers.new.items ≡ receivers.old.items ++ columns_from grid.now row 0 grid.now.columns)
-    }
+    ensures { OnOk result
+        (receivers.new.items
+        ≡ receivers.old.items ++ columns_from grid.now row 0 grid.now.columns) }
 {
     for column in 0..grid.columns {
         let receiver = receiver(alloc, grid, row, column)?;

@@ -85,9 +85,7 @@ impl<T: Named> Register<T> {
 
     /// Whether there are few enough once a thing is put, else `Full`.
     pub fn check_room(&self, new: &T) -> Result<(), EditFault>
-        ensures value {
-            result ≡ at_most_of T.CLASS T.MOST (length (put_in T.name_of new.now self.now))
-        }
+        ensures value { result ≡ at_most_of T.CLASS T.MOST (length (put_in T.name_of new.now self.now)) }
         ensures room { OnOk result (length (put_in T.name_of new.now self.now) ≤ T.MOST) }
     {
         at_most(T::CLASS, T::MOST, self.len_with(new))
@@ -97,9 +95,7 @@ impl<T: Named> Register<T> {
     pub fn check_room_for_all(&self, news: &[T]) -> Result<(), EditFault>
         requires apart { AreApart T.name_of news.now }
         requires few { length news.now < 2 ^ 63 }
-        ensures value {
-            result ≡ at_most_of T.CLASS T.MOST (length (put_all T.name_of news.now self.now))
-        }
+        ensures value { result ≡ at_most_of T.CLASS T.MOST (length (put_all T.name_of news.now self.now)) }
         ensures room { OnOk result (length (put_all T.name_of news.now self.now) ≤ T.MOST) }
     {
         at_most(T::CLASS, T::MOST, self.len_with_all(news))

@@ -10,7 +10,8 @@ use super::limits::{MOST_SIDES, at_most};
 use super::register::{Named, Register};
 use scene_parts::limits::FARTHEST_REACH;
 use scene_parts::{
-    Air, Class, Globals, NoMemory, Obstacle, Part, PointSource, Receiver, SetSpec, Shape, Zone, sides,
+    Air, Class, Globals, NoMemory, Obstacle, Part, PointSource, Receiver, SetSpec, Shape, Zone,
+    sides,
 };
 use std::alloc::Global;
 use std::marker::Model;
@@ -151,9 +152,8 @@ impl Scene {
     /// Puts a copy of a part where its class has room, and gives the one that it replaces.
     #[tactic(auto, unfolding(crate::specs::Applying::put_where_room))]
     pub(crate) fn put(&mut self, alloc: Global, part: &Part) -> Result<Option<Part>, EditFault>
-        ensures value {
-            MatchesUnlessMemory lacks_memory (beside self.new result) (put_where_room part.now self.old)
-        }
+        ensures value { MatchesUnlessMemory lacks_memory (beside self.new result)
+            (put_where_room part.now self.old) }
         ensures unchanged { OnErr result (self.new ≡ self.old) }
     {
         match part {
@@ -188,9 +188,8 @@ impl Scene {
         news: Vec<Receiver>,
     ) -> Result<(), EditFault>
         requires { AreApart (λ r. r.name) news.items }
-        ensures value {
-            MatchesUnlessMemory lacks_memory (beside self.new result) (put_receivers_of news.items self.old)
-        }
+        ensures value { MatchesUnlessMemory lacks_memory (beside self.new result)
+            (put_receivers_of news.items self.old) }
         ensures unchanged { OnErr result (self.new ≡ self.old) }
     {
         self.receivers.check_room_for_all(&news)?;

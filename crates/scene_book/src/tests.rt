@@ -119,7 +119,10 @@ fn edits_in_a_row(rt: HostRuntime) -> Result<(), Fail> {
         put(&mut scene, alloc, grid(alloc, 64, 64)?),
         EditOutcome::Full(Class::Receiver, 4096)
     );
-    assert_eq!(rt; put(&mut scene, alloc, grid(alloc, 2, 2)?), EditOutcome::New);
+    assert_eq!(rt;
+        put(&mut scene, alloc, grid(alloc, 2, 2)?),
+        EditOutcome::New
+    );
     let copy = scene.copy(alloc)?;
     let [a, b, first, second, ..] = copy.receivers() else {
         return Err("too few receivers".into());
@@ -163,17 +166,26 @@ fn copies_and_settings(rt: HostRuntime) -> Result<(), Fail> {
         c0: Some(1000),
     };
     assert_eq!(rt; put(&mut scene, alloc, zone), EditOutcome::New);
-    assert_eq!(rt; put(&mut scene, alloc, receiver(alloc, b"a", 7)?), EditOutcome::New);
+    assert_eq!(rt;
+        put(&mut scene, alloc, receiver(alloc, b"a", 7)?),
+        EditOutcome::New
+    );
     assert_eq!(rt; put(&mut scene, alloc, setting), EditOutcome::New);
     let copy = scene.copy(alloc)?;
     let gone = Name::from_vec(b"z".to_vec(alloc)?);
-    assert_eq!(rt; applied(&mut scene, alloc, Edit::Remove(gone)), EditOutcome::Replaced);
+    assert_eq!(rt;
+        applied(&mut scene, alloc, Edit::Remove(gone)),
+        EditOutcome::Replaced
+    );
     assert_eq!(rt; scene.zones().len(), 0);
     let ([zone], [receiver]) = (copy.zones(), copy.receivers()) else {
         return Err("not the parts of the scene".into());
     };
     assert_eq!(rt; zone.g, 100);
     assert_eq!(rt; receiver.at.x, 7);
-    assert_eq!(rt; (copy.globals().reach, copy.globals().g, copy.globals().c0), (4_000_000, 50, 1000));
+    assert_eq!(rt;
+        (copy.globals().reach, copy.globals().g, copy.globals().c0),
+        (4_000_000, 50, 1000)
+    );
     Ok(())
 }

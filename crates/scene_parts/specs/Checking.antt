@@ -106,7 +106,9 @@ check_outline shape corners =
 -- SideTooLong: the first side that is longer than 262,143 mm, in_range from a number
 abbrev pub check_sides_from : ℕ → List Side → Result (Unit {0}) PartFault
 check_sides_from i [] = Ok tt
-check_sides_from i (side ∷ sides) = if is_short side then check_sides_from (i + 1) sides else Err (SideTooLong i (floor_root (squared_length side)))
+check_sides_from i (side ∷ sides) =
+    if is_short side then check_sides_from (i + 1) sides
+    else Err (SideTooLong i (floor_root (squared_length side)))
 
 -- WeakMirror
 abbrev pub check_reflection : ℕ → Result (Unit {0}) PartFault
@@ -184,10 +186,14 @@ setting_of reach g air c0 = do
 
 -- the first fault of a line's part in the order of its tests, or the part, the grid or the setting
 unfoldable pub check_of : RawPart → Result Checked PartFault
-check_of (raw.Source name kind x y h lw dc) = source_of name kind x y h lw dc >>= λ source. Ok (checked.Part (parts.Source source))
-check_of (raw.Barrier name points h density rho) = barrier_of name points h density rho >>= λ barrier. Ok (checked.Part (parts.Obstacle barrier))
-check_of (raw.Building name points h rho) = building_of name points h rho >>= λ building. Ok (checked.Part (parts.Obstacle building))
+check_of (raw.Source name kind x y h lw dc) =
+    source_of name kind x y h lw dc >>= λ source. Ok (checked.Part (parts.Source source))
+check_of (raw.Barrier name points h density rho) =
+    barrier_of name points h density rho >>= λ barrier. Ok (checked.Part (parts.Obstacle barrier))
+check_of (raw.Building name points h rho) =
+    building_of name points h rho >>= λ building. Ok (checked.Part (parts.Obstacle building))
 check_of (raw.Zone name points g) = zone_of name points g >>= λ zone. Ok (checked.Part (parts.Zone zone))
 check_of (raw.Receiver name x y h) = receiver_of name x y h >>= λ receiver. Ok (checked.Part (parts.Receiver receiver))
-check_of (raw.Grid name x y step columns rows h) = grid_of name x y step columns rows h >>= λ grid. Ok (checked.Grid grid)
+check_of (raw.Grid name x y step columns rows h) =
+    grid_of name x y step columns rows h >>= λ grid. Ok (checked.Grid grid)
 check_of (raw.Set reach g air c0) = setting_of reach g air c0 >>= λ setting. Ok (checked.Set setting)

@@ -27,7 +27,8 @@ fn eight_powers(
     at_4000: Option<i64>,
     at_8000: Option<i64>,
 ) -> Result<[Option<i32>; 8], PartFault>
-    ensures value { result ≡ each power_of (at_63 ∷ at_125 ∷ at_250 ∷ at_500 ∷ at_1000 ∷ at_2000 ∷ at_4000 ∷ at_8000 ∷ []) }
+    ensures value { result ≡ each power_of
+        (at_63 ∷ at_125 ∷ at_250 ∷ at_500 ∷ at_1000 ∷ at_2000 ∷ at_4000 ∷ at_8000 ∷ []) }
     ensures range { IfOk result (λ powers. IsTrue (list_all is_power powers)) }
 {
     Ok([

@@ -188,13 +188,7 @@ fn zone(alloc: Global, places: &[(i64, i64)], g: i64) -> Result<Answer, AllocErr
     Ok(outcome(alloc, raw))
 }
 
-fn setting(
-    alloc: Global,
-    reach: i64,
-    g: i64,
-    air: &[u8],
-    c0: i64,
-) -> Result<Answer, AllocError> {
+fn setting(alloc: Global, reach: i64, g: i64, air: &[u8], c0: i64) -> Result<Answer, AllocError> {
     let raw = RawPart::Set {
         reach: Some(reach),
         g: Some(g),
@@ -215,14 +209,35 @@ fn zones_and_settings(rt: HostRuntime) -> Result<(), Fail> {
     assert_eq!(rt; zone(alloc, &line, 0)?, Answer::Few(2));
     assert_eq!(rt; barrier(alloc, &line, 100_000, 0)?, Answer::Accepted);
     assert_eq!(rt; barrier(alloc, &line, 0, 0)?, Answer::Light(0));
-    assert_eq!(rt; barrier(alloc, &line, -1, 0)?, Answer::Outside(Field::Density, -1));
-    assert_eq!(rt; setting(alloc, 4_000_000, 100, b"15/80", 1000)?, Answer::Accepted);
+    assert_eq!(rt;
+        barrier(alloc, &line, -1, 0)?,
+        Answer::Outside(Field::Density, -1)
+    );
+    assert_eq!(rt;
+        setting(alloc, 4_000_000, 100, b"15/80", 1000)?,
+        Answer::Accepted
+    );
     assert_eq!(rt; setting(alloc, 1, 0, b"10/70", 0)?, Answer::Accepted);
-    assert_eq!(rt; setting(alloc, 4_000_001, 101, b"", 1001)?, Answer::Outside(Field::Reach, 4_000_001));
-    assert_eq!(rt; setting(alloc, 0, 0, b"", 0)?, Answer::Outside(Field::Reach, 0));
-    assert_eq!(rt; setting(alloc, 1, 101, b"", 1001)?, Answer::Outside(Field::G, 101));
-    assert_eq!(rt; setting(alloc, 1, 0, b"25/70", 1001)?, Answer::Outside(Field::C0, 1001));
-    assert_eq!(rt; setting(alloc, 1, 0, b"25/70", -1)?, Answer::Outside(Field::C0, -1));
+    assert_eq!(rt;
+        setting(alloc, 4_000_001, 101, b"", 1001)?,
+        Answer::Outside(Field::Reach, 4_000_001)
+    );
+    assert_eq!(rt;
+        setting(alloc, 0, 0, b"", 0)?,
+        Answer::Outside(Field::Reach, 0)
+    );
+    assert_eq!(rt;
+        setting(alloc, 1, 101, b"", 1001)?,
+        Answer::Outside(Field::G, 101)
+    );
+    assert_eq!(rt;
+        setting(alloc, 1, 0, b"25/70", 1001)?,
+        Answer::Outside(Field::C0, 1001)
+    );
+    assert_eq!(rt;
+        setting(alloc, 1, 0, b"25/70", -1)?,
+        Answer::Outside(Field::C0, -1)
+    );
     assert_eq!(rt; setting(alloc, 1, 0, b"25/70", 0)?, Answer::Unknown);
     Ok(())
 }
