@@ -14,8 +14,8 @@ use Rattle.fix_interval.proofs.Ratios.{ratio_of-one, ratio_of-small}
 use Rattle.fix_interval.proofs.Multiplying.{end_of-small}
 use Rattle.energy_sum.specs.Sums.{units_of}
 use Rattle.path_calc.specs.Energies.{sum_form}
-use Rattle.path_calc.specs.Bundles.{IsEnergy}
-use Rattle.path_calc.specs.Ranges.{IsSumOf}
+use Rattle.path_calc.specs.Bundles.{IsEnergy, energy_limit, few_bundles}
+use Rattle.path_calc.specs.Ranges.{IsSumOf, sound_limit}
 
 -- ---- nothing added
 
@@ -75,7 +75,7 @@ nothing-and-energy e is = nothing-and e (are-small _ _ e is (omega (arith, ints)
 pub no-sum : (count : ℕ) → IsSumOf count (ratio_of (pos 0) 1)
 no-sum count = rw nothing-is (record { lo = (omega (arith, ints), omega (arith, ints)); hi = (omega (arith, ints), omega (arith, ints)) })
 
-sum-bounded : (m n : ℕ) (x y : Option ℤ) → m + n < 2 ^ 18 → IsBetween (pos 0) (pos (m * 2 ^ 96)) x → IsBetween (pos 0) (pos (n * 2 ^ 96)) y → IsBetween (pos 0) (pos ((m + n) * 2 ^ 96)) (sum_of_ends x y)
+sum-bounded : (m n : ℕ) (x y : Option ℤ) → m + n < 2 ^ 18 → IsBetween (pos 0) (pos (m * sound_limit)) x → IsBetween (pos 0) (pos (n * sound_limit)) y → IsBetween (pos 0) (pos ((m + n) * sound_limit)) (sum_of_ends x y)
 sum-bounded m n None y few p q = absurd p
 sum-bounded m n (Some x) None few p q = absurd q
 sum-bounded m n (Some x) (Some y) few p q =
@@ -86,11 +86,11 @@ pub sums-added : (a b : Interval) (m n : ℕ) → m + n < 2 ^ 18 → IsSumOf m a
 unfolding add_of
 sums-added a b m n few p q = record { lo = sum-bounded m n a.lo b.lo few p.lo q.lo; hi = sum-bounded m n a.hi b.hi few p.hi q.hi }
 
-not-negative : (count : ℕ) (end : Option ℤ) → IsBetween (pos 0) (pos (count * 2 ^ 96)) end → IsSomeAnd end (λ z. pos 0 ≤ℤ z)
+not-negative : (count : ℕ) (end : Option ℤ) → IsBetween (pos 0) (pos (count * sound_limit)) end → IsSomeAnd end (λ z. pos 0 ≤ℤ z)
 not-negative count None p = absurd p
 not-negative count (Some z) p = p.0
 
-limited : (count : ℕ) (end : Option ℤ) → count < 2 ^ 18 → IsBetween (pos 0) (pos (count * 2 ^ 96)) end → IsSomeAnd end (λ z. (pos 0 ≤ℤ z) × (z <ℤ pos (2 ^ 114)))
+limited : (count : ℕ) (end : Option ℤ) → count < 2 ^ 18 → IsBetween (pos 0) (pos (count * sound_limit)) end → IsSomeAnd end (λ z. (pos 0 ≤ℤ z) × (z <ℤ pos (energy_limit)))
 limited count None few p = absurd p
 limited count (Some z) few p = (p.0, omega (arith, ints, p.1, few))
 
@@ -142,14 +142,14 @@ units-added None y = omega arith
 units-added (Some x) None = omega arith
 units-added (Some x) (Some y) = end-units-by (is_small (x +ℤ y)) (x +ℤ y) (unsigned_abs x + unsigned_abs y) (abs-sum x y)
 
-units-below : (end : Option ℤ) → IsSomeAnd end (λ z. (pos 0 ≤ℤ z) × (z <ℤ pos (2 ^ 114))) → units_of end < 2 ^ 114
+units-below : (end : Option ℤ) → IsSomeAnd end (λ z. (pos 0 ≤ℤ z) × (z <ℤ pos (energy_limit))) → units_of end < energy_limit
 units-below None p = absurd p
 units-below (Some (pos n)) p = omega (arith, ints, p.1)
 units-below (Some (negsuc n)) p = absurd (omega (arith, ints, p.0))
 
 -- how much a sum of so many energies may be
 pub record IsCounted {X : Type 0} (f : X → Interval) (xs : List X) (count : ℕ) (sum : Interval) : Type 0 where
-  pub each : units_of sum.hi ≤ count * (2 ^ 114 - 1)
+  pub each : units_of sum.hi ≤ count * (energy_limit - 1)
   pub items : units_of sum.hi ≤ sum_by (λ x. units_of (f x).hi) (take count xs)
 
 pub none-counted : {X : Type 0} (f : X → Interval) (xs : List X) → IsCounted f xs 0 (ratio_of (pos 0) 1)
@@ -165,7 +165,7 @@ one-counted f xs i x before after e below item is e-is energy after-is =
           omega (arith, units-added before.hi e.hi, is.items, value));
     })
 
-pub room : {X : Type 0} (f : X → Interval) (xs : List X) (i : ℕ) (x : X) (before e : Interval) → i < length xs → x ≡ get_or xs i x → IsCounted f xs i before → e ≡ f x → IsEnergy e → (length xs ≤ 4096) ⊎ (sum_by (λ x. units_of (f x).hi) xs < 2 ^ 126) → units_of before.hi + units_of e.hi < 2 ^ 126
+pub room : {X : Type 0} (f : X → Interval) (xs : List X) (i : ℕ) (x : X) (before e : Interval) → i < length xs → x ≡ get_or xs i x → IsCounted f xs i before → e ≡ f x → IsEnergy e → (length xs ≤ few_bundles) ⊎ (sum_by (λ x. units_of (f x).hi) xs < 2 ^ 126) → units_of before.hi + units_of e.hi < 2 ^ 126
 room f xs i x before e below item is e-is energy (inl few) = omega (arith, units-below e.hi energy.high, is.each, below, few)
 room f xs i x before e below item is e-is energy (inr fits) =
     let value : units_of e.hi ≡ units_of (f (get_or xs i x)).hi = ap (λ (j : Interval). units_of j.hi) e-is ∙ ap (λ y. units_of (f y).hi) item in

@@ -34,10 +34,14 @@ bundle_over globals around s r = record {
 abbrev pub bundle_of : Book → Source → Receiver → Bundle
 bundle_of book s r = bundle_over book.globals (surroundings_of book s r) s r
 
--- an energy isn't below 0, and is below 2^114 units of 2^-32
+-- every energy of a bundle is below this, in units of 2^-32
+abbrev pub energy_limit : ℕ
+energy_limit = 2 ^ 114
+
+-- an energy isn't below 0, and is below the limit
 pub record IsEnergy (e : Interval) : Type 0 where
   pub low : IsSomeAnd e.lo (λ z. pos 0 ≤ℤ z)
-  pub high : IsSomeAnd e.hi (λ z. (pos 0 ≤ℤ z) × (z <ℤ pos (2 ^ 114)))
+  pub high : IsSomeAnd e.hi (λ z. (pos 0 ≤ℤ z) × (z <ℤ pos energy_limit))
 
 -- what every bundle keeps
 pub record IsBundle (bundle : Bundle) : Type 0 where
@@ -54,6 +58,10 @@ pub record HighEndsFit (bundles : List Bundle) : Type 0 where
   pub bands : (band : Band) → sum_by (λ bundle. units_of (energy_in band bundle).hi) bundles < 2 ^ 126
   pub long : sum_by (λ bundle. units_of bundle.long.hi) bundles < 2 ^ 126
 
--- so few bundles that their energies can be added whatever they are, or energies that can be added
+-- so many bundles can be added whatever their energies are
+abbrev pub few_bundles : ℕ
+few_bundles = 4096
+
+-- bundles that can be added: a few, or such as have energies that fit
 abbrev pub CanBeAdded : List Bundle → Type 0
-CanBeAdded bundles = (length bundles ≤ 4096) ⊎ HighEndsFit bundles
+CanBeAdded bundles = (length bundles ≤ few_bundles) ⊎ HighEndsFit bundles

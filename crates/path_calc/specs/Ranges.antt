@@ -44,6 +44,10 @@ IsAtReceiver level = AreBetween (neg_ℤ (pos (2 ^ 60))) (pos (185 * 2 ^ 32)) le
 abbrev pub IsHearable : Interval → Type 0
 IsHearable level = AreBetween (neg_ℤ (pos (2 ^ 61))) (pos (189 * 2 ^ 32)) level
 
--- the sum of the energies of so many sounds, each at most 2^96 units of 2^-32
+-- the greatest energy of a sound, in units of 2^-32
+abbrev pub sound_limit : ℕ
+sound_limit = 2 ^ 96
+
+-- the sum of the energies of so many sounds
 abbrev pub IsSumOf : ℕ → Interval → Type 0
-IsSumOf count e = AreBetween (pos 0) (pos (count * 2 ^ 96)) e
+IsSumOf count e = AreBetween (pos 0) (pos (count * sound_limit)) e
