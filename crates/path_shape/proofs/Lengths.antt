@@ -1,6 +1,6 @@
 -- The plan length of a path isn't negative, and is bounded; its ends are close.
-use Rattle.std.proofs.Common.{refl, zero, suc, ◌+◌, ◌-◌, ◌/◌, ◌%◌, ◌≤ℤ◌, ◌≡◌, ℕ, ◌*◌, ◌<◌, ◌≤◌, ◌^◌, ℤ, pos, ◌+ℤ◌, ◌*ℤ◌, unsigned_abs, sym, ap, ◌∙◌, subst, arith, inl, inr, false}
-use Rattle.std.specs.Prelude.{Some, IsSomeAnd, ◌⊎◌, int_lt, min}
+use Rattle.std.proofs.Common.{refl, zero, suc, ◌+◌, ◌/◌, ◌≡◌, ℕ, ◌*◌, ◌<◌, ◌≤◌, ◌^◌, ℤ, pos, ◌*ℤ◌, unsigned_abs, sym, ap, ◌∙◌, subst, arith, inl, inr, false}
+use Rattle.std.specs.Prelude.{Some, ◌⊎◌, int_lt}
 use Rattle.std.specs.Int.{div_ceil}
 use Rattle.std.proofs.lemmas.Grind.{div_ceil_times}
 use Rattle.std.proofs.lemmas.Int.{ints}
@@ -9,11 +9,11 @@ use Rattle.std.proofs.lemmas.Bool.{cases_lt}
 use Rattle.fix_interval.specs.Units.{unit, unit-is}
 use Rattle.fix_interval.specs.Interval.{Interval, IsInterval}
 use Rattle.fix_interval.specs.Round.{ceil_of, floor_root, ceil_root}
-use Rattle.fix_interval.specs.Values.{ratio_of, root_of, low_radicand, root_of_high, is_below_zero}
+use Rattle.fix_interval.specs.Values.{ratio_of, root_of, low_radicand, root_of_high}
 use Rattle.fix_interval.specs.Tree.{Const, Root, enc}
 use Rattle.fix_interval.proofs.Ratios.{ratio_of-small, IsInterval-Const}
 use Rattle.fix_interval.proofs.Rounding.{ceil_of-pos}
-use Rattle.fix_interval.proofs.Rooting.{floor_root-below, floor_root-above, ceil_root-le, floor_root-le-ceil_root, floor_root-mono, high_root_is, root_of-roots, IsInterval-roots, IsInterval-root_of}
+use Rattle.fix_interval.proofs.Rooting.{floor_root-below, floor_root-above, ceil_root-le, floor_root-le-ceil_root, floor_root-mono, high_root_is, root_of-roots, IsInterval-root_of}
 use Rattle.fix_interval.specs.Bounds.{AreBetween}
 use Rattle.fix_interval.proofs.Dividing.{≤ℤ_trans}
 use Rattle.fix_interval.proofs.Spans.{Span, units-is}
@@ -25,8 +25,7 @@ use Rattle.scene_geom.specs.Reflection.{CanReflect, squared_length, off_wall, al
 use Rattle.scene_geom.proofs.Walls.{unfolded-fits, over-n}
 use Rattle.path_shape.specs.declared.legs.Legs.{Legs}
 use Rattle.path_shape.specs.declared.legs.Legs.TheVariants.{One, Two}
-use Rattle.path_shape.specs.declared.path.Path.{Path}
-use Rattle.path_shape.specs.Shape.{squared, plan_square, plan_length, length_of, reflected_length, LegsFit, IsPath, IsLength, IsZeroOrMore, PathsHaveLengths}
+use Rattle.path_shape.specs.Shape.{squared, plan_square, plan_length, reflected_length, LegsFit, IsLength, IsZeroOrMore, PathsHaveLengths}
 
 squared-within : (n : ℕ) → n ≤ 8000000 → squared n ≤ 64000000000000
 unfolding squared

@@ -1,7 +1,7 @@
-pub mod Bounds
 pub mod Decaying
 pub mod Same
 pub mod TermBounds
 pub mod Walking
+pub mod Routing
 pub mod Sound
 pub mod Shares

@@ -8,6 +8,7 @@ use Rattle.scene_geom.specs.declared.plan.Pt.{Pt}
 use Rattle.scene_geom.specs.declared.fraction.Frac.{Frac}
 use Rattle.scene_geom.specs.declared.direction.Dir.{Dir}
 use Rattle.scene_geom.specs.declared.crossing.Passage.{Passage}
+use Rattle.scene_geom.specs.Fraction.{rest_of}
 use Rattle.scene_geom.specs.Outline.{passages_of, ring, area2_of, meets_of}
 use Rattle.scene_parts.specs.Views.{Zone}
 use Rattle.path_shape.specs.declared.legs.Legs.{Legs}
@@ -15,7 +16,7 @@ use Rattle.path_shape.specs.declared.legs.Legs.TheVariants.{One, Two}
 use Rattle.path_shape.specs.declared.path.Path.{Path}
 use Rattle.term_ground.specs.declared.stretch.Stretch.{Stretch}
 use Rattle.term_ground.specs.Lengths.{zero_form, one_form, factor, plus_all}
-use Rattle.term_ground.specs.Zones.{before, signed, counted, left_of_sides, length_inside, length_on_leg, length_on_legs, met_zones, rest_of, place_form}
+use Rattle.term_ground.specs.Zones.{before, signed, counted, left_of_sides, length_inside, length_on_leg, length_on_legs, met_zones, place_form}
 use Rattle.term_ground.specs.Regions.{region_start, region_end, zone_term, stretch_share, share_of}
 use Rattle.term_ground.specs.Walks.{known_term, summed}
 use Rattle.term_ground.specs.declared.region.Region.{Region}

@@ -9,6 +9,7 @@ use Rattle.scene_geom.specs.declared.plan.Pt.{Pt}
 use Rattle.scene_geom.specs.declared.fraction.Frac.{Frac}
 use Rattle.scene_geom.specs.declared.direction.Dir.{Dir}
 use Rattle.scene_geom.specs.declared.crossing.Passage.{Passage}
+use Rattle.scene_geom.specs.Fraction.{rest_of}
 use Rattle.scene_geom.specs.Outline.{ring, area2_of, passages_of, meets_of}
 use Rattle.scene_parts.specs.Views.{Zone}
 use Rattle.path_shape.specs.declared.legs.Legs.{Legs}
@@ -17,9 +18,9 @@ use Rattle.path_shape.specs.declared.path.Path.{Path}
 use Rattle.term_ground.specs.declared.region.Region.{Region}
 use Rattle.term_ground.specs.declared.region.Region.TheVariants.{Source, Middle, Receiver}
 use Rattle.term_ground.specs.Lengths.{zero_form, one_form, factor, plus_all}
-use Rattle.term_ground.specs.Zones.{place_form, before, signed, counted, left_of_sides, length_inside, rest_of, met_zones, length_on_leg, length_on_legs}
+use Rattle.term_ground.specs.Zones.{place_form, before, signed, counted, left_of_sides, length_inside, met_zones, length_on_leg, length_on_legs}
 use Rattle.term_ground.specs.Regions.{region_start, region_end, region_from, zone_term, stretch_share, share_of}
-use Rattle.term_ground.specs.Ground.{near_growth, far_growth, decay_at_125, far_decay_at_125, decay_at_250, decay_at_500, decay_at_1000, shape_at_125, shape_at_250, shape_at_500, shape_at_1000, low_at, high_at, minus_one_and_a_half, middle_part, middle_at_63, middle_above, ground}
+use Rattle.term_ground.specs.Ground.{near_growth, far_growth, decay_at_125, far_decay_at_125, decay_at_250, decay_at_500, decay_at_1000, a_prime, b_prime, c_prime, d_prime, end_region_below_2khz, end_region_from_2khz, minus_one_and_a_half, middle_part, middle_at_63, middle_above, ground}
 
 sound-sum : {X : Type 0} (f : X → Tree) → ((x : X) → IsSound (f x)) → (total : Tree) → IsSound total → (xs : List X) → IsSound (plus_all total (map f xs))
 sound-sum f each total h [] = h
@@ -95,21 +96,21 @@ sound-share region zones g0 path dp h =
 
 -- ---- Table 3
 
-sound-shape_at_125 : (h : ℕ) (dp : Tree) → IsSound dp → IsSound (shape_at_125 h dp)
+sound-a_prime : (h : ℕ) (dp : Tree) → IsSound dp → IsSound (a_prime h dp)
 unfolding decay_at_125 far_decay_at_125 near_growth far_growth
-sound-shape_at_125 h dp k = search (arith, k)
+sound-a_prime h dp k = search (arith, k)
 
-sound-shape_at_250 : (h : ℕ) (dp : Tree) → IsSound dp → IsSound (shape_at_250 h dp)
+sound-b_prime : (h : ℕ) (dp : Tree) → IsSound dp → IsSound (b_prime h dp)
 unfolding decay_at_250 near_growth
-sound-shape_at_250 h dp k = search (arith, k)
+sound-b_prime h dp k = search (arith, k)
 
-sound-shape_at_500 : (h : ℕ) (dp : Tree) → IsSound dp → IsSound (shape_at_500 h dp)
+sound-c_prime : (h : ℕ) (dp : Tree) → IsSound dp → IsSound (c_prime h dp)
 unfolding decay_at_500 near_growth
-sound-shape_at_500 h dp k = search (arith, k)
+sound-c_prime h dp k = search (arith, k)
 
-sound-shape_at_1000 : (h : ℕ) (dp : Tree) → IsSound dp → IsSound (shape_at_1000 h dp)
+sound-d_prime : (h : ℕ) (dp : Tree) → IsSound dp → IsSound (d_prime h dp)
 unfolding decay_at_1000 near_growth
-sound-shape_at_1000 h dp k = search (arith, k)
+sound-d_prime h dp k = search (arith, k)
 
 sound-part : (path : Path) (dp : Tree) → IsSound dp → IsSound (middle_part path dp)
 unfolding middle_part
@@ -127,20 +128,20 @@ all_eight a b c d e f g h pa pb pc pd pe pf pg ph =
     (All-cons IsSound g (h ∷ []) pg
     (All-cons IsSound h [] ph (All-nil IsSound))))))))
 
-sound-low : (g shape : Tree) → IsSound g → IsSound shape → IsSound (low_at g shape)
+sound-low : (g shape : Tree) → IsSound g → IsSound shape → IsSound (end_region_below_2khz g shape)
 sound-low g shape h k = (omega arith, (h, k))
 
-sound-high : (g : Tree) → IsSound g → IsSound (high_at g)
+sound-high : (g : Tree) → IsSound g → IsSound (end_region_from_2khz g)
 sound-high g h = (omega arith, (omega arith, h))
 
 sound-middle : (q g : Tree) → IsSound q → IsSound g → IsSound (middle_above q g)
 sound-middle q g h k = ((omega arith, h), (omega arith, k))
 
 sound-low_band : (gs gr q gm s r : Tree) → IsSound gs → IsSound gr → IsSound q → IsSound gm → IsSound s → IsSound r
-    → IsSound (Add (Add (low_at gs s) (low_at gr r)) (middle_above q gm))
+    → IsSound (Add (Add (end_region_below_2khz gs s) (end_region_below_2khz gr r)) (middle_above q gm))
 sound-low_band gs gr q gm s r hs hr hq hm ss sr = ((sound-low gs s hs ss, sound-low gr r hr sr), sound-middle q gm hq hm)
 
-sound-high_band : (gs gr q gm : Tree) → IsSound gs → IsSound gr → IsSound q → IsSound gm → IsSound (Add (Add (high_at gs) (high_at gr)) (middle_above q gm))
+sound-high_band : (gs gr q gm : Tree) → IsSound gs → IsSound gr → IsSound q → IsSound gm → IsSound (Add (Add (end_region_from_2khz gs) (end_region_from_2khz gr)) (middle_above q gm))
 sound-high_band gs gr q gm hs hr hq hm = ((sound-high gs hs, sound-high gr hr), sound-middle q gm hq hm)
 
 sound-band_63 : (q : Tree) → IsSound q → IsSound (Add (Add minus_one_and_a_half minus_one_and_a_half) (middle_at_63 q))
@@ -160,8 +161,8 @@ ground-sound zones g0 path dp h =
     let high = sound-high_band gs gr q gm s r p m in
     all_eight _ _ _ _ _ _ _ _
     (sound-band_63 q p)
-    (sound-low_band gs gr q gm (shape_at_125 path.hs dp) (shape_at_125 path.hr dp) s r p m (sound-shape_at_125 path.hs dp h) (sound-shape_at_125 path.hr dp h))
-    (sound-low_band gs gr q gm (shape_at_250 path.hs dp) (shape_at_250 path.hr dp) s r p m (sound-shape_at_250 path.hs dp h) (sound-shape_at_250 path.hr dp h))
-    (sound-low_band gs gr q gm (shape_at_500 path.hs dp) (shape_at_500 path.hr dp) s r p m (sound-shape_at_500 path.hs dp h) (sound-shape_at_500 path.hr dp h))
-    (sound-low_band gs gr q gm (shape_at_1000 path.hs dp) (shape_at_1000 path.hr dp) s r p m (sound-shape_at_1000 path.hs dp h) (sound-shape_at_1000 path.hr dp h))
+    (sound-low_band gs gr q gm (a_prime path.hs dp) (a_prime path.hr dp) s r p m (sound-a_prime path.hs dp h) (sound-a_prime path.hr dp h))
+    (sound-low_band gs gr q gm (b_prime path.hs dp) (b_prime path.hr dp) s r p m (sound-b_prime path.hs dp h) (sound-b_prime path.hr dp h))
+    (sound-low_band gs gr q gm (c_prime path.hs dp) (c_prime path.hr dp) s r p m (sound-c_prime path.hs dp h) (sound-c_prime path.hr dp h))
+    (sound-low_band gs gr q gm (d_prime path.hs dp) (d_prime path.hr dp) s r p m (sound-d_prime path.hs dp h) (sound-d_prime path.hr dp h))
     high high high

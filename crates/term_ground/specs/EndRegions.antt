@@ -3,15 +3,15 @@ use Rattle.std.specs.Prelude.{◌≡◌, ℕ}
 use Rattle.fix_interval.specs.Interval.{Interval}
 use Rattle.fix_interval.specs.Tree.{Tree, Known, enc}
 use Rattle.term_ground.specs.declared.attenuation.EndRegion.{EndRegion}
-use Rattle.term_ground.specs.Ground.{shape_at_125, shape_at_250, shape_at_500, shape_at_1000, low_at, high_at, minus_one_and_a_half}
+use Rattle.term_ground.specs.Ground.{a_prime, b_prime, c_prime, d_prime, end_region_below_2khz, end_region_from_2khz, minus_one_and_a_half}
 
 -- with the ground factor of the region, the height at its end, and the plan length
 pub record IsEndRegion (region : EndRegion) (share : Interval) (h : ℕ) (dp : Tree) : Type 0 where
-  pub at_125 : region.at_125 ≡ enc (low_at (Known share) (shape_at_125 h dp))
-  pub at_250 : region.at_250 ≡ enc (low_at (Known share) (shape_at_250 h dp))
-  pub at_500 : region.at_500 ≡ enc (low_at (Known share) (shape_at_500 h dp))
-  pub at_1000 : region.at_1000 ≡ enc (low_at (Known share) (shape_at_1000 h dp))
-  pub high : region.high ≡ enc (high_at (Known share))
+  pub at_125 : region.at_125 ≡ enc (end_region_below_2khz (Known share) (a_prime h dp))
+  pub at_250 : region.at_250 ≡ enc (end_region_below_2khz (Known share) (b_prime h dp))
+  pub at_500 : region.at_500 ≡ enc (end_region_below_2khz (Known share) (c_prime h dp))
+  pub at_1000 : region.at_1000 ≡ enc (end_region_below_2khz (Known share) (d_prime h dp))
+  pub high : region.high ≡ enc (end_region_from_2khz (Known share))
 
 -- on hard ground
 abbrev pub hard : EndRegion

@@ -44,35 +44,37 @@ decay_at_500 h = Mul (Const (pos 14) 1) (decay (46 * h ^ 2) (10 ^ 8))
 unfoldable pub decay_at_1000 : ℕ → Tree
 decay_at_1000 h = Mul (Const (pos 5) 1) (decay (9 * h ^ 2) (10 ^ 7))
 
--- a'(h), b'(h), c'(h) and d'(h)
-abbrev pub shape_at_125 : ℕ → Tree → Tree
-shape_at_125 h dp =
+-- a'(h), b'(h), c'(h) and d'(h), of the bands 125 Hz, 250 Hz, 500 Hz and 1 kHz
+abbrev pub a_prime : ℕ → Tree → Tree
+a_prime h dp =
     Add (Add one_and_a_half (Mul (decay_at_125 h) (near_growth dp))) (Mul (far_decay_at_125 h) (far_growth dp))
 
-abbrev pub shape_at_250 : ℕ → Tree → Tree
-shape_at_250 h dp = Add one_and_a_half (Mul (decay_at_250 h) (near_growth dp))
+abbrev pub b_prime : ℕ → Tree → Tree
+b_prime h dp = Add one_and_a_half (Mul (decay_at_250 h) (near_growth dp))
 
-abbrev pub shape_at_500 : ℕ → Tree → Tree
-shape_at_500 h dp = Add one_and_a_half (Mul (decay_at_500 h) (near_growth dp))
+abbrev pub c_prime : ℕ → Tree → Tree
+c_prime h dp = Add one_and_a_half (Mul (decay_at_500 h) (near_growth dp))
 
-abbrev pub shape_at_1000 : ℕ → Tree → Tree
-shape_at_1000 h dp = Add one_and_a_half (Mul (decay_at_1000 h) (near_growth dp))
+abbrev pub d_prime : ℕ → Tree → Tree
+d_prime h dp = Add one_and_a_half (Mul (decay_at_1000 h) (near_growth dp))
 
 -- ---- Table 3
 
 abbrev pub minus_one_and_a_half : Tree
 minus_one_and_a_half = Const (neg_ℤ (pos 15)) 10
 
--- A_s or A_r, with the ground factor g of the source or receiver region and the height h there
-abbrev pub low_at : Tree → Tree → Tree
-low_at g shape = Add minus_one_and_a_half (Mul g shape)
+-- A_s or A_r in a band from 125 Hz to 1 kHz, with the ground factor g of the source or receiver region, and that one of
+-- a'(h) to d'(h) that belongs to the band
+abbrev pub end_region_below_2khz : Tree → Tree → Tree
+end_region_below_2khz g prime = Add minus_one_and_a_half (Mul g prime)
 
 -- the part that isn't porous
-abbrev pub rest : Tree → Tree
-rest g = Sub one_form g
+abbrev pub hard_part : Tree → Tree
+hard_part g = Sub one_form g
 
-abbrev pub high_at : Tree → Tree
-high_at g = Mul minus_one_and_a_half (rest g)
+-- A_s or A_r in a band from 2 kHz on
+abbrev pub end_region_from_2khz : Tree → Tree
+end_region_from_2khz g = Mul minus_one_and_a_half (hard_part g)
 
 -- q: the part of the path that is the middle region
 unfoldable pub middle_part : Path → Tree → Tree
@@ -83,18 +85,18 @@ abbrev pub middle_at_63 : Tree → Tree
 middle_at_63 q = Mul (Const (neg_ℤ (pos 3)) 1) q
 
 abbrev pub middle_above : Tree → Tree → Tree
-middle_above q g = Mul (middle_at_63 q) (rest g)
+middle_above q g = Mul (middle_at_63 q) (hard_part g)
 
 -- A_s + A_r + A_m (equation 9) in each band, with the ground factors of the source, middle and receiver region
 abbrev pub attenuations : Tree → Tree → Tree → Path → Tree → List Tree
 attenuations gs gm gr path dp =
     let q = middle_part path dp in
-    let high = Add (Add (high_at gs) (high_at gr)) (middle_above q gm) in
+    let high = Add (Add (end_region_from_2khz gs) (end_region_from_2khz gr)) (middle_above q gm) in
     Add (Add minus_one_and_a_half minus_one_and_a_half) (middle_at_63 q)
-    ∷ Add (Add (low_at gs (shape_at_125 path.hs dp)) (low_at gr (shape_at_125 path.hr dp))) (middle_above q gm)
-    ∷ Add (Add (low_at gs (shape_at_250 path.hs dp)) (low_at gr (shape_at_250 path.hr dp))) (middle_above q gm)
-    ∷ Add (Add (low_at gs (shape_at_500 path.hs dp)) (low_at gr (shape_at_500 path.hr dp))) (middle_above q gm)
-    ∷ Add (Add (low_at gs (shape_at_1000 path.hs dp)) (low_at gr (shape_at_1000 path.hr dp))) (middle_above q gm)
+    ∷ Add (Add (end_region_below_2khz gs (a_prime path.hs dp)) (end_region_below_2khz gr (a_prime path.hr dp))) (middle_above q gm)
+    ∷ Add (Add (end_region_below_2khz gs (b_prime path.hs dp)) (end_region_below_2khz gr (b_prime path.hr dp))) (middle_above q gm)
+    ∷ Add (Add (end_region_below_2khz gs (c_prime path.hs dp)) (end_region_below_2khz gr (c_prime path.hr dp))) (middle_above q gm)
+    ∷ Add (Add (end_region_below_2khz gs (d_prime path.hs dp)) (end_region_below_2khz gr (d_prime path.hr dp))) (middle_above q gm)
     ∷ high ∷ high ∷ high ∷ []
 
 -- A_gr of a path whose plan length is dp, among zones of ground, with the ground factor g0 in hundredths outside of them

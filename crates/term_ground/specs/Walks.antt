@@ -1,22 +1,34 @@
--- The ground factors of the three regions found at once, zone by zone and side by side: what stands between the code and
--- the definitions.
-use Rattle.std.specs.Prelude.{Bool, List, map}
+-- Scaffolding between the code and the definitions: the ground factors of the three regions are found at once, zone by
+-- zone, leg by leg and side by side.
+use Rattle.std.specs.Prelude.{◌≡◌, Bool, List, map, Option, None, Some, IsSomeAnd}
+use Rattle.std.specs.Bool.{then_some}
 use Rattle.fix_interval.specs.Interval.{Interval}
-use Rattle.fix_interval.specs.Tree.{Tree, Known, Sub, Mul, Div, Max, Min, enc}
+use Rattle.fix_interval.specs.Tree.{Tree, Known, Add, Sub, Mul, Div, Max, Min, enc}
 use Rattle.scene_geom.specs.declared.plan.Pt.{Pt}
 use Rattle.scene_geom.specs.declared.plan.Side.{Side}
 use Rattle.scene_geom.specs.declared.direction.Dir.{Dir}
+use Rattle.scene_geom.specs.declared.fraction.Frac.{Frac}
 use Rattle.scene_geom.specs.declared.crossing.Passage.{Passage}
+<<<<<<< HEAD
 use Rattle.scene_geom.specs.Outline.{passages_of}
 use Rattle.scene_parts.specs.Views.{Zone}
+=======
+use Rattle.scene_geom.specs.Fraction.{rest_of}
+use Rattle.scene_geom.specs.Outline.{passages_of, meets_of}
+use Rattle.scene_parts.specs.Views.{Zone}
+use Rattle.path_shape.specs.declared.legs.Legs.{Legs}
+use Rattle.path_shape.specs.declared.legs.Legs.TheVariants.{One, Two}
+>>>>>>> 48696fceebd1b3723a2ab0611c3373adcd883b7f
 use Rattle.path_shape.specs.declared.path.Path.{Path}
 use Rattle.term_ground.specs.declared.region.Region.{Region}
 use Rattle.term_ground.specs.declared.region.Region.TheVariants.{Source, Middle, Receiver}
 use Rattle.term_ground.specs.declared.stretch.Stretch.{Stretch}
 use Rattle.term_ground.specs.declared.stretch.Stretches.{Stretches}
 use Rattle.term_ground.specs.declared.stretch.Regional.{Regional}
-use Rattle.term_ground.specs.Lengths.{zero_form, factor, plus_all}
-use Rattle.term_ground.specs.Zones.{signed, counted, met_zones, length_on_legs}
+use Rattle.term_ground.specs.declared.leg.Leg.{Leg}
+use Rattle.term_ground.specs.declared.leg.Route.{Route}
+use Rattle.term_ground.specs.Lengths.{zero_form, one_form, factor, plus_all}
+use Rattle.term_ground.specs.Zones.{place_form, signed, counted, whole, length_inside, meets_legs, met_zones, length_on_legs}
 use Rattle.term_ground.specs.Regions.{region_start, region_end}
 
 -- ---- regions
@@ -53,6 +65,78 @@ advanced rule quantities stretches = record {
   middle = rule quantities.middle stretches.middle;
   receiver = rule quantities.receiver stretches.receiver;
 }
+
+-- ---- legs
+
+-- a leg of a path with its start, direction and end, and the regions of the path as places on it
+pub record IsLeg (leg : Leg) (start : Pt) (dir : Dir) (end : Frac) (stretches : Stretches) : Type 0 where
+  pub start_is : leg.start ≡ start
+  pub dir_is : leg.dir ≡ dir
+  pub end_is : leg.end ≡ end
+  pub stretches_are : leg.stretches ≡ stretches
+
+-- the same rule for the stretch of each region
+abbrev pub each_stretch : (Stretch → Stretch) → Stretches → Stretches
+each_stretch rule stretches = record {
+  source = rule stretches.source;
+  middle = rule stretches.middle;
+  receiver = rule stretches.receiver;
+}
+
+-- a stretch of a path on its first leg, which ends at p
+abbrev pub on_first_leg : Frac → Stretch → Stretch
+on_first_leg p stretch = record { from = stretch.from; to = enc (Min (Known stretch.to) (place_form p)) }
+
+-- and on its second leg, whose places count from the receiver
+abbrev pub on_second_leg : Frac → Stretch → Stretch
+on_second_leg p stretch = record {
+  from = enc (Sub one_form (Known stretch.to));
+  to = enc (Min (Sub one_form (Known stretch.from)) (place_form (rest_of p)));
+}
+
+-- the legs of a path, with its regions on them
+abbrev pub HasLegs : Legs → Pt → Pt → Stretches → Leg → Option Leg → Type 0
+HasLegs (One dir) s r stretches first second = IsLeg first s dir whole stretches × (second ≡ None)
+HasLegs (Two to_wall to_wall_from_r p) s r stretches first second =
+    IsLeg first s to_wall p (each_stretch (on_first_leg p) stretches)
+    × IsSomeAnd second (λ leg. IsLeg leg r to_wall_from_r (rest_of p) (each_stretch (on_second_leg p) stretches))
+
+pub record IsRoute (route : Route) (path : Path) : Type 0 where
+  pub stretches_are : route.stretches ≡ stretches_of path
+  pub legs_are : HasLegs path.legs path.s path.r route.stretches route.first route.second
+
+-- how much of each region an outline holds on a leg that it meets
+abbrev pub lengths_on_leg : List Pt → Leg → Option Regional
+lengths_on_leg outline leg =
+    then_some
+    (meets_of outline leg.start leg.dir leg.end)
+    (of_stretches
+    (λ stretch. enc (length_inside outline leg.start leg.dir (Known stretch.from) (Known stretch.to)))
+    leg.stretches)
+
+-- the sums of lengths on two legs
+abbrev pub sums_of : Regional → Regional → Regional
+sums_of first second = record {
+  source = enc (Add (Known first.source) (Known second.source));
+  middle = enc (Add (Known first.middle) (Known second.middle));
+  receiver = enc (Add (Known first.receiver) (Known second.receiver));
+}
+
+-- a leg that isn't met adds nothing
+abbrev pub joined_lengths : Option Regional → Option Regional → Option Regional
+joined_lengths None None = None
+joined_lengths None (Some second) = Some (sums_of nothing second)
+joined_lengths (Some first) None = Some (sums_of first nothing)
+joined_lengths (Some first) (Some second) = Some (sums_of first second)
+
+-- how much of each region of a path an outline holds, where it meets the path
+abbrev pub lengths_on_path : List Pt → Path → Option Regional
+lengths_on_path outline path =
+    then_some
+    (meets_legs path.legs path.s path.r outline)
+    (of_stretches
+    (λ stretch. enc (length_on_legs path.legs path.s path.r outline (Known stretch.from) (Known stretch.to)))
+    (stretches_of path))
 
 -- ---- sides
 

@@ -1,12 +1,12 @@
 -- How much of a path lies in a zone of ground (ISO 9613-2, 7.3.1). Places on a path are fractions of its plan length.
-use Rattle.std.specs.Prelude.{pos, ◌-ℤ◌, unsigned_abs, int_lt, Bool, true, false, ◌||◌, List, map, if◌then◌else◌}
+use Rattle.std.specs.Prelude.{pos, unsigned_abs, int_lt, Bool, true, false, ◌||◌, List, map, if◌then◌else◌}
 use Rattle.std.specs.List.{filter}
 use Rattle.fix_interval.specs.Tree.{Tree, Const, Add, Sub, Neg, Max, Min}
 use Rattle.scene_geom.specs.declared.plan.Pt.{Pt}
 use Rattle.scene_geom.specs.declared.fraction.Frac.{Frac}
 use Rattle.scene_geom.specs.declared.direction.Dir.{Dir}
 use Rattle.scene_geom.specs.declared.crossing.Passage.{Passage}
-use Rattle.scene_geom.specs.Fraction.{over}
+use Rattle.scene_geom.specs.Fraction.{over, rest_of}
 use Rattle.scene_geom.specs.Outline.{ring, area2_of, passages_of, meets_of}
 use Rattle.scene_parts.specs.Views.{Zone}
 use Rattle.path_shape.specs.declared.legs.Legs.{Legs}
@@ -49,10 +49,6 @@ length_inside outline from dir a b =
 -- the place 1
 abbrev pub whole : Frac
 whole = over (pos 1) (pos 1)
-
--- what is left of a path after a place
-abbrev pub rest_of : Frac → Frac
-rest_of place = record { n = place.d -ℤ place.n; d = place.d; positive = place.positive }
 
 -- whether an outline meets a path: its direct line, or a leg
 abbrev pub meets_legs : Legs → Pt → Pt → List Pt → Bool

@@ -1,11 +1,12 @@
 //! The attenuation by the ground in the octave bands (ISO 9613-2, equation 9 and Table 3).
 
-ghost use Rattle.std.specs.Prelude.{◌≡◌, ◌≤◌, ◌^◌, pos, neg_ℤ, map, true, Some};
+ghost use Rattle.std.specs.Prelude.{◌≡◌, ◌≤◌, pos, map, true, Some};
 ghost use Rattle.std.specs.List.{All};
 ghost use Rattle.fix_interval.specs.Bounds.{AreBetween};
 ghost use Rattle.fix_interval.specs.Tree.{Known, Add, Const, Mul, enc};
 ghost use Rattle.path_shape.specs.Shape.{IsPath};
 ghost use Rattle.term_ground.specs.Ground.{ground};
+ghost use Rattle.term_ground.specs.Limits.{HasHeights, least_ground, most_ground};
 ghost use Rattle.term_ground.specs.EndRegions.{IsEndRegion, hard};
 ghost use Rattle.term_ground.specs.Ground as form;
 
@@ -18,15 +19,13 @@ use scene_parts::Zone;
 
 /// The attenuation by the ground in dB (ISO 9613-2, 7.3.1), in the octave bands from 63 Hz to 8 kHz, among zones of ground
 /// and with the ground factor `g0`, in hundredths, outside of them. For a ground factor of at most 1 and heights of at most
-/// 100 m all ends are from -16 dB to 2^26 dB.
+/// 100 m that aren't both 0 all ends are from -16 dB to 2^26 dB.
 pub fn a_gr(zones: &[Zone], g0: u8, path: &Path) -> [Iv; 8]
     requires { IsPath path.now }
     ensures value { result ≡ map enc (ground zones.now g0 path.now (Known path.now.dp)) }
-    ensures bounds { g0 ≤ 100 → path.now.hs ≤ 100000 → path.now.hr ≤ 100000 → All (AreBetween (neg_ℤ (pos (2 ^ 36))) (pos (2 ^ 58))) result }
+    ensures bounds { g0 ≤ 100 → HasHeights path.now → All (AreBetween least_ground most_ground) result }
 {
-    let shares = shares(zones, g0, path);
-    let ends = end_regions(&shares, path);
-    in_bands(path, &shares, &ends)
+    a_gr_between(zones, g0, path, &decays_at(path.hs), &decays_at(path.hr))
 }
 
 /// The same, with the decays at the heights of the source and of the receiver at hand.
@@ -41,10 +40,10 @@ pub fn a_gr_between(
     requires source { source.now.h ≡ path.now.hs }
     requires receiver { receiver.now.h ≡ path.now.hr }
     ensures value { result ≡ map enc (ground zones.now g0 path.now (Known path.now.dp)) }
-    ensures bounds { g0 ≤ 100 → path.now.hs ≤ 100000 → path.now.hr ≤ 100000 → All (AreBetween (neg_ℤ (pos (2 ^ 36))) (pos (2 ^ 58))) result }
+    ensures bounds { g0 ≤ 100 → HasHeights path.now → All (AreBetween least_ground most_ground) result }
 {
     let shares = shares(zones, g0, path);
-    let ends = end_regions_between(&shares, path, source, receiver);
+    let ends = end_regions(&shares, path, source, receiver);
     in_bands(path, &shares, &ends)
 }
 
@@ -97,62 +96,23 @@ struct EndRegions {
     receiver: EndRegion,
 }
 
-/// A_s and A_r. Where neither region has porous ground, they are the same at every height and distance, and no decay is
+/// A_s and A_r. Where neither region has porous ground, they are the same at every height and distance, and nothing is
 /// calculated.
-fn end_regions(shares: &Regional, path: &Path) -> EndRegions
-    requires { IsPath path.now }
-    ensures source { IsEndRegion result.source shares.now.source path.now.hs (Known path.now.dp) }
-    ensures receiver { IsEndRegion result.receiver shares.now.receiver path.now.hr (Known path.now.dp) }
-{
-    if are_hard(shares) {
-        hard_regions(shares, path, path.hs, path.hr)
-    } else {
-        porous_regions(shares, path, &decays_at(path.hs), &decays_at(path.hr))
-    }
-}
-
-/// The same, with the decays at hand.
-fn end_regions_between(
-    shares: &Regional,
-    path: &Path,
-    source: &Decays,
-    receiver: &Decays,
-) -> EndRegions
+fn end_regions(shares: &Regional, path: &Path, source: &Decays, receiver: &Decays) -> EndRegions
     requires { IsPath path.now }
     ensures source { IsEndRegion result.source shares.now.source source.now.h (Known path.now.dp) }
     ensures receiver { IsEndRegion result.receiver shares.now.receiver receiver.now.h (Known path.now.dp) }
 {
     if are_hard(shares) {
-        hard_regions(shares, path, source.h, receiver.h)
-    } else {
-        porous_regions(shares, path, source, receiver)
+        return EndRegions {
+            source: hard_region(),
+            receiver: hard_region(),
+        };
     }
-}
-
-/// A_s and A_r by the decays at the heights of the source and of the receiver.
-fn porous_regions(shares: &Regional, path: &Path, source: &Decays, receiver: &Decays) -> EndRegions
-    requires { IsPath path.now }
-    ensures source { IsEndRegion result.source shares.now.source source.now.h (Known path.now.dp) }
-    ensures receiver { IsEndRegion result.receiver shares.now.receiver receiver.now.h (Known path.now.dp) }
-{
     let growths = growths_over(path);
     EndRegions {
         source: end_region(shares.source, source, &growths),
         receiver: end_region(shares.receiver, receiver, &growths),
-    }
-}
-
-/// A_s and A_r on hard ground, whatever the heights.
-fn hard_regions(shares: &Regional, path: &Path, hs: u32, hr: u32) -> EndRegions
-    requires path { IsPath path.now }
-    requires source { shares.now.source ≡ record { lo = Some (pos 0); hi = Some (pos 0) } }
-    requires receiver { shares.now.receiver ≡ record { lo = Some (pos 0); hi = Some (pos 0) } }
-    ensures source { IsEndRegion result.source shares.now.source hs (Known path.now.dp) }
-    ensures receiver { IsEndRegion result.receiver shares.now.receiver hr (Known path.now.dp) }
-{
-    EndRegions {
-        source: hard_region(),
-        receiver: hard_region(),
     }
 }
 
@@ -241,7 +201,7 @@ fn middle_at_63(q: Iv) -> Iv
 
 /// A_m in the bands from 125 Hz on, with the ground factor of the middle region.
 fn middle_above(at_63: Iv, share: Iv) -> Iv
-    ensures { result ≡ enc (Mul (Known at_63) (form.rest (Known share))) }
+    ensures { result ≡ enc (Mul (Known at_63) (form.hard_part (Known share))) }
 {
     mul(at_63, sub(exact(1), share))
 }

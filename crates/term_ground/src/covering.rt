@@ -7,14 +7,72 @@ ghost use Rattle.scene_geom.specs.Direction.{FitsDirection};
 ghost use Rattle.scene_geom.specs.Crossing.{passage_of};
 ghost use Rattle.scene_geom.specs.Outline.{ring, area2_of};
 ghost use Rattle.term_ground.specs.Zones.{counted, length_inside};
-ghost use Rattle.term_ground.specs.Walks.{of_stretches, advanced, part_of, walked, walked_sides, nothing};
+ghost use Rattle.path_shape.specs.declared.path.Path.{Path};
+ghost use Rattle.term_ground.specs.Walks.{of_stretches, advanced, part_of, walked, walked_sides};
+ghost use Rattle.term_ground.specs.Walks.{IsRoute, lengths_on_leg, lengths_on_path, joined_lengths, sums_of};
+ghost use Rattle.term_ground.specs.Walks as walks;
 
+use crate::leg::{Leg, Route};
 use crate::stretch::{Regional, Stretch, Stretches};
 use fix_interval::{Iv, add, exact, max, min, neg, ratio, sub};
-use scene_geom::{Dir, Passage, Pt, Side, area2, passes};
+use scene_geom::{Dir, Passage, Pt, Side, area2, meets, passes};
+
+/// How much of each region of a path an outline holds. None where the outline meets no leg.
+pub(crate) fn lengths_on(outline: &[Pt], route: &Route) -> Option<Regional>
+    ensures { (path : Path) → IsRoute route.now path → result ≡ lengths_on_path outline.now path }
+{
+    let first = on_leg(outline, &route.first);
+    match &route.second {
+        None => first,
+        Some(leg) => joined(first, on_leg(outline, leg)),
+    }
+}
+
+/// How much of each region an outline holds on a leg. None where the outline doesn't meet the leg.
+fn on_leg(outline: &[Pt], leg: &Leg) -> Option<Regional>
+    ensures { result ≡ lengths_on_leg outline.now leg.now }
+{
+    if meets(outline, leg.start, leg.dir, leg.end) {
+        Some(lengths_inside(outline, leg.start, leg.dir, &leg.stretches))
+    } else {
+        None
+    }
+}
+
+/// The lengths on both legs, of which one that isn't met adds nothing.
+fn joined(first: Option<Regional>, second: Option<Regional>) -> Option<Regional>
+    ensures { result ≡ joined_lengths first second }
+{
+    match (first, second) {
+        (None, None) => None,
+        (first, second) => Some(sums(first.unwrap_or(nothing()), second.unwrap_or(nothing()))),
+    }
+}
+
+fn sums(first: Regional, second: Regional) -> Regional
+    ensures { result ≡ sums_of first second }
+{
+    Regional {
+        source: add(first.source, second.source),
+        middle: add(first.middle, second.middle),
+        receiver: add(first.receiver, second.receiver),
+    }
+}
+
+/// No length of any region.
+fn nothing() -> Regional
+    ensures { result ≡ walks.nothing }
+{
+    let zero = exact(0);
+    Regional {
+        source: zero,
+        middle: zero,
+        receiver: zero,
+    }
+}
 
 /// How much of each region an outline holds, on a line from a point along a direction.
-pub(crate) fn lengths_inside(outline: &[Pt], from: Pt, dir: Dir, stretches: &Stretches) -> Regional
+fn lengths_inside(outline: &[Pt], from: Pt, dir: Dir, stretches: &Stretches) -> Regional
     requires { FitsDirection dir }
     ensures { result ≡ of_stretches (λ stretch. enc (length_inside outline.now from dir (Known stretch.from) (Known stretch.to))) stretches.now }
 {
@@ -40,14 +98,9 @@ fn turns_right(outline: &[Pt]) -> bool
 /// What the sides of an outline that cross the line add and take off.
 fn left_of_sides(outline: &[Pt], from: Pt, dir: Dir, stretches: &Stretches) -> Regional
     requires { FitsDirection dir }
-    ensures { result ≡ advanced (walked_sides (ring outline.now) from dir) nothing stretches.now }
+    ensures { result ≡ advanced (walked_sides (ring outline.now) from dir) walks.nothing stretches.now }
 {
-    let zero = exact(0);
-    let mut lengths = Regional {
-        source: zero,
-        middle: zero,
-        receiver: zero,
-    };
+    let mut lengths = nothing();
     let Some((first, rest)) = outline.split_first() else {
         return lengths;
     };

@@ -8,8 +8,10 @@ mod attenuation;
 mod covering;
 mod decays;
 pub mod laws;
+mod leg;
 mod lengths;
 mod region;
+mod route;
 mod share;
 mod stretch;
 #[cfg(test)]

@@ -1,3 +1,5 @@
+//! The regions of ground below a path.
+
 /// A region of ground below a path (ISO 9613-2, 7.3.1).
 #[derive(Clone, Copy, Debug, Drop, PartialEq, Eq)]
 pub enum Region {

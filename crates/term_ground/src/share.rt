@@ -2,24 +2,23 @@
 
 ghost use Rattle.std.specs.Prelude.{◌≡◌, [], ◌∷◌};
 ghost use Rattle.fix_interval.specs.Tree.{Known, Pick, Max, Min, Add, enc};
-ghost use Rattle.scene_geom.specs.Direction.{FitsDirection};
 ghost use Rattle.path_shape.specs.Shape.{IsPath};
-ghost use Rattle.path_shape.specs.declared.legs.Legs.TheVariants.{One};
+ghost use Rattle.path_shape.specs.declared.path.Path.{Path};
 ghost use Rattle.term_ground.specs.Lengths.{zero_form, one_form};
 ghost use Rattle.term_ground.specs.Lengths as form;
-ghost use Rattle.term_ground.specs.Zones.{length_inside};
 ghost use Rattle.term_ground.specs.Regions.{share_of};
 ghost use Rattle.term_ground.specs.Regions as regions;
 ghost use Rattle.term_ground.specs.declared.region.Region.TheVariants.{Source, Middle, Receiver};
-ghost use Rattle.term_ground.specs.Walks.{advanced, summed, same, stretches_of, term_of};
+ghost use Rattle.term_ground.specs.Walks.{IsRoute, advanced, summed, same, stretches_of, term_of};
 
-use crate::covering::lengths_inside;
+use crate::covering::lengths_on;
+use crate::leg::Route;
 use crate::lengths::factor;
 use crate::region::Region;
-use crate::stretch::{Regional, Stretch, Stretches, middle_from, regions_of};
+use crate::route::route_of;
+use crate::stretch::{Regional, Stretch, Stretches, middle_from};
 use fix_interval::{Iv, add, div, exact, less, max, min, mul, pick, sub};
-use path_shape::{Legs, Path};
-use scene_geom::{Dir, Frac, meets};
+use path_shape::Path;
 use scene_parts::Zone;
 
 /// The ground factor G of a region of a path (ISO 9613-2, 7.3.1), from 0 to 1: the part of it that is porous, where a
@@ -73,55 +72,30 @@ fn sums(zones: &[Zone], outside: Iv, path: &Path) -> Regional
     if zones.is_empty() {
         return total;
     }
-    let stretches = regions_of(path);
-    let dir = direction(path);
+    let route = route_of(path);
     for zone in zones {
-        total = with_zone(total, zone, outside, path, dir, &stretches);
+        total = with_zone(total, zone, outside, &route);
     }
     total
 }
 
-/// The direction of a direct path.
-fn direction(path: &Path) -> Dir
-    requires { IsPath path.now }
-    ensures legs { path.now.legs ≡ One result }
-    ensures fits { FitsDirection result }
-{
-    match path.legs {
-        Legs::One(dir) => dir,
-        Legs::Two(..) => unreachable!(),
-    }
-}
-
 /// The sums with what a zone adds to them, which is nothing where it doesn't meet the path.
-fn with_zone(
-    total: Regional,
-    zone: &Zone,
-    outside: Iv,
-    path: &Path,
-    dir: Dir,
-    stretches: &Stretches,
-) -> Regional
-    requires legs { path.now.legs ≡ One dir }
-    requires fits { FitsDirection dir }
-    ensures { result ≡ advanced (summed (zone.now ∷ []) outside path.now) total stretches.now }
+fn with_zone(total: Regional, zone: &Zone, outside: Iv, route: &Route) -> Regional
+    ensures { (path : Path) → IsRoute route.now path → result ≡ advanced (summed (zone.now ∷ []) outside path) total (stretches_of path) }
 {
-    let outline = zone.points.items();
-    if meets(outline, path.s, dir, Frac { n: 1, d: 1 }) {
-        let difference = sub(factor(zone.g), outside);
-        let lengths = lengths_inside(outline, path.s, dir, stretches);
-        Regional {
-            source: with_term(total.source, difference, lengths.source, stretches.source),
-            middle: with_term(total.middle, difference, lengths.middle, stretches.middle),
-            receiver: with_term(
-                total.receiver,
-                difference,
-                lengths.receiver,
-                stretches.receiver,
-            ),
-        }
-    } else {
-        total
+    let Some(lengths) = lengths_on(zone.points.items(), route) else {
+        return total;
+    };
+    let difference = sub(factor(zone.g), outside);
+    let Stretches {
+        source,
+        middle,
+        receiver,
+    } = route.stretches;
+    Regional {
+        source: with_term(total.source, difference, lengths.source, source),
+        middle: with_term(total.middle, difference, lengths.middle, middle),
+        receiver: with_term(total.receiver, difference, lengths.receiver, receiver),
     }
 }
 

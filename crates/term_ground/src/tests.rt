@@ -1,9 +1,11 @@
 //! Values from outside, by an independent exact program: the ends of the ground factors and of the attenuations.
 
+ghost use Rattle.path_shape.specs.Shape.{IsPath};
+
 use super::*;
 use fix_interval::Iv;
 use path_shape::Path;
-use scene_geom::Pt;
+use scene_geom::{Pt, Side, is_short, on_one_side};
 use scene_parts::{Checked, Part, PlainName, RawPart, RawPoints, RawPt, Zone, check};
 use std::alloc::{AllocError, Global};
 use std::process::Abort;
@@ -454,6 +456,164 @@ const CASES: [Case; 15] = [
     },
 ];
 
+/// Paths by way of a wall, whose side has these ends.
+const REFLECTED: [([(i64, i64); 2], Case); 5] = [
+    // Ground that only the second leg crosses.
+    (
+        [(49999, 30000), (149999, 30000)],
+        Case {
+            zones: &[(
+                &[(75000, 5000), (95000, 5000), (95000, 20000), (75000, 20000)],
+                100,
+            )],
+            g0: 0,
+            source: (0, 0, 500),
+            receiver: (100000, 0, 800),
+            shares: [(0, 0), (285233157, 285233160), (2555818143, 2555818157)],
+            bands: [
+                (-21460806012, -21460806009),
+                (-15710017068, -15710017019),
+                (1678151305, 1678151456),
+                (7011479307, 7011479493),
+                (-10571153407, -10571153332),
+                (-17057544262, -17057544230),
+            ],
+        },
+    ),
+    // Ground below both legs, with a winding to the right.
+    (
+        [(49999, 30000), (149999, 30000)],
+        Case {
+            zones: &[(
+                &[
+                    (40000, 40000),
+                    (60000, 40000),
+                    (60000, 20000),
+                    (40000, 20000),
+                ],
+                80,
+            )],
+            g0: 20,
+            source: (0, 0, 500),
+            receiver: (100000, 0, 800),
+            shares: [
+                (858993451, 858993468),
+                (1633352376, 1633352386),
+                (858993454, 858993465),
+            ],
+            bands: [
+                (-21460806012, -21460806009),
+                (-14785839400, -14785839313),
+                (-2803624252, -2803623964),
+                (2145988939, 2145989316),
+                (-10345714954, -10345714793),
+                (-15622456613, -15622456547),
+            ],
+        },
+    ),
+    // A source region beyond the specular point, and a receiver region before it.
+    (
+        [(49999, 30000), (149999, 30000)],
+        Case {
+            zones: &[
+                (
+                    &[
+                        (10000, -1000),
+                        (30000, -1000),
+                        (30000, 40000),
+                        (10000, 40000),
+                    ],
+                    100,
+                ),
+                (
+                    &[
+                        (60000, -1000),
+                        (90000, -1000),
+                        (90000, 40000),
+                        (60000, 40000),
+                    ],
+                    30,
+                ),
+            ],
+            g0: 10,
+            source: (0, 0, 3000),
+            receiver: (100000, 0, 2500),
+            shares: [
+                (1622406820, 1622406830),
+                (429496729, 429496730),
+                (830196690, 830196696),
+            ],
+            bands: [
+                (-12884901888, -12884901888),
+                (-5169840691, -5169840631),
+                (71706680, 71706779),
+                (-8287370075, -8287370035),
+                (-9190255656, -9190255626),
+                (-9205996623, -9205996599),
+            ],
+        },
+    ),
+    // Ground below the direct path alone.
+    (
+        [(49999, 30000), (149999, 30000)],
+        Case {
+            zones: &[(
+                &[(45000, -5000), (55000, -5000), (55000, 5000), (45000, 5000)],
+                100,
+            )],
+            g0: 0,
+            source: (0, 0, 500),
+            receiver: (100000, 0, 800),
+            shares: [(0, 0), (0, 0), (0, 0)],
+            bands: [
+                (-21460806012, -21460806009),
+                (-21460806012, -21460806009),
+                (-21460806012, -21460806009),
+                (-21460806012, -21460806009),
+                (-21460806012, -21460806009),
+                (-21460806012, -21460806009),
+            ],
+        },
+    ),
+    // A slanting wall between zones, one of which holds the specular point and the receiver.
+    (
+        [(60000, -20000), (-10000, 45000)],
+        Case {
+            zones: &[
+                (
+                    &[
+                        (-20000, 2000),
+                        (-5000, 2000),
+                        (-5000, 25000),
+                        (-20000, 25000),
+                    ],
+                    55,
+                ),
+                (
+                    &[(2000, -2000), (20000, -2000), (20000, 25000), (2000, 25000)],
+                    90,
+                ),
+            ],
+            g0: 15,
+            source: (-30000, -1000, 1500),
+            receiver: (5000, -7, 40),
+            shares: [
+                (1928445317, 1928445327),
+                (3865470558, 3865470577),
+                (3865470503, 3865470676),
+            ],
+            bands: [
+                (-17769473157, -17769473154),
+                (-2706789597, -2706789234),
+                (31537095418, 31537096955),
+                (44609266274, 44609268527),
+                (11244736403, 11244737391),
+                (-4682485296, -4682484997),
+            ],
+        },
+    ),
+];
+
 fn place(x: i64, y: i64) -> Pt {
     Pt::new(
         x.clamp(-4_000_000, 4_000_000),
@@ -484,6 +644,33 @@ fn has_ends(rt: &impl Abort, found: Iv, (lo, hi): (i128, i128)) {
     assert_eq!(rt; (found.low(), found.high()), (Some(lo), Some(hi)));
 }
 
+/// The ends of a path among zones are those of a case.
+fn has_ground(rt: &impl Abort, case: &Case, zones: &[Zone], path: &Path)
+    requires { IsPath path.now }
+{
+    let [source, middle, receiver] = case.shares;
+    has_ends(
+        rt,
+        region_share(zones, case.g0, path, Region::Source),
+        source,
+    );
+    has_ends(
+        rt,
+        region_share(zones, case.g0, path, Region::Middle),
+        middle,
+    );
+    has_ends(
+        rt,
+        region_share(zones, case.g0, path, Region::Receiver),
+        receiver,
+    );
+    let [at_63, at_125, at_250, at_500, at_1000, high] = case.bands;
+    let expected = [at_63, at_125, at_250, at_500, at_1000, high, high, high];
+    for (found, ends) in a_gr(zones, case.g0, path).iter().zip(&expected) {
+        has_ends(rt, *found, *ends);
+    }
+}
+
 #[test]
 fn ground_has_these_ends(rt: HostRuntime) -> Result<(), Fail> {
     for case in &CASES {
@@ -492,27 +679,29 @@ fn ground_has_these_ends(rt: HostRuntime) -> Result<(), Fail> {
         let (sx, sy, hs) = case.source;
         let (rx, ry, hr) = case.receiver;
         let path = Path::direct(place(sx, sy), hs, place(rx, ry), hr);
-        let [source, middle, receiver] = case.shares;
-        has_ends(
-            &rt,
-            region_share(&zones, case.g0, &path, Region::Source),
-            source,
-        );
-        has_ends(
-            &rt,
-            region_share(&zones, case.g0, &path, Region::Middle),
-            middle,
-        );
-        has_ends(
-            &rt,
-            region_share(&zones, case.g0, &path, Region::Receiver),
-            receiver,
-        );
-        let [at_63, at_125, at_250, at_500, at_1000, high] = case.bands;
-        let expected = [at_63, at_125, at_250, at_500, at_1000, high, high, high];
-        for (found, ends) in a_gr(&zones, case.g0, &path).iter().zip(&expected) {
-            has_ends(&rt, *found, *ends);
-        }
+        has_ground(&rt, case, &zones, &path);
+    }
+    Ok(())
+}
+
+#[test]
+fn ground_by_way_of_walls_has_these_ends(rt: HostRuntime) -> Result<(), Fail> {
+    for (wall, case) in &REFLECTED {
+        let zones = zones(rt.alloc(), case.zones)?;
+        assert_eq!(rt; zones.len(), case.zones.len());
+        let [(from_x, from_y), (to_x, to_y)] = *wall;
+        let side = Side {
+            from: place(from_x, from_y),
+            to: place(to_x, to_y),
+        };
+        let (sx, sy, hs) = case.source;
+        let (rx, ry, hr) = case.receiver;
+        let source = place(sx, sy);
+        let receiver = place(rx, ry);
+        assert!(rt; is_short(side));
+        assert!(rt; on_one_side(side, source, receiver));
+        let path = Path::reflected(side, source, hs, receiver, hr);
+        has_ground(&rt, case, &zones, &path);
     }
     Ok(())
 }

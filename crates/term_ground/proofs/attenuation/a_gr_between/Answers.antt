@@ -1,9 +1,10 @@
-use Rattle.std.proofs.Common.{◌≡◌, ◌∙◌, sym, subst, List, map, pos, neg_ℤ, ◌^◌}
+use Rattle.std.proofs.Common.{◌≡◌, ◌∙◌, sym, subst, List, map}
 use Rattle.std.specs.List.{All}
 use Rattle.fix_interval.specs.Interval.{Interval}
 use Rattle.fix_interval.specs.Tree.{Known, enc}
 use Rattle.fix_interval.specs.Bounds.{AreBetween}
 use Rattle.term_ground.specs.Ground.{ground}
+use Rattle.term_ground.specs.Limits.{least_ground, most_ground}
 use Rattle.term_ground.proofs.Shares.{by-shares}
 use Rattle.term_ground.proofs.TermBounds.{ground-between}
 use Rattle.term_ground.proofs.attenuation.a_gr_between.Goals as goal
@@ -18,6 +19,6 @@ pub returns-clause-value : goal.returns-clause-value
 returns-clause-value c = value c
 
 pub returns-clause-bounds : goal.returns-clause-bounds
-returns-clause-bounds c = λ g hs hr.
-    subst (λ (found : List Interval). All (AreBetween (neg_ℤ (pos (2 ^ 36))) (pos (2 ^ 58))) found) (sym (value c))
-    (ground-between c.args.zones.now c.args.g0 c.args.path.now c.requires.path g hs hr)
+returns-clause-bounds c = λ g heights.
+    subst (λ (found : List Interval). All (AreBetween least_ground most_ground) found) (sym (value c))
+    (ground-between c.args.zones.now c.args.g0 c.args.path.now c.requires.path g heights)

@@ -8,7 +8,7 @@ use Rattle.term_ground.proofs.covering.left_of_sides.Goals as goal
 
 pub loop-next-init : goal.loop-next-init
 loop-next-init c =
-    rw c.exact-zero.ensures
+    rw c.nothing-lengths.ensures
     (ap (λ (outline : List Pt). advanced (walked_sides (ring outline) c.args.from c.args.dir) nothing c.args.stretches.now) (sym c.in-Some.ensures.cases.0))
 
 pub loop-next-preserved : goal.loop-next-preserved

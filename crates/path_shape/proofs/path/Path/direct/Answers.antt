@@ -1,5 +1,3 @@
-use Rattle.std.proofs.Common.{sym, subst}
-use Rattle.path_shape.specs.Shape.{IsZeroOrMore}
 use Rattle.path_shape.proofs.Lengths.{direct-zero-or-more}
 use Rattle.path_shape.proofs.path.Path.direct.Goals as goal
 

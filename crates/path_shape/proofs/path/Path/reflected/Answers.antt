@@ -1,6 +1,5 @@
 use Rattle.std.proofs.Common.{ap, ◌∙◌}
 use Rattle.fix_interval.specs.Tree.{enc}
-use Rattle.scene_geom.specs.declared.fraction.Frac.{Frac}
 use Rattle.scene_geom.specs.declared.reflection.Reflection.{Reflection}
 use Rattle.path_shape.specs.Shape.{length_of}
 use Rattle.path_shape.proofs.path.Path.reflected.Goals as goal
