@@ -1,5 +1,6 @@
 -- How the lines of bytes grow: what crates above cite of `Lines`.
-use Rattle.std.proofs.Common.{◌≡◌, ◌≢◌, ◌==◌, ℕ, ◌<◌, false, List, [], ◌∷◌, ◌++◌, length, refl, ap, sym, ◌∙◌, inl, inr, append_assoc, arith}
+use Rattle.std.proofs.Common.{◌≡◌, ◌≢◌, ◌==◌, ℕ, ◌<◌, false, List, [], ◌∷◌, ◌++◌, length}
+use Rattle.std.proofs.Common.{refl, ap, sym, ◌∙◌, inl, inr, append_assoc, arith}
 use Rattle.std.specs.Prelude.{All}
 use Rattle.std.proofs.lemmas.Bool.Decides.{eqb_tells}
 use Rattle.std.proofs.lemmas.List.Elements.{All-weaker, All-head, All-tail}
@@ -22,11 +23,13 @@ parts-plain line plain = slice_split_none (λ b. b == 10) line (no_feed line pla
 parts-some : (bytes : List ℕ) → 0 < length (parts bytes)
 parts-some bytes = omega (arith, length-slice_split (λ b. b == 10) bytes)
 
-all_but_last-cons : (part : List ℕ) (more : List (List ℕ)) → 0 < length more → all_but_last (part ∷ more) ≡ part ∷ all_but_last more
+all_but_last-cons : (part : List ℕ) (more : List (List ℕ)) → 0 < length more
+    → all_but_last (part ∷ more) ≡ part ∷ all_but_last more
 all_but_last-cons part [] none = absurd (omega arith)
 all_but_last-cons part (next ∷ more) some = refl
 
-but_empty_last-cons : (part : List ℕ) (more : List (List ℕ)) → 0 < length more → but_empty_last (part ∷ more) ≡ part ∷ but_empty_last more
+but_empty_last-cons : (part : List ℕ) (more : List (List ℕ)) → 0 < length more
+    → but_empty_last (part ∷ more) ≡ part ∷ but_empty_last more
 but_empty_last-cons part [] none = absurd (omega arith)
 but_empty_last-cons [] (next ∷ more) some = refl
 but_empty_last-cons (b ∷ bytes) (next ∷ more) some = refl
@@ -34,11 +37,13 @@ but_empty_last-cons (b ∷ bytes) (next ∷ more) some = refl
 -- a whole line comes off the front
 pub whole_lines-line : (line rest : List ℕ) → IsPlain line → whole_lines (line ++ 10 ∷ rest) ≡ line ∷ whole_lines rest
 unfolding whole_lines
-whole_lines-line line rest plain = ap all_but_last (parts-line line rest plain) ∙ all_but_last-cons line (parts rest) (parts-some rest)
+whole_lines-line line rest plain =
+    ap all_but_last (parts-line line rest plain) ∙ all_but_last-cons line (parts rest) (parts-some rest)
 
 pub lines-line : (line rest : List ℕ) → IsPlain line → lines (line ++ 10 ∷ rest) ≡ line ∷ lines rest
 unfolding lines
-lines-line line rest plain = ap but_empty_last (parts-line line rest plain) ∙ but_empty_last-cons line (parts rest) (parts-some rest)
+lines-line line rest plain =
+    ap but_empty_last (parts-line line rest plain) ∙ but_empty_last-cons line (parts rest) (parts-some rest)
 
 -- bytes with no line feed are no whole line
 pub whole_lines-plain : (rest : List ℕ) → IsPlain rest → whole_lines rest ≡ []
@@ -59,7 +64,8 @@ unfolding lines
 lines-empty = refl
 
 -- the lines of bytes that begin with these lines
-pub whole_lines-ended : (ls : List (List ℕ)) (rest : List ℕ) → All IsPlain ls → whole_lines (ended ls ++ rest) ≡ ls ++ whole_lines rest
+pub whole_lines-ended : (ls : List (List ℕ)) (rest : List ℕ) → All IsPlain ls
+    → whole_lines (ended ls ++ rest) ≡ ls ++ whole_lines rest
 whole_lines-ended [] rest plain = refl
 whole_lines-ended (line ∷ more) rest plain =
     ap whole_lines (append_assoc line (10 ∷ ended more) rest)
@@ -77,4 +83,5 @@ lines-ended (line ∷ more) rest plain =
 pub ended-push : (ls : List (List ℕ)) (line : List ℕ) → ended (ls ++ line ∷ []) ≡ ended ls ++ (line ++ 10 ∷ [])
 ended-push [] line = refl
 ended-push (first ∷ more) line =
-    ap (λ bytes. first ++ 10 ∷ bytes) (ended-push more line) ∙ sym (append_assoc first (10 ∷ ended more) (line ++ 10 ∷ []))
+    ap (λ bytes. first ++ 10 ∷ bytes) (ended-push more line)
+    ∙ sym (append_assoc first (10 ∷ ended more) (line ++ 10 ∷ []))

@@ -1,4 +1,5 @@
--- The lines of bytes. A line ends with a line feed (10) or with the end of the bytes; an empty rest at the end is no line.
+-- The lines of bytes. A line ends with a line feed (10) or with the end of the bytes; an empty rest at the end is no
+-- line.
 use Rattle.std.specs.Prelude.{◌≢◌, ◌==◌, ℕ, List, [], ◌∷◌, ◌++◌, All}
 use Rattle.std.specs.List.{slice_split}
 

@@ -11,10 +11,12 @@ IfBothKnown None after P = ⊤
 IfBothKnown (Some bytes) None P = ⊤
 IfBothKnown (Some bytes) (Some rest) P = P bytes rest
 
--- The answer takes the first line off those of the bytes, or there is none; a fault or the limit comes where the bytes read since the last line hold no whole one.
+-- The answer takes the first line off those of the bytes, or there is none; a fault or the limit comes where the
+-- bytes read since the last line hold no whole one.
 abbrev pub TakesLine : Next → List ℕ → List ℕ → List ℕ → Type 0
 TakesLine (Line n) line bytes rest = lines bytes ≡ line ∷ lines rest
 TakesLine LongLine line bytes rest = (long : List ℕ) × (line_limit < length long) × (lines bytes ≡ long ∷ lines rest)
 TakesLine End line bytes rest = lines bytes ≡ []
 TakesLine ReadFault line bytes rest = (read : List ℕ) × (whole_lines read ≡ []) × (bytes ≡ read ++ rest)
-TakesLine InputLimit line bytes rest = (read : List ℕ) × (more : ℕ) × (whole_lines read ≡ []) × (bytes ≡ read ++ more ∷ rest)
+TakesLine InputLimit line bytes rest =
+    (read : List ℕ) × (more : ℕ) × (whole_lines read ≡ []) × (bytes ≡ read ++ more ∷ rest)

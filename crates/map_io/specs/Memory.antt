@@ -3,7 +3,8 @@ use Rattle.std.specs.Prelude.{◌≡◌, ◌==◌, ◌≤◌, ℕ, Bool, if◌th
 use Rattle.std.specs.List.{list_any}
 use Rattle.map_io.specs.Causes.{one_more}
 
--- what a source in memory has left, how much it gives at most at once, the calls that fail, counted from 1, how many calls there were, and how many of them failed
+-- what a source in memory has left, how much it gives at most at once, the calls that fail, counted from 1, how many
+-- calls there were, and how many of them failed
 pub record Supply : Type 0 where
   pub left : List ℕ
   pub piece : ℕ
@@ -11,7 +12,8 @@ pub record Supply : Type 0 where
   pub calls : ℕ
   pub faults : ℕ
 
--- what a sink in memory has taken, for how much more it has room, the calls that fail, counted from 1, how many calls there were, and how many of them failed
+-- what a sink in memory has taken, for how much more it has room, the calls that fail, counted from 1, how many calls
+-- there were, and how many of them failed
 pub record Store : Type 0 where
   pub taken : List ℕ
   pub room : ℕ

@@ -62,7 +62,8 @@ pub record NothingAhead (new : Reading) (after : Option (List ℕ)) : Type 0 whe
 -- A line was passed: with its line feed, or with the end of the input, where it has a byte.
 abbrev pub PassesLine : Stop → Reading → Reading → Option (List ℕ) → Option (List ℕ) → List ℕ → Type 0
 PassesLine Going old new before after line = Passes old new before after (line ++ 10 ∷ [])
-PassesLine AtEnd old new before after line = (0 < length line) × Passes old new before after line × NothingAhead new after
+PassesLine AtEnd old new before after line =
+    (0 < length line) × Passes old new before after line × NothingAhead new after
 PassesLine AfterFault old new before after line = ⊥
 PassesLine AtLimit old new before after line = ⊥
 

@@ -29,7 +29,8 @@ abbrev pub Brings : Stop → Reading → Option (List ℕ) → Option (List ℕ)
 Brings Going new before after = (0 < length new.pending) × Consumes before after new.pending
 Brings AtEnd new before after = (new.pending ≡ []) × Keeps before after × IsAtEnd after
 Brings AfterFault new before after = (new.pending ≡ []) × Keeps before after
-Brings AtLimit new before after = (new.pending ≡ []) × (new.passed ≡ input_limit) × ((more : ℕ) × Consumes before after (more ∷ []))
+Brings AtLimit new before after =
+    (new.pending ≡ []) × (new.passed ≡ input_limit) × ((more : ℕ) × Consumes before after (more ∷ []))
 
 -- a read by a reader that holds nothing
 pub record Fills (old new : Reading) (before after : Option (List ℕ)) : Type 0 where

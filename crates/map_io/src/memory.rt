@@ -45,7 +45,13 @@ impl MemSource {
     /// counted from 1, are in `fail`.
     pub fn new(bytes: Vec<u8>, piece: u32, fail: Vec<u32>) -> MemSource
         requires { 1 ≤ piece }
-        ensures { result ≡ record { left = bytes.items; piece = piece; fail = fail.items; calls = 0; faults = 0 } }
+        ensures { result ≡ record {
+          left = bytes.items;
+          piece = piece;
+          fail = fail.items;
+          calls = 0;
+          faults = 0;
+        } }
     {
         MemSource {
             bytes,

@@ -1,3 +1,4 @@
+//! A counter taken in turns, by one thread and by several.
 ghost use Rattle.std.specs.Prelude.{◌≡◌, ◌+◌, IfOk, IfSome};
 ghost use Rattle.std.specs.Thread.{IsSync};
 
