@@ -15,17 +15,6 @@ use Rattle.fix_interval.specs.Values.{ratio_of, add_of, neg_of, mul_of, div_of, 
 use Rattle.fix_interval.specs.Ranges.{LiesIn, HasRanges, from_to, part, constant, sum, negation, product, quotient, greater, lesser, decay, choice, sum_range, quotient_range, decay_range}
 use Rattle.fix_interval.specs.Tree.{Tree, Known, Const, Add, Mul, ExpNeg, enc}
 use Rattle.fix_interval.specs.declared.truth.Truth.TheVariants.{Never}
-<<<<<<< HEAD
-use Rattle.fix_interval.proofs.Ratios.{ratio_of-small, IsInterval-ratio_of}
-use Rattle.fix_interval.proofs.Ends.{on_ends-bounded, IsInterval-mul_of, IsInterval-div_of}
-use Rattle.fix_interval.proofs.Order.{int_min-keeps, int_max-keeps}
-use Rattle.fix_interval.proofs.Rounding.{div-mono, div-anti, div_ceil_suc, div_ceil_zero, ceil_of-mono, floor_of-le-ceil_of, ceil_of-pos}
-use Rattle.fix_interval.proofs.Multiplying.{times-mono}
-use Rattle.fix_interval.proofs.Dividing.{quotient_of_ends-positive, ≤ℤ_trans}
-use Rattle.fix_interval.proofs.Spans.{Span, span-of, within-product}
-use Rattle.enclose_exp.proofs.DecayInterval.{exp_neg_of-interval, exp_neg_of-low, exp_neg_of-high}
-use Rattle.scene_parts.specs.Views.{Zone}
-=======
 use Rattle.fix_interval.proofs.Ratios.{ratio_of-small}
 use Rattle.fix_interval.proofs.Rounding.{ceil_of-mono, floor_of-le-ceil_of}
 use Rattle.fix_interval.proofs.Ranging.{LiesIn-All}
@@ -33,7 +22,6 @@ use Rattle.fix_interval.proofs.RangedFormulas.{between, part-between}
 use Rattle.fix_interval.proofs.Dividing.{≤ℤ_trans}
 use Rattle.enclose_exp.proofs.PowerRanges.{decay-ranged}
 use Rattle.scene_parts.specs.Views.{Zone}
->>>>>>> 48696fceebd1b3723a2ab0611c3373adcd883b7f
 use Rattle.path_shape.specs.declared.path.Path.{Path}
 use Rattle.path_shape.proofs.Lengths.{Found, path-found}
 use Rattle.path_shape.specs.Shape.{IsPath}
