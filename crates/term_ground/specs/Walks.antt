@@ -36,7 +36,11 @@ stretch_of region path = record {
 }
 
 abbrev pub stretches_of : Path → Stretches
-stretches_of path = record { source = stretch_of Source path; middle = stretch_of Middle path; receiver = stretch_of Receiver path }
+stretches_of path = record {
+  source = stretch_of Source path;
+  middle = stretch_of Middle path;
+  receiver = stretch_of Receiver path;
+}
 
 -- the same quantity for each region
 abbrev pub same : Interval → Regional
@@ -100,14 +104,15 @@ pub record IsRoute (route : Route) (path : Path) : Type 0 where
   pub stretches_are : route.stretches ≡ stretches_of path
   pub legs_are : HasLegs path.legs path.s path.r route.stretches route.first route.second
 
--- how much of each region an outline holds on a leg that it meets
+-- how much of each stretch an outline holds, on a line from a point along a direction
+abbrev pub lengths_along : List Pt → Pt → Dir → Stretches → Regional
+lengths_along outline from dir stretches =
+    of_stretches (λ stretch. enc (length_inside outline from dir (Known stretch.from) (Known stretch.to))) stretches
+
+-- how much of each region it holds on a leg that it meets
 abbrev pub lengths_on_leg : List Pt → Leg → Option Regional
 lengths_on_leg outline leg =
-    then_some
-    (meets_of outline leg.start leg.dir leg.end)
-    (of_stretches
-    (λ stretch. enc (length_inside outline leg.start leg.dir (Known stretch.from) (Known stretch.to)))
-    leg.stretches)
+    then_some (meets_of outline leg.start leg.dir leg.end) (lengths_along outline leg.start leg.dir leg.stretches)
 
 -- the sums of lengths on two legs
 abbrev pub sums_of : Regional → Regional → Regional
@@ -167,3 +172,7 @@ known_term outside path stretch zone =
 abbrev pub summed : List Zone → Interval → Path → Interval → Stretch → Interval
 summed zones outside path sum stretch =
     enc (plus_all (Known sum) (map (known_term outside path stretch) (met_zones path zones)))
+
+-- what zones add to sums, in each region of a path
+abbrev pub with_zones : List Zone → Interval → Path → Regional → Regional
+with_zones zones outside path sums = advanced (summed zones outside path) sums (stretches_of path)
