@@ -1,9 +1,12 @@
--- A_s or A_r of Table 3 as the code keeps it: once for all bands from 2 kHz on, and without that of 63 Hz.
-use Rattle.std.specs.Prelude.{◌≡◌, ℕ}
+-- Scaffolding between the code and the definitions: A_s or A_r of Table 3 as the code keeps it, once for all bands from 2 kHz on, and without that of 63 Hz.
+use Rattle.std.specs.Prelude.{◌≡◌, ℕ, pos, Some, List}
 use Rattle.fix_interval.specs.Interval.{Interval}
 use Rattle.fix_interval.specs.Tree.{Tree, Known, enc}
+use Rattle.path_shape.specs.declared.path.Path.{Path}
 use Rattle.term_ground.specs.declared.attenuation.EndRegion.{EndRegion}
-use Rattle.term_ground.specs.Ground.{a_prime, b_prime, c_prime, d_prime, end_region_below_2khz, end_region_from_2khz, minus_one_and_a_half}
+use Rattle.term_ground.specs.declared.attenuation.EndRegions.{EndRegions}
+use Rattle.term_ground.specs.declared.stretch.Regional.{Regional}
+use Rattle.term_ground.specs.Ground.{a_prime, b_prime, c_prime, d_prime, end_region_below_2khz, end_region_from_2khz, minus_one_and_a_half, attenuations}
 
 -- with the ground factor of the region, the height at its end, and the plan length
 pub record IsEndRegion (region : EndRegion) (share : Interval) (h : ℕ) (dp : Tree) : Type 0 where
@@ -12,6 +15,20 @@ pub record IsEndRegion (region : EndRegion) (share : Interval) (h : ℕ) (dp : T
   pub at_500 : region.at_500 ≡ enc (end_region_below_2khz (Known share) (c_prime h dp))
   pub at_1000 : region.at_1000 ≡ enc (end_region_below_2khz (Known share) (d_prime h dp))
   pub high : region.high ≡ enc (end_region_from_2khz (Known share))
+
+-- both, with the ground factors of the regions of a path, and the heights at its ends
+pub record AreEndRegions (ends : EndRegions) (shares : Regional) (hs hr : ℕ) (dp : Interval) : Type 0 where
+  pub source : IsEndRegion ends.source shares.source hs (Known dp)
+  pub receiver : IsEndRegion ends.receiver shares.receiver hr (Known dp)
+
+-- the attenuations, with the ground factors of the regions known
+abbrev pub known_attenuations : Regional → Path → List Tree
+known_attenuations shares path =
+    attenuations (Known shares.source) (Known shares.middle) (Known shares.receiver) path (Known path.dp)
+
+-- no part of the ground is porous
+abbrev pub no_factor : Interval
+no_factor = record { lo = Some (pos 0); hi = Some (pos 0) }
 
 -- on hard ground
 abbrev pub hard : EndRegion

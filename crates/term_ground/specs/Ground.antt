@@ -3,7 +3,7 @@
 use Rattle.std.specs.Prelude.{ℕ, ◌*◌, ◌^◌, pos, neg_ℤ, List, [], ◌∷◌}
 use Rattle.std.specs.Int.{abs_diff}
 use Rattle.fix_interval.specs.Tree.{Tree, Const, Add, Sub, Mul, Div, ExpNeg, Pick}
-use Rattle.scene_parts.specs.Views.{Zone}
+use Rattle.scene_parts.specs.Seen.{Zone}
 use Rattle.path_shape.specs.declared.path.Path.{Path}
 use Rattle.term_ground.specs.declared.region.Region.TheVariants.{Source, Middle, Receiver}
 use Rattle.term_ground.specs.Lengths.{zero_form, one_form}
@@ -87,19 +87,40 @@ middle_at_63 q = Mul (Const (neg_ℤ (pos 3)) 1) q
 abbrev pub middle_above : Tree → Tree → Tree
 middle_above q g = Mul (middle_at_63 q) (hard_part g)
 
--- A_s + A_r + A_m (equation 9) in each band, with the ground factors of the source, middle and receiver region
+-- A_s + A_r + A_m (equation 9), with the ground factors of the source, middle and receiver region
+
+-- in a band from 125 Hz to 1 kHz, with that one of a'(h) to d'(h) that belongs to it
+abbrev pub below_2khz : (ℕ → Tree → Tree) → Tree → Tree → Tree → Path → Tree → Tree
+below_2khz prime gs gm gr path dp =
+    Add
+    (Add (end_region_below_2khz gs (prime path.hs dp)) (end_region_below_2khz gr (prime path.hr dp)))
+    (middle_above (middle_part path dp) gm)
+
+-- in a band from 2 kHz on
+abbrev pub from_2khz : Tree → Tree → Tree → Path → Tree → Tree
+from_2khz gs gm gr path dp =
+    Add (Add (end_region_from_2khz gs) (end_region_from_2khz gr)) (middle_above (middle_part path dp) gm)
+
+-- in each band
 abbrev pub attenuations : Tree → Tree → Tree → Path → Tree → List Tree
 attenuations gs gm gr path dp =
-    let q = middle_part path dp in
-    let high = Add (Add (end_region_from_2khz gs) (end_region_from_2khz gr)) (middle_above q gm) in
-    Add (Add minus_one_and_a_half minus_one_and_a_half) (middle_at_63 q)
-    ∷ Add (Add (end_region_below_2khz gs (a_prime path.hs dp)) (end_region_below_2khz gr (a_prime path.hr dp))) (middle_above q gm)
-    ∷ Add (Add (end_region_below_2khz gs (b_prime path.hs dp)) (end_region_below_2khz gr (b_prime path.hr dp))) (middle_above q gm)
-    ∷ Add (Add (end_region_below_2khz gs (c_prime path.hs dp)) (end_region_below_2khz gr (c_prime path.hr dp))) (middle_above q gm)
-    ∷ Add (Add (end_region_below_2khz gs (d_prime path.hs dp)) (end_region_below_2khz gr (d_prime path.hr dp))) (middle_above q gm)
-    ∷ high ∷ high ∷ high ∷ []
+    Add (Add minus_one_and_a_half minus_one_and_a_half) (middle_at_63 (middle_part path dp))
+    ∷ below_2khz a_prime gs gm gr path dp
+    ∷ below_2khz b_prime gs gm gr path dp
+    ∷ below_2khz c_prime gs gm gr path dp
+    ∷ below_2khz d_prime gs gm gr path dp
+    ∷ from_2khz gs gm gr path dp
+    ∷ from_2khz gs gm gr path dp
+    ∷ from_2khz gs gm gr path dp
+    ∷ []
 
--- A_gr of a path whose plan length is dp, among zones of ground, with the ground factor g0 in hundredths outside of them
+-- A_gr of a path whose plan length is dp, among zones of ground, with the ground factor g0, in hundredths, outside of
+-- them
 unfoldable pub ground : List Zone → ℕ → Path → Tree → List Tree
 ground zones g0 path dp =
-    attenuations (share_of Source zones g0 path dp) (share_of Middle zones g0 path dp) (share_of Receiver zones g0 path dp) path dp
+    attenuations
+    (share_of Source zones g0 path dp)
+    (share_of Middle zones g0 path dp)
+    (share_of Receiver zones g0 path dp)
+    path
+    dp

@@ -2,7 +2,7 @@
 use Rattle.std.specs.Prelude.{◌≡◌, ℕ, List, map}
 use Rattle.std.specs.List.{All}
 use Rattle.fix_interval.specs.Tree.{Tree, IsSound, enc}
-use Rattle.scene_parts.specs.Views.{Zone}
+use Rattle.scene_parts.specs.Seen.{Zone}
 use Rattle.path_shape.specs.declared.path.Path.{Path}
 use Rattle.term_ground.specs.Zones.{met_zones}
 use Rattle.term_ground.specs.Ground.{ground}
@@ -14,9 +14,11 @@ SameForOneLength = (zones : List Zone) (g0 : ℕ) (path : Path) (a b : Tree) →
 
 -- and on the zones that meet the path alone
 abbrev pub SameForMetZones : Type 0
-SameForMetZones = (zones others : List Zone) (g0 : ℕ) (path : Path) (dp : Tree) → met_zones path zones ≡ met_zones path others
+SameForMetZones = (zones others : List Zone) (g0 : ℕ) (path : Path) (dp : Tree)
+    → met_zones path zones ≡ met_zones path others
     → ground zones g0 path dp ≡ ground others g0 path dp
 
 -- every formula of it is sound where that of the plan length is, so that its interval encloses it
 abbrev pub GroundIsSound : Type 0
-GroundIsSound = (zones : List Zone) (g0 : ℕ) (path : Path) (dp : Tree) → IsSound dp → All IsSound (ground zones g0 path dp)
+GroundIsSound = (zones : List Zone) (g0 : ℕ) (path : Path) (dp : Tree) → IsSound dp
+    → All IsSound (ground zones g0 path dp)

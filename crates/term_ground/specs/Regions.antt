@@ -1,7 +1,8 @@
 -- The three regions of a path, and the part of each that is porous ground (ISO 9613-2, 7.3.1).
 use Rattle.std.specs.Prelude.{ℕ, ◌+◌, List, map}
-use Rattle.fix_interval.specs.Tree.{Tree, Sub, Mul, Div, Max, Min, Pick}
-use Rattle.scene_parts.specs.Views.{Zone}
+use Rattle.fix_interval.specs.Interval.{Interval}
+use Rattle.fix_interval.specs.Tree.{Tree, Known, Sub, Mul, Div, Max, Min, Pick, enc}
+use Rattle.scene_parts.specs.Seen.{Zone}
 use Rattle.path_shape.specs.declared.path.Path.{Path}
 use Rattle.term_ground.specs.declared.region.Region.{Region}
 use Rattle.term_ground.specs.declared.region.Region.TheVariants.{Source, Middle, Receiver}
@@ -43,4 +44,12 @@ stretch_share zones g0 path u0 u1 =
 -- the ground factor G of a region of a path whose plan length is dp, with g0 in hundredths outside of zones
 unfoldable pub share_of : Region → List Zone → ℕ → Path → Tree → Tree
 share_of region zones g0 path dp =
-    Pick dp (region_from region path) (stretch_share zones g0 path (region_start region path dp) (region_end region path dp)) (factor g0)
+    Pick
+    dp
+    (region_from region path)
+    (stretch_share zones g0 path (region_start region path dp) (region_end region path dp))
+    (factor g0)
+
+-- its interval, by that of the plan length
+abbrev pub known_share : Region → List Zone → ℕ → Path → Interval
+known_share region zones g0 path = enc (share_of region zones g0 path (Known path.dp))

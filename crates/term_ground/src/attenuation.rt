@@ -1,13 +1,11 @@
 //! The attenuation by the ground in the octave bands (ISO 9613-2, equation 9 and Table 3).
 
 ghost use Rattle.std.specs.Prelude.{◌≡◌, ◌≤◌, pos, map, true, Some};
-ghost use Rattle.std.specs.List.{All};
-ghost use Rattle.fix_interval.specs.Bounds.{AreBetween};
 ghost use Rattle.fix_interval.specs.Tree.{Known, Add, Const, Mul, enc};
 ghost use Rattle.path_shape.specs.Shape.{IsPath};
 ghost use Rattle.term_ground.specs.Ground.{ground};
-ghost use Rattle.term_ground.specs.Limits.{HasHeights, least_ground, most_ground};
-ghost use Rattle.term_ground.specs.EndRegions.{IsEndRegion, hard};
+ghost use Rattle.term_ground.specs.Limits.{HasHeights, AreLimited};
+ghost use Rattle.term_ground.specs.EndRegions.{AreEndRegions, IsEndRegion, hard, known_attenuations, no_factor};
 ghost use Rattle.term_ground.specs.Ground as form;
 
 use crate::decays::{Decays, Growths, decays_at, growths_over};
@@ -23,7 +21,7 @@ use scene_parts::Zone;
 pub fn a_gr(zones: &[Zone], g0: u8, path: &Path) -> [Iv; 8]
     requires { IsPath path.now }
     ensures value { result ≡ map enc (ground zones.now g0 path.now (Known path.now.dp)) }
-    ensures bounds { g0 ≤ 100 → HasHeights path.now → All (AreBetween least_ground most_ground) result }
+    ensures bounds { g0 ≤ 100 → HasHeights path.now → AreLimited result }
 {
     a_gr_between(zones, g0, path, &decays_at(path.hs), &decays_at(path.hr))
 }
@@ -40,7 +38,7 @@ pub fn a_gr_between(
     requires source { source.now.h ≡ path.now.hs }
     requires receiver { receiver.now.h ≡ path.now.hr }
     ensures value { result ≡ map enc (ground zones.now g0 path.now (Known path.now.dp)) }
-    ensures bounds { g0 ≤ 100 → HasHeights path.now → All (AreBetween least_ground most_ground) result }
+    ensures bounds { g0 ≤ 100 → HasHeights path.now → AreLimited result }
 {
     let shares = shares(zones, g0, path);
     let ends = end_regions(&shares, path, source, receiver);
@@ -49,9 +47,8 @@ pub fn a_gr_between(
 
 /// The attenuations in the bands, with A_s and A_r.
 fn in_bands(path: &Path, shares: &Regional, ends: &EndRegions) -> [Iv; 8]
-    requires source { IsEndRegion ends.now.source shares.now.source path.now.hs (Known path.now.dp) }
-    requires receiver { IsEndRegion ends.now.receiver shares.now.receiver path.now.hr (Known path.now.dp) }
-    ensures { result ≡ map enc (form.attenuations (Known shares.now.source) (Known shares.now.middle) (Known shares.now.receiver) path.now (Known path.now.dp)) }
+    requires { AreEndRegions ends.now shares.now path.now.hs path.now.hr path.now.dp }
+    ensures { result ≡ map enc (known_attenuations shares.now path.now) }
 {
     let source = &ends.source;
     let receiver = &ends.receiver;
@@ -100,8 +97,7 @@ struct EndRegions {
 /// calculated.
 fn end_regions(shares: &Regional, path: &Path, source: &Decays, receiver: &Decays) -> EndRegions
     requires { IsPath path.now }
-    ensures source { IsEndRegion result.source shares.now.source source.now.h (Known path.now.dp) }
-    ensures receiver { IsEndRegion result.receiver shares.now.receiver receiver.now.h (Known path.now.dp) }
+    ensures { AreEndRegions result shares.now source.now.h receiver.now.h path.now.dp }
 {
     if are_hard(shares) {
         return EndRegions {
@@ -118,15 +114,15 @@ fn end_regions(shares: &Regional, path: &Path, source: &Decays, receiver: &Decay
 
 /// Whether the ground factors of both end regions are exactly 0.
 fn are_hard(shares: &Regional) -> bool
-    ensures source { result ≡ true → shares.now.source ≡ record { lo = Some (pos 0); hi = Some (pos 0) } }
-    ensures receiver { result ≡ true → shares.now.receiver ≡ record { lo = Some (pos 0); hi = Some (pos 0) } }
+    ensures source { result ≡ true → shares.now.source ≡ no_factor }
+    ensures receiver { result ≡ true → shares.now.receiver ≡ no_factor }
 {
     is_hard(shares.source) && is_hard(shares.receiver)
 }
 
 /// Whether a ground factor is exactly 0.
 fn is_hard(share: Iv) -> bool
-    ensures { result ≡ true → share ≡ record { lo = Some (pos 0); hi = Some (pos 0) } }
+    ensures { result ≡ true → share ≡ no_factor }
 {
     share.low() == Some(0) && share.high() == Some(0)
 }

@@ -6,10 +6,11 @@ ghost use Rattle.fix_interval.specs.Tree.{Known, Add, enc};
 ghost use Rattle.scene_geom.specs.Direction.{FitsDirection};
 ghost use Rattle.scene_geom.specs.Crossing.{passage_of};
 ghost use Rattle.scene_geom.specs.Outline.{ring, area2_of};
-ghost use Rattle.term_ground.specs.Zones.{counted, length_inside};
+ghost use Rattle.term_ground.specs.Zones.{counted};
 ghost use Rattle.path_shape.specs.declared.path.Path.{Path};
-ghost use Rattle.term_ground.specs.Walks.{of_stretches, advanced, part_of, walked, walked_sides};
-ghost use Rattle.term_ground.specs.Walks.{IsRoute, lengths_on_leg, lengths_on_path, joined_lengths, sums_of};
+ghost use Rattle.term_ground.specs.Walks.{lengths_along, advanced, part_of, walked, walked_sides};
+ghost use Rattle.term_ground.specs.Walks.{IsRoute, lengths_on_leg, lengths_on_path, joined_lengths};
+ghost use Rattle.term_ground.specs.Walks.{sums_of};
 ghost use Rattle.term_ground.specs.Walks as walks;
 
 use crate::leg::{Leg, Route};
@@ -74,7 +75,7 @@ fn nothing() -> Regional
 /// How much of each region an outline holds, on a line from a point along a direction.
 fn lengths_inside(outline: &[Pt], from: Pt, dir: Dir, stretches: &Stretches) -> Regional
     requires { FitsDirection dir }
-    ensures { result ≡ of_stretches (λ stretch. enc (length_inside outline.now from dir (Known stretch.from) (Known stretch.to))) stretches.now }
+    ensures { result ≡ lengths_along outline.now from dir stretches.now }
 {
     let lengths = left_of_sides(outline, from, dir, stretches);
     if turns_right(outline) {
@@ -98,7 +99,9 @@ fn turns_right(outline: &[Pt]) -> bool
 /// What the sides of an outline that cross the line add and take off.
 fn left_of_sides(outline: &[Pt], from: Pt, dir: Dir, stretches: &Stretches) -> Regional
     requires { FitsDirection dir }
-    ensures { result ≡ advanced (walked_sides (ring outline.now) from dir) walks.nothing stretches.now }
+    ensures {
+        result ≡ advanced (walked_sides (ring outline.now) from dir) walks.nothing stretches.now
+    }
 {
     let mut lengths = nothing();
     let Some((first, rest)) = outline.split_first() else {
@@ -123,7 +126,9 @@ fn left_of_sides(outline: &[Pt], from: Pt, dir: Dir, stretches: &Stretches) -> R
 /// The lengths with what a side adds or takes off where it crosses the line.
 fn with_side(lengths: Regional, side: Side, from: Pt, dir: Dir, stretches: &Stretches) -> Regional
     requires { FitsDirection dir }
-    ensures { result ≡ advanced (walked (option_to_list (passage_of side from dir))) lengths stretches.now }
+    ensures {
+        result ≡ advanced (walked (option_to_list (passage_of side from dir))) lengths stretches.now
+    }
 {
     match passes(side, from, dir) {
         None => lengths,

@@ -7,7 +7,8 @@ ghost use Rattle.scene_geom.specs.Fraction.{FitsEnd};
 ghost use Rattle.path_shape.specs.Shape.{IsPath};
 ghost use Rattle.term_ground.specs.Lengths.{one_form};
 ghost use Rattle.term_ground.specs.Zones.{place_form};
-ghost use Rattle.term_ground.specs.Walks.{IsRoute, IsLeg, each_stretch, on_first_leg, on_second_leg};
+ghost use Rattle.term_ground.specs.Walks.{IsRoute, IsLeg};
+ghost use Rattle.term_ground.specs.Walks.{each_stretch, on_first_leg, on_second_leg};
 
 use crate::leg::{Leg, Route};
 use crate::stretch::{Stretch, Stretches, regions_of};
@@ -75,7 +76,8 @@ fn behind_wall(stretches: &Stretches, p: Frac) -> Stretches
 
 /// A stretch up to an end.
 fn cut(stretch: Stretch, end: Iv) -> Stretch
-    ensures { result ≡ record { from = stretch.from; to = enc (Min (Known stretch.to) (Known end)) } }
+    ensures from { result.from ≡ stretch.from }
+    ensures to { result.to ≡ enc (Min (Known stretch.to) (Known end)) }
 {
     Stretch {
         from: stretch.from,

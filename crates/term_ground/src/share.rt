@@ -6,10 +6,10 @@ ghost use Rattle.path_shape.specs.Shape.{IsPath};
 ghost use Rattle.path_shape.specs.declared.path.Path.{Path};
 ghost use Rattle.term_ground.specs.Lengths.{zero_form, one_form};
 ghost use Rattle.term_ground.specs.Lengths as form;
-ghost use Rattle.term_ground.specs.Regions.{share_of};
+ghost use Rattle.term_ground.specs.Regions.{share_of, known_share};
 ghost use Rattle.term_ground.specs.Regions as regions;
 ghost use Rattle.term_ground.specs.declared.region.Region.TheVariants.{Source, Middle, Receiver};
-ghost use Rattle.term_ground.specs.Walks.{IsRoute, advanced, summed, same, stretches_of, term_of};
+ghost use Rattle.term_ground.specs.Walks.{IsRoute, with_zones, same, term_of};
 
 use crate::covering::lengths_on;
 use crate::leg::Route;
@@ -38,9 +38,9 @@ pub fn region_share(zones: &[Zone], g0: u8, path: &Path, region: Region) -> Iv
 /// The ground factors of the three regions.
 pub(crate) fn shares(zones: &[Zone], g0: u8, path: &Path) -> Regional
     requires { IsPath path.now }
-    ensures source { result.source ≡ enc (share_of Source zones.now g0 path.now (Known path.now.dp)) }
-    ensures middle { result.middle ≡ enc (share_of Middle zones.now g0 path.now (Known path.now.dp)) }
-    ensures receiver { result.receiver ≡ enc (share_of Receiver zones.now g0 path.now (Known path.now.dp)) }
+    ensures source { result.source ≡ known_share Source zones.now g0 path.now }
+    ensures middle { result.middle ≡ known_share Middle zones.now g0 path.now }
+    ensures receiver { result.receiver ≡ known_share Receiver zones.now g0 path.now }
 {
     let outside = factor(g0);
     let sums = sums(zones, outside, path);
@@ -54,7 +54,10 @@ pub(crate) fn shares(zones: &[Zone], g0: u8, path: &Path) -> Regional
 
 /// A sum kept within 0 and 1, where the plan length is greater than a limit, and else the ground factor outside of zones.
 fn share(sum: Iv, outside: Iv, limit: Iv, dp: Iv) -> Iv
-    ensures { result ≡ enc (Pick (Known dp) (Known limit) (Max zero_form (Min one_form (Known sum))) (Known outside)) }
+    ensures {
+        result
+        ≡ enc (Pick (Known dp) (Known limit) (Max zero_form (Min one_form (Known sum))) (Known outside))
+    }
 {
     pick(less(limit, dp), max(exact(0), min(exact(1), sum)), outside)
 }
@@ -62,7 +65,7 @@ fn share(sum: Iv, outside: Iv, limit: Iv, dp: Iv) -> Iv
 /// The ground factor outside of zones and what each zone that meets the path adds to it in each region.
 fn sums(zones: &[Zone], outside: Iv, path: &Path) -> Regional
     requires { IsPath path.now }
-    ensures { result ≡ advanced (summed zones.now outside path.now) (same outside) (stretches_of path.now) }
+    ensures { result ≡ with_zones zones.now outside path.now (same outside) }
 {
     let mut total = Regional {
         source: outside,
@@ -81,7 +84,10 @@ fn sums(zones: &[Zone], outside: Iv, path: &Path) -> Regional
 
 /// The sums with what a zone adds to them, which is nothing where it doesn't meet the path.
 fn with_zone(total: Regional, zone: &Zone, outside: Iv, route: &Route) -> Regional
-    ensures { (path : Path) → IsRoute route.now path → result ≡ advanced (summed (zone.now ∷ []) outside path) total (stretches_of path) }
+    ensures {
+        (path : Path) → IsRoute route.now path
+        → result ≡ with_zones (zone.now ∷ []) outside path total
+    }
 {
     let Some(lengths) = lengths_on(zone.points.items(), route) else {
         return total;

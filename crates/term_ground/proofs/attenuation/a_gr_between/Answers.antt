@@ -4,7 +4,7 @@ use Rattle.fix_interval.specs.Interval.{Interval}
 use Rattle.fix_interval.specs.Tree.{Known, enc}
 use Rattle.fix_interval.specs.Bounds.{AreBetween}
 use Rattle.term_ground.specs.Ground.{ground}
-use Rattle.term_ground.specs.Limits.{least_ground, most_ground}
+use Rattle.term_ground.specs.Limits.{AreLimited}
 use Rattle.term_ground.proofs.Shares.{by-shares}
 use Rattle.term_ground.proofs.TermBounds.{ground-between}
 use Rattle.term_ground.proofs.attenuation.a_gr_between.Goals as goal
@@ -20,5 +20,5 @@ returns-clause-value c = value c
 
 pub returns-clause-bounds : goal.returns-clause-bounds
 returns-clause-bounds c = λ g heights.
-    subst (λ (found : List Interval). All (AreBetween least_ground most_ground) found) (sym (value c))
+    subst (λ (found : List Interval). AreLimited found) (sym (value c))
     (ground-between c.args.zones.now c.args.g0 c.args.path.now c.requires.path g heights)
