@@ -21,7 +21,7 @@ use Rattle.fix_interval.proofs.Ranging.{LiesIn-All}
 use Rattle.fix_interval.proofs.RangedFormulas.{between, part-between}
 use Rattle.fix_interval.proofs.Dividing.{≤ℤ_trans}
 use Rattle.enclose_exp.proofs.PowerRanges.{decay-ranged}
-use Rattle.scene_parts.specs.Seen.{Zone}
+use Rattle.scene_parts.specs.Views.{Zone}
 use Rattle.path_shape.specs.declared.path.Path.{Path}
 use Rattle.path_shape.proofs.Lengths.{Found, path-found}
 use Rattle.path_shape.specs.Shape.{IsPath}

@@ -12,7 +12,7 @@ use Rattle.scene_geom.specs.declared.direction.Dir.{Dir}
 use Rattle.scene_geom.specs.declared.crossing.Passage.{Passage}
 use Rattle.scene_geom.specs.Crossing.{passage_of}
 use Rattle.scene_geom.specs.Outline.{passages_of, ring, area2_of, meets_of}
-use Rattle.scene_parts.specs.Seen.{Zone}
+use Rattle.scene_parts.specs.Views.{Zone}
 use Rattle.path_shape.specs.declared.legs.Legs.TheVariants.{One}
 use Rattle.path_shape.specs.declared.path.Path.{Path}
 use Rattle.term_ground.specs.declared.stretch.Stretch.{Stretch}
