@@ -12,7 +12,7 @@ use Rattle.scene_book.specs.declared.edits.Edit.TheVariants as edits
 use Rattle.scene_book.specs.declared.edits.EditFault.{EditFault}
 use Rattle.scene_book.specs.declared.edits.EditFault.TheVariants.{NoMemory, NoSuchName, OtherClass, Full}
 use Rattle.std.specs.Option.{option_or}
-use Rattle.scene_parts.specs.Answers.{◌>>◌}
+use Rattle.scene_parts.specs.Answers.{◌>>◌, MatchesUnlessMemory}
 use Rattle.scene_book.specs.Limits.{most_sources, most_obstacles, most_sides, most_zones, most_receivers}
 use Rattle.scene_book.specs.Lists.{named, put_in, take_out, put_all}
 use Rattle.scene_book.specs.Book.{Book, side_total, globals_with}
@@ -65,6 +65,10 @@ abbrev pub beside : {A : Type 0} → Book → Result A EditFault → Result (Boo
 beside after (Ok old) = Ok (after, old)
 beside after (Err fault) = Err fault
 
+-- a call leaves this scene and answers as expected, unless there was no memory
+abbrev pub Leaves : {A : Type 0} → Book → Result A EditFault → Result (Book × A) EditFault → Type 0
+Leaves after result expected = MatchesUnlessMemory lacks_memory (beside after result) expected
+
 -- OtherClass: the name is borne by a part of another class
 abbrev pub own_class : List ℕ → Class → Option Class → Result (Unit {0}) EditFault
 own_class name class None = Ok tt
@@ -76,6 +80,10 @@ holder book name = option_map class_of (part_named book name)
 -- Full: more than the limit
 abbrev pub at_most : Class → ℕ → ℕ → Result (Unit {0}) EditFault
 at_most class limit count = if nat_lt limit count then Err (Full class limit) else Ok tt
+
+-- Full: more in a list than its class may have
+abbrev pub room_in : {A : Type 0} → Class → ℕ → List A → Result (Unit {0}) EditFault
+room_in class most things = at_most class most (length things)
 
 -- a part put into its list
 abbrev pub with_part : Part → Book → Book

@@ -34,6 +34,9 @@ globals_with setting globals = record {
   c0 = unwrap_or setting.c0 globals.c0;
 }
 
+abbrev pub with_setting : Setting → Book → Book
+with_setting setting book = record book { globals = globals_with setting book.globals }
+
 -- what every scene keeps: the limits
 pub record IsWithin (book : Book) : Type 0 where
   pub sources : length book.sources ≤ most_sources

@@ -1,7 +1,7 @@
 //! Edits applied to a scene.
 ghost use Rattle.std.specs.Prelude.{◌≡◌, ◌*◌, IfOk, OnErr};
 ghost use Rattle.scene_parts.specs.Answers.{MatchesUnlessMemory};
-ghost use Rattle.scene_book.specs.Applying.{apply_of, put_of, remove_of, grid_of, own_class as own_class_of, holder, all_own as all_own_of, name_of, class_of, beside, lacks_memory};
+ghost use Rattle.scene_book.specs.Applying.{apply_of, put_of, remove_of, grid_of, own_class as own_class_of, holder, all_own as all_own_of, name_of, class_of, Leaves, lacks_memory};
 
 use super::edits::{Edit, EditFault};
 use super::grids::receivers;
@@ -16,7 +16,7 @@ impl Scene {
     /// grid puts its receivers row by row. A refused edit changes nothing, nor does want of memory.
     #[tactic(auto, unfolding(crate::specs::Applying::apply_of))]
     pub fn apply(&mut self, alloc: Global, edit: &Edit) -> Result<Option<Part>, EditFault>
-        ensures value { MatchesUnlessMemory lacks_memory (beside self.new result) (apply_of edit.now self.old) }
+        ensures value { Leaves self.new result (apply_of edit.now self.old) }
         ensures unchanged { OnErr result (self.new ≡ self.old) }
     {
         match edit {
@@ -32,7 +32,7 @@ impl Scene {
 
     #[tactic(auto, unfolding(crate::specs::Applying::put_of))]
     fn apply_put(&mut self, alloc: Global, part: &Part) -> Result<Option<Part>, EditFault>
-        ensures value { MatchesUnlessMemory lacks_memory (beside self.new result) (put_of part.now self.old) }
+        ensures value { Leaves self.new result (put_of part.now self.old) }
         ensures unchanged { OnErr result (self.new ≡ self.old) }
     {
         self.own_class(part_name(part), part_class(part))?;
@@ -41,7 +41,7 @@ impl Scene {
 
     #[tactic(auto, unfolding(crate::specs::Applying::remove_of))]
     fn apply_remove(&mut self, name: &Name) -> Result<Option<Part>, EditFault>
-        ensures value { MatchesUnlessMemory lacks_memory (beside self.new result) (remove_of name.now self.old) }
+        ensures value { Leaves self.new result (remove_of name.now self.old) }
         ensures unchanged { OnErr result (self.new ≡ self.old) }
     {
         match self.take(name.items()) {
@@ -54,7 +54,7 @@ impl Scene {
 
     #[tactic(auto, unfolding(crate::specs::Applying::grid_of, crate::specs::Applying::put_receivers))]
     fn apply_grid(&mut self, alloc: Global, grid: &GridSpec) -> Result<Option<Part>, EditFault>
-        ensures value { MatchesUnlessMemory lacks_memory (beside self.new result) (grid_of grid.now self.old) }
+        ensures value { Leaves self.new result (grid_of grid.now self.old) }
         ensures unchanged { OnErr result (self.new ≡ self.old) }
     {
         at_most(Class::Receiver, MOST_RECEIVERS, count(grid))?;

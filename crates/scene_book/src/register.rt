@@ -2,7 +2,7 @@
 ghost use Rattle.std.specs.Prelude.{◌≡◌, ◌≤◌, List, [], ℕ, ◌+◌, ◌<◌, ◌^◌, length, IfOk, IfNone, OnOk, OnErr, is_some};
 ghost use Rattle.std.specs.Option.{option_copied};
 ghost use Rattle.scene_parts.specs.declared.kinds.Class.{Class as ClassWord};
-ghost use Rattle.scene_book.specs.Applying.{at_most as at_most_of};
+ghost use Rattle.scene_book.specs.Applying.{room_in};
 ghost use Rattle.scene_book.specs.Lists.{named, put_in, take_out, put_all, AreApart};
 
 use super::edits::EditFault;
@@ -85,7 +85,7 @@ impl<T: Named> Register<T> {
 
     /// Whether there are few enough once a thing is put, else `Full`.
     pub fn check_room(&self, new: &T) -> Result<(), EditFault>
-        ensures value { result ≡ at_most_of T.CLASS T.MOST (length (put_in T.name_of new.now self.now)) }
+        ensures value { result ≡ room_in T.CLASS T.MOST (put_in T.name_of new.now self.now) }
         ensures room { OnOk result (length (put_in T.name_of new.now self.now) ≤ T.MOST) }
     {
         at_most(T::CLASS, T::MOST, self.len_with(new))
@@ -95,7 +95,7 @@ impl<T: Named> Register<T> {
     pub fn check_room_for_all(&self, news: &[T]) -> Result<(), EditFault>
         requires apart { AreApart T.name_of news.now }
         requires few { length news.now < 2 ^ 63 }
-        ensures value { result ≡ at_most_of T.CLASS T.MOST (length (put_all T.name_of news.now self.now)) }
+        ensures value { result ≡ room_in T.CLASS T.MOST (put_all T.name_of news.now self.now) }
         ensures room { OnOk result (length (put_all T.name_of news.now self.now) ≤ T.MOST) }
     {
         at_most(T::CLASS, T::MOST, self.len_with_all(news))

@@ -1,9 +1,8 @@
 //! The scene.
 ghost use Rattle.std.specs.Prelude.{◌≡◌, Ok, IfOk, OnErr};
-ghost use Rattle.scene_parts.specs.Answers.{MatchesUnlessMemory};
 ghost use Rattle.scene_book.specs.Lists.{put_in, AreApart};
-ghost use Rattle.scene_book.specs.Book.{IsWithin, NamesAreApart, empty_book, side_total, globals_with};
-ghost use Rattle.scene_book.specs.Applying.{holder, class_of_shape, part_named, put_where_room, put_receivers as put_receivers_of, without_any, beside, lacks_memory};
+ghost use Rattle.scene_book.specs.Book.{IsWithin, NamesAreApart, empty_book, side_total, with_setting};
+ghost use Rattle.scene_book.specs.Applying.{holder, class_of_shape, part_named, put_where_room, put_receivers as put_receivers_of, without_any, Leaves};
 
 use super::edits::EditFault;
 use super::limits::{MOST_SIDES, at_most};
@@ -152,8 +151,7 @@ impl Scene {
     /// Puts a copy of a part where its class has room, and gives the one that it replaces.
     #[tactic(auto, unfolding(crate::specs::Applying::put_where_room))]
     pub(crate) fn put(&mut self, alloc: Global, part: &Part) -> Result<Option<Part>, EditFault>
-        ensures value { MatchesUnlessMemory lacks_memory (beside self.new result)
-            (put_where_room part.now self.old) }
+        ensures value { Leaves self.new result (put_where_room part.now self.old) }
         ensures unchanged { OnErr result (self.new ≡ self.old) }
     {
         match part {
@@ -188,8 +186,7 @@ impl Scene {
         news: Vec<Receiver>,
     ) -> Result<(), EditFault>
         requires { AreApart (λ r. r.name) news.items }
-        ensures value { MatchesUnlessMemory lacks_memory (beside self.new result)
-            (put_receivers_of news.items self.old) }
+        ensures value { Leaves self.new result (put_receivers_of news.items self.old) }
         ensures unchanged { OnErr result (self.new ≡ self.old) }
     {
         self.receivers.check_room_for_all(&news)?;
@@ -216,7 +213,7 @@ impl Scene {
 
     /// Sets some of the globals.
     pub(crate) fn set(&mut self, setting: &SetSpec)
-        ensures { self.new ≡ record self.old { globals = globals_with setting.now self.old.globals } }
+        ensures { self.new ≡ with_setting setting.now self.old }
     {
         self.globals = Globals {
             reach: setting.reach.unwrap_or(self.globals.reach),
