@@ -20,13 +20,13 @@ use Rattle.noise_map.specs.declared.status.Status.{Status}
 use Rattle.noise_map.specs.declared.status.Status.TheVariants as status
 use Rattle.noise_map.specs.declared.project.Project.{Project}
 use Rattle.noise_map.specs.Run.{empty_project}
-use Rattle.noise_map.specs.Run.{Effect, no_effect, line_effect, lines_effect, and_then}
-use Rattle.noise_map.specs.Taking.{TakesFront, HasEffect}
-use Rattle.noise_map.proofs.Versions.{line_effect-version}
+use Rattle.noise_map.specs.Run.{Course, no_course, line_course, lines_course, and_then}
+use Rattle.noise_map.specs.Taking.{TakesFront, HasCourse}
+use Rattle.noise_map.proofs.Versions.{line_course-version}
 use Rattle.noise_map.specs.Outcome.{run_of, CoversAll, CoversFront, TakesPartOf, Outcome}
 use Rattle.noise_map.specs.Progress.{status_at_end, status_of, ending_of, IsTextOf, HandedOut, Progress}
 
-abbrev done_with : Project → List ℕ → Bool → Effect
+abbrev done_with : Project → List ℕ → Bool → Course
 done_with project text refused = record { project = project; text = text; refused = refused }
 
 with_text : (project : Project) (s t : List ℕ) (refused : Bool) → s ≡ t → done_with project s refused ≡ done_with project t refused
@@ -36,29 +36,29 @@ with_refused : (project : Project) (text : List ℕ) (a b : Bool) → a ≡ b �
 with_refused project text a b e = ap (λ c. done_with project text c) e
 
 -- nothing more, and nothing before
-and_then-no_effect : (first : Effect) → and_then first (no_effect first.project) ≡ first
-and_then-no_effect first =
+and_then-no_course : (first : Course) → and_then first (no_course first.project) ≡ first
+and_then-no_course first =
     with_text first.project _ _ (first.refused || false) (append-nil first.text) ∙ with_refused first.project first.text _ _ (or-false first.refused)
 
-and_then-assoc : (first second third : Effect) → and_then (and_then first second) third ≡ and_then first (and_then second third)
+and_then-assoc : (first second third : Course) → and_then (and_then first second) third ≡ and_then first (and_then second third)
 and_then-assoc first second third =
     with_text third.project _ _ ((first.refused || second.refused) || third.refused) (append_assoc first.text second.text third.text)
     ∙ with_refused third.project (first.text ++ (second.text ++ third.text)) _ _ (or_assoc first.refused second.refused third.refused)
 
 -- one more line after others
-pub lines_effect-push : (bands : Bool) → (number : ℕ) (project : Project) (done : List (List ℕ)) (line : List ℕ) → lines_effect bands number project (done ++ line ∷ []) ≡ and_then (lines_effect bands number project done) (line_effect bands (number + length done) (lines_effect bands number project done).project line)
-unfolding lines_effect
-lines_effect-push bands number project [] line =
-    and_then-no_effect (line_effect bands number project line) ∙ ap (λ n. line_effect bands n project line) (sym (add-zero number))
-lines_effect-push bands number project (first ∷ more) line =
-    let one = line_effect bands number project first in
-    let rest = lines_effect bands (number + 1) one.project more in
-    ap (and_then one) (lines_effect-push bands (number + 1) one.project more line)
-    ∙ sym (and_then-assoc one rest (line_effect bands (number + 1 + length more) rest.project line))
-    ∙ ap (λ n. and_then (and_then one rest) (line_effect bands n rest.project line)) (omega arith)
+pub lines_course-push : (bands : Bool) → (number : ℕ) (project : Project) (done : List (List ℕ)) (line : List ℕ) → lines_course bands number project (done ++ line ∷ []) ≡ and_then (lines_course bands number project done) (line_course bands (number + length done) (lines_course bands number project done).project line)
+unfolding lines_course
+lines_course-push bands number project [] line =
+    and_then-no_course (line_course bands number project line) ∙ ap (λ n. line_course bands n project line) (sym (add-zero number))
+lines_course-push bands number project (first ∷ more) line =
+    let one = line_course bands number project first in
+    let rest = lines_course bands (number + 1) one.project more in
+    ap (and_then one) (lines_course-push bands (number + 1) one.project more line)
+    ∙ sym (and_then-assoc one rest (line_course bands (number + 1 + length more) rest.project line))
+    ∙ ap (λ n. and_then (and_then one rest) (line_course bands n rest.project line)) (omega arith)
 
-pub run_of-push : (bands : Bool) → (done : List (List ℕ)) (line : List ℕ) → run_of bands (done ++ line ∷ []) ≡ and_then (run_of bands done) (line_effect bands (length done + 1) (run_of bands done).project line)
-run_of-push bands done line = lines_effect-push bands 1 empty_project done line ∙ ap (λ n. and_then (run_of bands done) (line_effect bands n (run_of bands done).project line)) (omega arith)
+pub run_of-push : (bands : Bool) → (done : List (List ℕ)) (line : List ℕ) → run_of bands (done ++ line ∷ []) ≡ and_then (run_of bands done) (line_course bands (length done + 1) (run_of bands done).project line)
+run_of-push bands done line = lines_course-push bands 1 empty_project done line ∙ ap (λ n. and_then (run_of bands done) (line_course bands n (run_of bands done).project line)) (omega arith)
 
 pub all_but_last-push : (done : List (List ℕ)) (line : List ℕ) → all_but_last (done ++ line ∷ []) ≡ done
 all_but_last-push [] line = refl
@@ -74,7 +74,7 @@ none_plain = All-nil IsPlain
 
 -- a run that has just begun
 pub started : (bands : Bool) → (left taken : Option (List ℕ)) → Progress bands fresh empty_project 0 false left left taken taken
-unfolding lines_effect
+unfolding lines_course
 started bands left taken = record {
   done = [];
   plain = none_plain;
@@ -128,13 +128,13 @@ passed_more AtEnd r r' now after line passes = omega (arith, passes.0, passes.1.
 passed_more AfterFault r r' now after line passes = absurd passes
 passed_more AtLimit r r' now after line passes = absurd passes
 
-run_of-next : (bands : Bool) → (done : List (List ℕ)) (line : List ℕ) (count : ℕ) (project : Project) → length done ≡ count → (run_of bands done).project ≡ project → run_of bands (done ++ line ∷ []) ≡ and_then (run_of bands done) (line_effect bands (count + 1) project line)
+run_of-next : (bands : Bool) → (done : List (List ℕ)) (line : List ℕ) (count : ℕ) (project : Project) → length done ≡ count → (run_of bands done).project ≡ project → run_of bands (done ++ line ∷ []) ≡ and_then (run_of bands done) (line_course bands (count + 1) project line)
 run_of-next bands done line count project counted is =
-    run_of-push bands done line ∙ ap (λ n. and_then (run_of bands done) (line_effect bands (n + 1) (run_of bands done).project line)) counted ∙ ap (λ s. and_then (run_of bands done) (line_effect bands (count + 1) s line)) is
+    run_of-push bands done line ∙ ap (λ n. and_then (run_of bands done) (line_course bands (n + 1) (run_of bands done).project line)) counted ∙ ap (λ s. and_then (run_of bands done) (line_course bands (count + 1) s line)) is
 
 pub went_on : (bands : Bool) → (r r' : Reading) (project project' : Project) (count : ℕ) (refused was : Bool) (left now after taken_before taken_now taken_after : Option (List ℕ)) (line : List ℕ)
     → (p : Progress bands r project count refused left now taken_before taken_now) → HandedOut Going r left now p.done → IsPlain line → PassesLine r'.stop r r' now after line → r'.passed ≤ input_limit
-    → HasEffect (Ok was) (line_effect bands (count + 1) project line) project project' taken_now taken_after
+    → HasCourse (Ok was) (line_course bands (count + 1) project line) project' taken_now taken_after
     → Progress bands r' project' (count + 1) (refused || was) left after taken_before taken_after
 went_on bands r r' project project' count refused was left now after taken_before taken_now taken_after line p handed line_plain passes within does =
     let next = run_of-next bands p.done line count project p.counted p.project_is in
@@ -143,10 +143,10 @@ went_on bands r r' project project' count refused was left now after taken_befor
       plain = All-push IsPlain p.done line p.plain line_plain;
       counted = length-append p.done (line ∷ []) ∙ ap (λ n. n + 1) p.counted;
       few = omega (arith, p.few, passed_more r'.stop r r' now after line passes);
-      versions = omega (arith, p.versions, ap (λ (q : Project). q.version) does.1, line_effect-version bands (count + 1) project line);
-      project_is = ap (λ (d : Effect). d.project) next ∙ sym does.1;
-      refused_is = ap (λ (d : Effect). d.refused) next ∙ ap (λ b. b || (line_effect bands (count + 1) project line).refused) p.refused_is ∙ ap (λ b. refused || b) (sym does.0);
-      written = subst (Appends taken_before taken_after) (sym (ap (λ (d : Effect). d.text) next)) (Appends-trans taken_before taken_now taken_after (run_of bands p.done).text (line_effect bands (count + 1) project line).text p.written does.2);
+      versions = omega (arith, p.versions, ap (λ (q : Project). q.version) does.1, line_course-version bands (count + 1) project line);
+      project_is = ap (λ (d : Course). d.project) next ∙ sym does.1;
+      refused_is = ap (λ (d : Course). d.refused) next ∙ ap (λ b. b || (line_course bands (count + 1) project line).refused) p.refused_is ∙ ap (λ b. refused || b) (sym does.0);
+      written = subst (Appends taken_before taken_after) (sym (ap (λ (d : Course). d.text) next)) (Appends-trans taken_before taken_now taken_after (run_of bands p.done).text (line_course bands (count + 1) project line).text p.written does.2);
       handed_out = more_handed_out r'.stop r r' left now after p.done line p.plain line_plain handed within passes;
     }
 
@@ -270,7 +270,7 @@ broken_front bands r r' project count refused left now after taken_before taken_
     (more_handed_out r'.stop r r' left now after p.done line p.plain line_plain handed (omega (arith, within)) passes) within few
 
 broken_text : (bands : Bool) → (r : Reading) (project : Project) (count : ℕ) (refused : Bool) (left now taken_before taken_now taken_after : Option (List ℕ)) (line : List ℕ)
-    → (p : Progress bands r project count refused left now taken_before taken_now) → TakesFront taken_now taken_after (line_effect bands (count + 1) project line).text
+    → (p : Progress bands r project count refused left now taken_before taken_now) → TakesFront taken_now taken_after (line_course bands (count + 1) project line).text
     → TakesPartOf bands taken_before taken_after (p.done ++ line ∷ [])
 broken_text bands r project count refused left now taken_before taken_now taken_after line p takes =
     let next = run_of-next bands p.done line count project p.counted p.project_is in
@@ -278,7 +278,7 @@ broken_text bands r project count refused left now taken_before taken_now taken_
     record {
       part = before ++ takes.front;
       rest = takes.rest;
-      front = ap (λ (d : Effect). d.text) next ∙ ap (λ t. before ++ t) takes.parts ∙ sym (append_assoc before takes.front takes.rest);
+      front = ap (λ (d : Course). d.text) next ∙ ap (λ t. before ++ t) takes.parts ∙ sym (append_assoc before takes.front takes.rest);
       last = takes.front;
       others = ap (λ ls. (run_of bands ls).text ++ takes.front) (sym (all_but_last-push p.done line));
       taken = Appends-trans taken_before taken_now taken_after before takes.front p.written takes.taken;
@@ -286,21 +286,21 @@ broken_text bands r project count refused left now taken_before taken_now taken_
 
 pub broken_off : (bands : Bool) → (stopped : Stopped) (r r' : Reading) (project project' : Project) (count : ℕ) (refused : Bool) (left now after taken_before taken_now taken_after : Option (List ℕ)) (line : List ℕ)
     → (p : Progress bands r project count refused left now taken_before taken_now) → HandedOut Going r left now p.done → IsPlain line → PassesLine r'.stop r r' now after line → bytes_read r' ≤ input_limit → length r'.pending ≤ read_size
-    → HasEffect (Err stopped) (line_effect bands (count + 1) project line) project project' taken_now taken_after
+    → HasCourse (Err stopped) (line_course bands (count + 1) project line) project' taken_now taken_after
     → Outcome bands (status_of stopped) (count + 1) left after taken_before taken_after
 broken_off bands stops.WriteFault r r' project project' count refused left now after taken_before taken_now taken_after line p handed line_plain passes within few does = record {
   done = p.done ++ line ∷ [];
   counted = length-append p.done (line ∷ []) ∙ ap (λ n. n + 1) p.counted;
   covers = broken_front bands r r' project count refused left now after taken_before taken_now line p handed line_plain passes within few;
   refused = tt;
-  writes = broken_text bands r project count refused left now taken_before taken_now taken_after line p does.1;
+  writes = broken_text bands r project count refused left now taken_before taken_now taken_after line p does;
 }
 broken_off bands stops.NoMemory r r' project project' count refused left now after taken_before taken_now taken_after line p handed line_plain passes within few does = record {
   done = p.done ++ line ∷ [];
   counted = length-append p.done (line ∷ []) ∙ ap (λ n. n + 1) p.counted;
   covers = broken_front bands r r' project count refused left now after taken_before taken_now line p handed line_plain passes within few;
   refused = tt;
-  writes = broken_text bands r project count refused left now taken_before taken_now taken_after line p does.1;
+  writes = broken_text bands r project count refused left now taken_before taken_now taken_after line p does;
 }
 
 -- a run that had no memory for its reader
@@ -322,7 +322,7 @@ nothing_covered left = record {
 }
 
 pub never_begun : (bands : Bool) → (left taken : Option (List ℕ)) → Outcome bands status.NoMemory 0 left left taken taken
-unfolding lines_effect
+unfolding lines_course
 never_begun bands left taken = record {
   done = [];
   counted = refl;
@@ -407,15 +407,15 @@ pub line_handed : (bands : Bool) → (answer : Next) (r r' : Reading) (project :
 line_handed bands answer r r' project count refused left now after taken_before taken_now p goes gives stays = handed_by r.stop answer r r' refused left now after p.done refl p.handed_out goes gives stays
 
 -- what a line that the reader holds has done, or one that is too long
-abbrev pub HasNextEffect : Bool → Result Bool Stopped → Next → List ℕ → ℕ → Project → Project → Option (List ℕ) → Option (List ℕ) → Type 0
-HasNextEffect bands result answer held number old new before after = (text : List ℕ) → IsTextOf answer held text → HasEffect result (line_effect bands number old text) old new before after
+abbrev pub HasNextCourse : Bool → Result Bool Stopped → Next → List ℕ → ℕ → Project → Project → Option (List ℕ) → Option (List ℕ) → Type 0
+HasNextCourse bands result answer held number old new before after = (text : List ℕ) → IsTextOf answer held text → HasCourse result (line_course bands number old text) new before after
 
 text_held : (answer : Next) (r r' : Reading) (left now after : Option (List ℕ)) (done : List (List ℕ)) (held : List ℕ) → held ≡ r'.line → (h : Handed answer r r' left now after done) → IsTextOf answer held h.line
 text_held answer r r' left now after done held is h = subst (λ (t : List ℕ). IsTextOf answer t h.line) (sym is) h.text
 
 pub turned : (bands : Bool) → (answer : Next) (held : List ℕ) (r r' : Reading) (project project' : Project) (count : ℕ) (refused was : Bool) (left now after taken_before taken_now taken_after : Option (List ℕ))
     → Progress bands r project count refused left now taken_before taken_now → ending_of answer refused ≡ None → (r.stop ≡ Going → NextGives answer r r' now after) → StaysStopped answer r r' now after
-    → bytes_read r' ≤ input_limit → held ≡ r'.line → HasNextEffect bands (Ok was) answer held (count + 1) project project' taken_now taken_after
+    → bytes_read r' ≤ input_limit → held ≡ r'.line → HasNextCourse bands (Ok was) answer held (count + 1) project project' taken_now taken_after
     → Progress bands r' project' (count + 1) (refused || was) left after taken_before taken_after
 turned bands answer held r r' project project' count refused was left now after taken_before taken_now taken_after p goes gives stays within is does =
     let h = line_handed bands answer r r' project count refused left now after taken_before taken_now p goes gives stays in
@@ -424,7 +424,7 @@ turned bands answer held r r' project project' count refused was left now after 
 
 pub turned_off : (bands : Bool) → (stopped : Stopped) (answer : Next) (held : List ℕ) (r r' : Reading) (project project' : Project) (count : ℕ) (refused : Bool) (left now after taken_before taken_now taken_after : Option (List ℕ))
     → Progress bands r project count refused left now taken_before taken_now → ending_of answer refused ≡ None → (r.stop ≡ Going → NextGives answer r r' now after) → StaysStopped answer r r' now after
-    → bytes_read r' ≤ input_limit → length r'.pending ≤ read_size → held ≡ r'.line → HasNextEffect bands (Err stopped) answer held (count + 1) project project' taken_now taken_after
+    → bytes_read r' ≤ input_limit → length r'.pending ≤ read_size → held ≡ r'.line → HasNextCourse bands (Err stopped) answer held (count + 1) project project' taken_now taken_after
     → Outcome bands (status_of stopped) (count + 1) left after taken_before taken_after
 turned_off bands stopped answer held r r' project project' count refused left now after taken_before taken_now taken_after p goes gives stays within few is does =
     let h = line_handed bands answer r r' project count refused left now after taken_before taken_now p goes gives stays in

@@ -16,22 +16,25 @@ pub record FaultText : Type 0 where
   pub first : List ℕ
   pub second : List ℕ
 
--- a fault of which nothing more is said, and one with one text
+-- a fault of which nothing more is said, one with one text, and one with two
 abbrev pub plain : List ℕ → FaultText
 plain fault = record { fault = fault; first = []; second = [] }
 
 abbrev pub about : List ℕ → List ℕ → FaultText
 about fault first = record { fault = fault; first = first; second = [] }
 
+abbrev pub about_both : List ℕ → List ℕ → List ℕ → FaultText
+about_both fault first second = record { fault = fault; first = first; second = second }
+
 abbrev pub part_fault_text : PartFault → FaultText
 part_fault_text parts.NoMemory = plain []
-part_fault_text (parts.OutOfRange field value) = record { fault = codes "OutOfRange"; first = field_name field; second = signed_decimal value }
+part_fault_text (parts.OutOfRange field value) = about_both (codes "OutOfRange") (field_name field) (signed_decimal value)
 part_fault_text (parts.OutsideMethod kind) = about (codes "OutsideMethod") kind
 part_fault_text (parts.UnknownKind kind) = about (codes "UnknownKind") kind
 part_fault_text (parts.TooLight density) = about (codes "TooLight") (decimal density)
 part_fault_text (parts.FewCorners count) = about (codes "FewCorners") (decimal count)
 part_fault_text parts.FlatShape = plain (codes "FlatShape")
-part_fault_text (parts.SideTooLong side mm) = record { fault = codes "SideTooLong"; first = decimal side; second = decimal mm }
+part_fault_text (parts.SideTooLong side mm) = about_both (codes "SideTooLong") (decimal side) (decimal mm)
 part_fault_text (parts.WeakMirror rho) = about (codes "WeakMirror") (decimal rho)
 
 abbrev pub line_fault_text : LineFault → FaultText
@@ -46,8 +49,8 @@ line_fault_text (lines.Part fault) = part_fault_text fault
 abbrev pub edit_fault_text : EditFault → FaultText
 edit_fault_text edits.NoMemory = plain []
 edit_fault_text (edits.NoSuchName name) = about (codes "NoSuchName") name
-edit_fault_text (edits.OtherClass name class) = record { fault = codes "OtherClass"; first = name; second = class_name class }
-edit_fault_text (edits.Full class limit) = record { fault = codes "Full"; first = class_name class; second = decimal limit }
+edit_fault_text (edits.OtherClass name class) = about_both (codes "OtherClass") name (class_name class)
+edit_fault_text (edits.Full class limit) = about_both (codes "Full") (class_name class) (decimal limit)
 
 -- Want of memory is no refusal, and its texts are never written.
 abbrev pub refusal_text : Refusal → FaultText

@@ -13,7 +13,8 @@ low_hundredths level = 100 * units_of level.lo / unit
 abbrev pub high_hundredths : Interval → ℕ
 high_hundredths level = div_ceil (100 * units_of level.hi) unit
 
--- What is printed encloses the level, and each end lies less than a hundredth away. Both sides are in units of 2^-32 of 0.01 dB.
+-- What is printed encloses the level, and each end lies less than a hundredth away. Both sides are in units of 2^-32
+-- of 0.01 dB.
 pub record IsPrintedAround (level : Interval) : Type 0 where
   pub low : low_hundredths level * unit ≤ 100 * units_of level.lo
   pub low_near : 100 * units_of level.lo < low_hundredths level * unit + unit

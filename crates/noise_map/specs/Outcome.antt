@@ -1,16 +1,18 @@
 -- What a run promises for each of its statuses.
-use Rattle.std.specs.Prelude.{◌≡◌, ◌≢◌, ℕ, ◌≤◌, ◌⊎◌, Bool, true, false, List, [], ◌∷◌, ◌++◌, length, take, Option, IfSome}
+use Rattle.std.specs.Prelude.{◌≡◌, ◌≢◌, ℕ, ◌≤◌, ◌⊎◌, Bool, true, false, List}
+use Rattle.std.specs.Prelude.{[], ◌∷◌, ◌++◌, length, take, Option, IfSome}
 use Rattle.std.specs.Io.KnownBytes.{Consumes, Appends, IsAtEnd}
 use Rattle.map_io.specs.Causes.{Rose}
 use Rattle.map_io.specs.Lines.{lines, whole_lines, all_but_last, ended}
 use Rattle.map_io.specs.Reading.{input_limit, read_size}
 use Rattle.noise_map.specs.declared.status.Status.{Status}
-use Rattle.noise_map.specs.declared.status.Status.TheVariants.{Done, SomeRefused, Usage, ReadFault, WriteFault, NoMemory, InputLimit}
-use Rattle.noise_map.specs.Run.{Effect, empty_project, lines_effect}
+use Rattle.noise_map.specs.declared.status.Status.TheVariants.{Done, SomeRefused, Usage}
+use Rattle.noise_map.specs.declared.status.Status.TheVariants.{ReadFault, WriteFault, NoMemory, InputLimit}
+use Rattle.noise_map.specs.Run.{Course, empty_project, lines_course}
 
 -- what these lines do, from an empty scene on, where the rows of bands are asked for or not
-abbrev pub run_of : Bool → List (List ℕ) → Effect
-run_of bands done = lines_effect bands 1 empty_project done
+abbrev pub run_of : Bool → List (List ℕ) → Course
+run_of bands done = lines_course bands 1 empty_project done
 
 -- the input was read to its end, and these are all its lines
 pub record CoversAll (before after : Option (List ℕ)) (done : List (List ℕ)) : Type 0 where
@@ -32,11 +34,13 @@ pub record CoversLimit (before after : Option (List ℕ)) (done : List (List ℕ
   pub full : length read ≡ input_limit
   pub all : whole_lines read ≡ done
 
--- Nothing was read after the last of these lines: behind them was read at most what the read that brought its end brought
+-- Nothing was read after the last of these lines: behind them was read at most what the read that brought its end
+-- brought
 -- beside it, or the input is at its end, and these are all its lines.
 abbrev pub ReadsNoFurther : List ℕ → Option (List ℕ) → List (List ℕ) → Type 0
 ReadsNoFurther read after done =
-    ((beyond : List ℕ) × (read ≡ ended done ++ beyond) × (length beyond ≤ read_size)) ⊎ ((lines read ≡ done) × IsAtEnd after)
+    ((beyond : List ℕ) × (read ≡ ended done ++ beyond) × (length beyond ≤ read_size))
+    ⊎ ((lines read ≡ done) × IsAtEnd after)
 
 -- these are the first lines of the input, and no more was read, nor beyond the limit
 pub record CoversFront (before after : Option (List ℕ)) (done : List (List ℕ)) : Type 0 where
@@ -86,7 +90,8 @@ TellsRefused NoMemory refused = Unit {0}
 TellsRefused InputLimit refused = Unit {0}
 
 -- A run over the words of a command line: it did some lines of the input, and wrote their rows.
-pub record Outcome (bands : Bool) (status : Status) (count : ℕ) (left_before left_after taken_before taken_after : Option (List ℕ)) : Type 0 where
+pub record Outcome (bands : Bool) (status : Status) (count : ℕ)
+    (left_before left_after taken_before taken_after : Option (List ℕ)) : Type 0 where
   pub done : List (List ℕ)
   pub counted : length done ≡ count
   pub covers : Covers status left_before left_after done

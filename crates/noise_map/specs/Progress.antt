@@ -36,13 +36,15 @@ pub record AllHandedOut (reader : Reading) (before now : Option (List ℕ)) (don
 
 -- these lines were handed out: each with its line feed, or all there are, the last of them with none
 abbrev pub HandedOut : Stop → Reading → Option (List ℕ) → Option (List ℕ) → List (List ℕ) → Type 0
-HandedOut Going reader before now done = Consumes before (ahead reader now) (ended done) × (reader.passed ≡ length (ended done))
+HandedOut Going reader before now done =
+    Consumes before (ahead reader now) (ended done) × (reader.passed ≡ length (ended done))
 HandedOut AtEnd reader before now done = AllHandedOut reader before now done
 HandedOut AfterFault reader before now done = ⊥
 HandedOut AtLimit reader before now done = ⊥
 
 -- These lines were done, and the run may go on.
-pub record Progress (bands : Bool) (reader : Reading) (project : Project) (count : ℕ) (refused : Bool) (left_before left_now taken_before taken_now : Option (List ℕ)) : Type 0 where
+pub record Progress (bands : Bool) (reader : Reading) (project : Project) (count : ℕ) (refused : Bool)
+    (left_before left_now taken_before taken_now : Option (List ℕ)) : Type 0 where
   pub done : List (List ℕ)
   pub plain : All IsPlain done
   pub counted : length done ≡ count

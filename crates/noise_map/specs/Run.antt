@@ -1,5 +1,6 @@
 -- What lines do to a scene, and what they write.
-use Rattle.std.specs.Prelude.{ℕ, ◌+◌, Bool, true, false, ◌&&◌, ◌||◌, ◌==◌, nat_lt, List, [], ◌∷◌, ◌++◌, length, Option, Some, None, Result, Ok, Err, if◌then◌else◌, slice_index_or, unwrap_or}
+use Rattle.std.specs.Prelude.{ℕ, ◌+◌, Bool, true, false, ◌&&◌, ◌||◌, ◌==◌, nat_lt, List, [], ◌∷◌, ◌++◌}
+use Rattle.std.specs.Prelude.{length, Option, Some, None, Result, Ok, Err, if◌then◌else◌, slice_index_or, unwrap_or}
 use Rattle.std.specs.List.{list_all, flat_map}
 use Rattle.scene_parts.specs.Views.{Receiver, Setting}
 use Rattle.scene_parts.specs.declared.parts.Part.{Part}
@@ -22,41 +23,36 @@ use Rattle.map_io.specs.Reading.{line_limit}
 use Rattle.noise_map.specs.declared.project.Project.{Project}
 use Rattle.noise_map.specs.declared.refusal.Refusal.{Refusal}
 use Rattle.noise_map.specs.declared.refusal.Refusal.TheVariants.{LongLine, Line, NotBuilt, Edit as OfEdit}
-use Rattle.noise_map.specs.Rows.{settle_row, current_row, band_level_row, refused_row}
-use Rattle.noise_map.specs.Level.{low_hundredths, high_hundredths}
+use Rattle.noise_map.specs.declared.answer.Answer.{Answer}
+use Rattle.noise_map.specs.declared.answer.Answer.TheVariants.{Nothing, Settled, Refused}
+use Rattle.noise_map.specs.Rows.{settle_row, level_row, band_level_row, refused_row}
 
 -- a scene without parts, of version 0
 abbrev pub empty_project : Project
 empty_project = record { scene = empty_book; version = 0 }
 
--- what one line has done, or several: the scene after them, the text of their rows, and whether one was refused
+-- what a line does: the scene after it, and what is shown of it
 pub record Effect : Type 0 where
   pub project : Project
-  pub text : List ℕ
-  pub refused : Bool
+  pub answer : Answer
 
--- nothing is written
+-- nothing is shown
 abbrev pub no_effect : Project → Effect
-no_effect project = record { project = project; text = []; refused = false }
+no_effect project = record { project = project; answer = Nothing }
 
--- a refused line has one row that names its fault, and changes nothing
-abbrev pub refusal : ℕ → Project → Refusal → Effect
-refusal number project fault = record { project = project; text = refused_row project.version number fault; refused = true }
+-- a refused line changes nothing, and its row names the fault
+abbrev pub refusal : Project → Refusal → Effect
+refusal project fault = record { project = project; answer = Refused fault }
 
 -- ---- settles
-
--- the row of a receiver, with its A-weighted long-term level
-unfoldable pub level_row : ℕ → List ℕ → Levels → List ℕ
-level_row version name levels = current_row version name (low_hundredths levels.total) (high_hundredths levels.total)
 
 -- the level of a band
 abbrev pub level_in : Levels → Band → Interval
 level_in levels band = slice_index_or levels.bands (place_of band) levels.total
 
 -- the row of one of its bands
-unfoldable pub band_row : ℕ → List ℕ → Levels → Band → List ℕ
-band_row version name levels band =
-    band_level_row version name (frequency_of band) (low_hundredths (level_in levels band)) (high_hundredths (level_in levels band))
+abbrev pub band_row : ℕ → List ℕ → Levels → Band → List ℕ
+band_row version name levels band = band_level_row version name (frequency_of band) (level_in levels band)
 
 -- the rows of its bands, where they are asked for
 abbrev pub band_rows : Bool → ℕ → List ℕ → Levels → List ℕ
@@ -64,16 +60,16 @@ band_rows false version name levels = []
 band_rows true version name levels = flat_map (band_row version name levels) all_bands
 
 abbrev pub level_rows : Bool → ℕ → List ℕ → Levels → List ℕ
-level_rows bands version name levels = level_row version name levels ++ band_rows bands version name levels
+level_rows bands version name levels = level_row version name levels.total ++ band_rows bands version name levels
 
 -- the rows of a receiver: the levels that the whole scene gives there
-unfoldable pub receiver_rows : Bool → Project → Receiver → List ℕ
-receiver_rows bands project r = level_rows bands project.version r.name (show_of project.scene r)
+unfoldable pub receiver_rows : Bool → ℕ → Book → Receiver → List ℕ
+receiver_rows bands version book r = level_rows bands version r.name (show_of book r)
 
 -- the rows of a settle: its head, and those of each receiver
-unfoldable pub settle_rows : Bool → Project → List ℕ
-settle_rows bands project =
-    settle_row project.version (length project.scene.receivers) ++ flat_map (receiver_rows bands project) project.scene.receivers
+unfoldable pub settle_rows : Bool → ℕ → Book → List ℕ
+settle_rows bands version book =
+    settle_row version (length book.receivers) ++ flat_map (receiver_rows bands version book) book.receivers
 
 -- ---- edits
 
@@ -94,21 +90,21 @@ is_unbuilt (edits.Grid grid) = false
 is_unbuilt (edits.Set setting) = is_unbuilt_setting setting
 
 -- the scene after an edit is the next version; a refused edit changes nothing
-abbrev pub apply_effect : ℕ → Project → Result (Book × Option Part) EditFault → Effect
-apply_effect number project (Ok after) = no_effect (record { scene = after.0; version = project.version + 1 })
-apply_effect number project (Err fault) = refusal number project (OfEdit fault)
+abbrev pub apply_effect : Project → Result (Book × Option Part) EditFault → Effect
+apply_effect project (Ok after) = no_effect (record { scene = after.0; version = project.version + 1 })
+apply_effect project (Err fault) = refusal project (OfEdit fault)
 
-unfoldable pub edit_effect : ℕ → Project → Edit → Effect
-edit_effect number project edit =
-    if is_unbuilt edit then refusal number project NotBuilt else apply_effect number project (apply_of edit project.scene)
+unfoldable pub edit_effect : Project → Edit → Effect
+edit_effect project edit =
+    if is_unbuilt edit then refusal project NotBuilt else apply_effect project (apply_of edit project.scene)
 
 -- ---- lines
 
--- what a command does, where the rows of bands are asked for or not
-unfoldable pub command_effect : Bool → ℕ → Project → Command → Effect
-command_effect bands number project (commands.Edit edit) = edit_effect number project edit
-command_effect bands number project commands.Settle = record { project = project; text = settle_rows bands project; refused = false }
-command_effect bands number project commands.Look = refusal number project NotBuilt
+-- what a command does
+unfoldable pub command_effect : Project → Command → Effect
+command_effect project (commands.Edit edit) = edit_effect project edit
+command_effect project commands.Settle = record { project = project; answer = Settled }
+command_effect project commands.Look = refusal project NotBuilt
 
 -- spaces, tabs and carriage returns alone
 abbrev pub is_blank_byte : ℕ → Bool
@@ -117,23 +113,57 @@ is_blank_byte b = (b == 32) || (b == 9) || (b == 13)
 abbrev pub is_blank : List ℕ → Bool
 is_blank line = list_all is_blank_byte line
 
-unfoldable pub answer_effect : Bool → ℕ → Project → Result Command LineFault → Effect
-answer_effect bands number project (Ok command) = command_effect bands number project command
-answer_effect bands number project (Err fault) = refusal number project (Line fault)
+unfoldable pub answer_effect : Project → Result Command LineFault → Effect
+answer_effect project (Ok command) = command_effect project command
+answer_effect project (Err fault) = refusal project (Line fault)
 
--- what the line of this number does: a long one is refused, a blank one passed over
-unfoldable pub line_effect : Bool → ℕ → Project → List ℕ → Effect
-line_effect bands number project line =
-    if nat_lt line_limit (length line) then refusal number project LongLine
-    else (if is_blank line then no_effect project else answer_effect bands number project (command_of line))
+-- what a line does: a long one is refused, a blank one passed over
+unfoldable pub line_effect : Project → List ℕ → Effect
+line_effect project line =
+    if nat_lt line_limit (length line) then refusal project LongLine
+    else (if is_blank line then no_effect project else answer_effect project (command_of line))
 
--- one thing after another
-abbrev pub and_then : Effect → Effect → Effect
-and_then first next = record { project = next.project; text = first.text ++ next.text; refused = first.refused || next.refused }
+-- ---- runs
+
+-- what several lines have done: the scene after them, the text of their rows, and whether one was refused
+pub record Course : Type 0 where
+  pub project : Project
+  pub text : List ℕ
+  pub refused : Bool
+
+-- the rows of the line of this number, after which the scene is this
+abbrev pub rows_of : Bool → ℕ → Project → Answer → List ℕ
+rows_of bands number project Nothing = []
+rows_of bands number project Settled = settle_rows bands project.version project.scene
+rows_of bands number project (Refused fault) = refused_row project.version number fault
+
+abbrev pub is_refusal : Answer → Bool
+is_refusal Nothing = false
+is_refusal Settled = false
+is_refusal (Refused fault) = true
+
+abbrev pub course_of : Bool → ℕ → Effect → Course
+course_of bands number effect = record {
+  project = effect.project;
+  text = rows_of bands number effect.project effect.answer;
+  refused = is_refusal effect.answer;
+}
+
+-- the course of one line, and of none
+unfoldable pub line_course : Bool → ℕ → Project → List ℕ → Course
+line_course bands number project line = course_of bands number (line_effect project line)
+
+abbrev pub no_course : Project → Course
+no_course project = record { project = project; text = []; refused = false }
+
+-- one course after another
+abbrev pub and_then : Course → Course → Course
+and_then first next =
+    record { project = next.project; text = first.text ++ next.text; refused = first.refused || next.refused }
 
 -- what these lines do, the first of which has this number
-unfoldable pub lines_effect : Bool → ℕ → Project → List (List ℕ) → Effect
-lines_effect bands number project [] = no_effect project
-lines_effect bands number project (line ∷ more) =
-    let first = line_effect bands number project line in
-    and_then first (lines_effect bands (number + 1) first.project more)
+unfoldable pub lines_course : Bool → ℕ → Project → List (List ℕ) → Course
+lines_course bands number project [] = no_course project
+lines_course bands number project (line ∷ more) =
+    let first = line_course bands number project line in
+    and_then first (lines_course bands (number + 1) first.project more)

@@ -4,8 +4,9 @@ use Rattle.std.specs.Io.KnownBytes.{Appends}
 use Rattle.map_io.specs.Causes.{Rose}
 use Rattle.noise_map.specs.declared.stopped.Stopped.{Stopped}
 use Rattle.noise_map.specs.declared.stopped.Stopped.TheVariants.{WriteFault, NoMemory}
+use Rattle.noise_map.specs.declared.answer.Answer.{Answer}
 use Rattle.noise_map.specs.declared.project.Project.{Project}
-use Rattle.noise_map.specs.Run.{Effect}
+use Rattle.noise_map.specs.Run.{Effect, Course}
 
 -- the sink has taken a front of the text, where it tells
 pub record TakesFront (before after : Option (List ℕ)) (text : List ℕ) : Type 0 where
@@ -25,7 +26,13 @@ pub record CausedByWriteFault {X : Type 0} (result : Result X Stopped) (before a
   pub memory : IsErrOf result NoMemory → after ≡ before
   pub fault : IsErrOf result WriteFault → Rose before after
 
--- a line was done, or was broken off and left the scene as it was; the answer says whether it was refused
-abbrev pub HasEffect : Result Bool Stopped → Effect → Project → Project → Option (List ℕ) → Option (List ℕ) → Type 0
-HasEffect (Ok refused) done old new before after = (refused ≡ done.refused) × (new ≡ done.project) × Appends before after done.text
-HasEffect (Err stopped) done old new before after = (new ≡ old) × TakesFront before after done.text
+-- a line was done, or was broken off while its rows were written; the answer says whether it was refused
+abbrev pub HasCourse : Result Bool Stopped → Course → Project → Option (List ℕ) → Option (List ℕ) → Type 0
+HasCourse (Ok refused) course new before after =
+    (refused ≡ course.refused) × (new ≡ course.project) × Appends before after course.text
+HasCourse (Err stopped) course new before after = TakesFront before after course.text
+
+-- a line has this effect, or there was no memory for it and the scene is as it was
+abbrev pub HasEffect : {E : Type 0} → Result Answer E → Effect → Project → Project → Type 0
+HasEffect (Ok answer) effect old new = (answer ≡ effect.answer) × (new ≡ effect.project)
+HasEffect (Err none) effect old new = new ≡ old

@@ -6,7 +6,7 @@ ghost use Rattle.noise_map.specs.Faults.{about, part_fault_text, line_fault_text
 ghost use Rattle.noise_map.specs.Rows.{said_row, refused_row};
 
 use crate::refusal::Refusal;
-use crate::rows::fault_text;
+use crate::texts::fault_text;
 use command_lines::{LineFault, class_text, field_text};
 use scene_book::EditFault;
 use scene_parts::{Class, Field, PartFault};
@@ -19,7 +19,8 @@ fn number_row(
     fault: &[u8],
     number: u32,
 ) -> Result<Vec<u8>, AllocError>
-    ensures { IfOk result (λ text. text.items ≡ said_row version line (about fault.now (decimal number))) }
+    ensures { IfOk result (λ text. text.items
+        ≡ said_row version line (about fault.now (decimal number))) }
 {
     let number = format!(in alloc; "{number}")?;
     fault_text(alloc, version, line, fault, number.as_bytes(), b"")
@@ -32,7 +33,8 @@ fn out_of_range_row(
     field: Field,
     value: i64,
 ) -> Result<Vec<u8>, AllocError>
-    ensures { IfOk result (λ text. text.items ≡ said_row version line (part_fault_text (parts.OutOfRange field value))) }
+    ensures { IfOk result (λ text. text.items
+        ≡ said_row version line (part_fault_text (parts.OutOfRange field value))) }
 {
     let value = format!(in alloc; "{value}")?;
     let field = field_text(field).as_bytes();
@@ -46,7 +48,8 @@ fn side_row(
     side: u32,
     mm: u32,
 ) -> Result<Vec<u8>, AllocError>
-    ensures { IfOk result (λ text. text.items ≡ said_row version line (part_fault_text (parts.SideTooLong side mm))) }
+    ensures { IfOk result (λ text. text.items
+        ≡ said_row version line (part_fault_text (parts.SideTooLong side mm))) }
 {
     let side = format!(in alloc; "{side}")?;
     let mm = format!(in alloc; "{mm}")?;
@@ -67,7 +70,8 @@ fn full_row(
     class: Class,
     limit: u32,
 ) -> Result<Vec<u8>, AllocError>
-    ensures { IfOk result (λ text. text.items ≡ said_row version line (edit_fault_text (edits.Full class limit))) }
+    ensures { IfOk result (λ text. text.items
+        ≡ said_row version line (edit_fault_text (edits.Full class limit))) }
 {
     let limit = format!(in alloc; "{limit}")?;
     let class = class_text(class).as_bytes();
@@ -80,7 +84,8 @@ fn part_fault_row(
     line: u64,
     fault: &PartFault,
 ) -> Result<Vec<u8>, AllocError>
-    ensures { IfOk result (λ text. text.items ≡ said_row version line (part_fault_text fault.now)) }
+    ensures { IfOk result (λ text. text.items
+        ≡ said_row version line (part_fault_text fault.now)) }
 {
     match fault {
         PartFault::NoMemory => Err(AllocError),
@@ -113,7 +118,8 @@ fn line_fault_row(
     line: u64,
     fault: &LineFault,
 ) -> Result<Vec<u8>, AllocError>
-    ensures { IfOk result (λ text. text.items ≡ said_row version line (line_fault_text fault.now)) }
+    ensures { IfOk result (λ text. text.items
+        ≡ said_row version line (line_fault_text fault.now)) }
 {
     match fault {
         LineFault::NoMemory => Err(AllocError),
@@ -140,7 +146,8 @@ fn edit_fault_row(
     line: u64,
     fault: &EditFault,
 ) -> Result<Vec<u8>, AllocError>
-    ensures { IfOk result (λ text. text.items ≡ said_row version line (edit_fault_text fault.now)) }
+    ensures { IfOk result (λ text. text.items
+        ≡ said_row version line (edit_fault_text fault.now)) }
 {
     match fault {
         EditFault::NoMemory => Err(AllocError),

@@ -19,7 +19,8 @@ fn hear<L: Ledger>(
     steps: &mut Steps<L>,
     bundles: &mut Vec<Bundle>,
 ) -> Result<(), AllocError>
-    ensures { OnOk result (bundles.new.items ≡ bundles.old.items ++ bundle_within scene.now receiver.now source.now) }
+    ensures { OnOk result (bundles.new.items
+        ≡ bundles.old.items ++ bundle_within scene.now receiver.now source.now) }
 {
     if within(scene.globals().reach, source.at, receiver.at) {
         bundles.push(bundle(alloc, scene, source, receiver, steps)?)?;

@@ -1,6 +1,7 @@
 //! `noisemap`: a noise mapper by ISO 9613-2, from JSON lines to CSV rows.
 #![tactic(auto)]
 
+mod answer;
 mod faults;
 mod heard;
 mod laws;
@@ -9,7 +10,6 @@ mod project;
 mod refusal;
 mod rows;
 mod run;
-mod settle;
 mod status;
 mod step;
 mod stopped;
@@ -17,6 +17,7 @@ mod stopped;
 mod test_rows;
 #[cfg(test)]
 mod tests;
+mod texts;
 mod unbuilt;
 mod words;
 

@@ -1,20 +1,22 @@
 //! The top call: all that the program does.
-ghost use Rattle.std.specs.Prelude.{◌≡◌, ◌≢◌, ◌↔◌, ◌≤◌, ◌<◌, ℕ, List, length, map, string_bytes, None, IfSome};
+ghost use Rattle.std.specs.Prelude.{◌≡◌, ◌≢◌, ◌↔◌, ◌-◌, ◌≤◌, ◌<◌, ◌^◌, ℕ, List, length, map, string_bytes, None, IfSome};
 ghost use Rattle.map_io.specs.Causes.{Rose};
 ghost use Rattle.map_io.specs.Reading.{fresh};
 ghost use Rattle.noise_map.specs.Words as command_words;
-ghost use Rattle.noise_map.specs.Run.{empty_project, line_effect};
-ghost use Rattle.noise_map.specs.Taking.{HasEffect, CausedByWriteFault};
+ghost use Rattle.noise_map.specs.Run.{empty_project, line_effect, line_course, rows_of};
+ghost use Rattle.noise_map.specs.Taking.{Takes, HasCourse, HasEffect, CausedByWriteFault};
 ghost use Rattle.noise_map.specs.Progress.{ending_of, status_of, IsLineOf, IsTextOf};
 ghost use Rattle.noise_map.specs.Outcome.{Outcome, TellsFault, RunsToTheEnd};
 
+use crate::answer::Answer;
 use crate::project::Project;
+use crate::rows::Rows;
 use crate::status::{Report, Status};
 use crate::step::{do_line, refuse_long};
 use crate::stopped::Stopped;
 use crate::words::bands_asked;
 use map_io::{Gate, LineReader, Next, Sink, Source};
-use std::alloc::Global;
+use std::alloc::{AllocError, Global};
 
 /// The status with which an answer of the reader ends a run, if it is no line.
 fn ending(next: Next, refused: bool) -> Option<Status>
@@ -38,8 +40,53 @@ fn status_when(stopped: Stopped) -> Status
     }
 }
 
+/// Writes the rows of a line of this number, after which the scene is this one.
+fn show<K: Sink>(
+    alloc: Global,
+    bands: bool,
+    number: u64,
+    project: &Project,
+    answer: &Answer,
+    out: &mut K,
+) -> Result<(), Stopped>
+    ensures taken { Takes result (K.taken out.old) (K.taken out.new)
+        (rows_of bands number project.now answer.now) }
+    ensures cause { CausedByWriteFault result (K.faults out.old) (K.faults out.new) }
+{
+    let mut rows = Rows {
+        alloc,
+        out,
+        version: project.version,
+        number,
+    };
+    match answer {
+        Answer::Nothing => Ok(()),
+        Answer::Settled => rows.settle(bands, &project.scene),
+        Answer::Refused(fault) => rows.refuse(fault),
+    }
+}
+
 /// Does the line that the reader has handed out, or refuses the long one that it has passed over.
-fn do_next<K: Sink>(
+fn do_next(
+    alloc: Global,
+    project: &mut Project,
+    next: Next,
+    line: &[u8],
+) -> Result<Answer, AllocError>
+    requires version { project.old.version < 2 ^ 64 - 1 }
+    requires line { IsLineOf next line.now }
+    ensures { (text : List ℕ) → IsTextOf next line.now text
+        → HasEffect result (line_effect project.old text) project.old project.new }
+{
+    if matches!(next, Next::LongLine) {
+        Ok(refuse_long())
+    } else {
+        do_line(alloc, project, line)
+    }
+}
+
+/// Does that line, writes its rows, and answers whether it was refused.
+fn do_and_show<K: Sink>(
     alloc: Global,
     bands: bool,
     project: &mut Project,
@@ -48,18 +95,16 @@ fn do_next<K: Sink>(
     line: &[u8],
     out: &mut K,
 ) -> Result<bool, Stopped>
-    requires version { project.old.version < number }
+    requires version { project.old.version < 2 ^ 64 - 1 }
     requires line { IsLineOf next line.now }
     ensures done { (text : List ℕ) → IsTextOf next line.now text
-        → HasEffect result (line_effect bands number project.old text)
-            project.old project.new (K.taken out.old) (K.taken out.new) }
+        → HasCourse result (line_course bands number project.old text)
+        project.new (K.taken out.old) (K.taken out.new) }
     ensures cause { CausedByWriteFault result (K.faults out.old) (K.faults out.new) }
 {
-    if matches!(next, Next::LongLine) {
-        refuse_long(alloc, bands, project, number, out)
-    } else {
-        do_line(alloc, bands, project, number, line, out)
-    }
+    let answer = do_next(alloc, project, next, line)?;
+    show(alloc, bands, number, project, &answer, out)?;
+    Ok(answer.is_refusal())
 }
 
 /// Reads line after line and does each, until the input ends or something stops it.
@@ -86,7 +131,7 @@ fn do_lines<S: Source, K: Sink>(
             return Report { status, lines };
         }
         lines += 1;
-        match do_next(alloc, bands, project, lines, next, reader.line(), out) {
+        match do_and_show(alloc, bands, project, lines, next, reader.line(), out) {
             Ok(was_refused) => refused |= was_refused,
             Err(stopped) => {
                 return Report {
@@ -139,7 +184,7 @@ pub fn run<S: Source + Send, K: Sink + Send, G: Gate + Sync>(
     // asked for.
     ensures outcome { IfSome (command_words.bands_asked (map string_bytes words.now)) (λ bands.
         Outcome bands result.status result.lines
-            (S.left input.old) (S.left input.new) (K.taken out.old) (K.taken out.new)) }
+        (S.left input.old) (S.left input.new) (K.taken out.old) (K.taken out.new)) }
 
     // A fault is answered exactly where the source or the sink has failed in this call.
     ensures read_fault { TellsFault Status.ReadFault result.status (S.faults input.old) (S.faults input.new) }

@@ -1,44 +1,25 @@
-//! One line after another: what each does to the scene, and what it writes.
-ghost use Rattle.std.specs.Prelude.{◌≡◌, ◌<◌, ◌≤◌, ℕ, List, length, Option, Result, Err};
+//! One line after another: what each does to the scene, and what is shown of it.
+ghost use Rattle.std.specs.Prelude.{◌≡◌, ◌-◌, ◌<◌, ◌≤◌, ◌^◌, ℕ, List, length, Option, Result, Err};
+ghost use Rattle.noise_map.specs.declared.project.Project.{Project};
 ghost use Rattle.scene_parts.specs.declared.parts.Part.{Part};
 ghost use Rattle.scene_book.specs.Book.{Book};
 ghost use Rattle.scene_book.specs.Applying as applying;
+ghost use Rattle.scene_book.specs.Applying.{apply_of};
 ghost use Rattle.command_lines.specs.declared.commands.Command.{Command as CommandSaid};
 ghost use Rattle.command_lines.specs.Answers as answers;
-ghost use Rattle.noise_map.specs.Faults.{edit_lacks_memory, line_lacks_memory};
-ghost use Rattle.noise_map.specs.Taking.{CausedByWriteFault, HasEffect};
-ghost use Rattle.scene_book.specs.Applying.{apply_of};
 ghost use Rattle.command_lines.specs.Lines.{command_of};
 ghost use Rattle.map_io.specs.Reading.{line_limit};
-ghost use Rattle.noise_map.specs.Run.{refusal, apply_effect, edit_effect, command_effect, is_blank, is_blank_byte, answer_effect, line_effect};
+ghost use Rattle.noise_map.specs.Faults.{edit_lacks_memory, line_lacks_memory};
+ghost use Rattle.noise_map.specs.Taking.{HasEffect};
+ghost use Rattle.noise_map.specs.Run.{apply_effect, edit_effect, command_effect, answer_effect, line_effect, is_blank, is_blank_byte};
 
-use crate::faults::refused_text;
+use crate::answer::Answer;
 use crate::project::Project;
 use crate::refusal::Refusal;
-use crate::settle::{settle, write_row};
-use crate::stopped::Stopped;
 use crate::unbuilt::is_unbuilt;
 use command_lines::{Command, LineFault, command};
-use map_io::Sink;
 use scene_book::{Edit, EditFault};
-use std::alloc::Global;
-
-/// Refuses a line: its row names the fault, and the scene stays.
-fn refuse<K: Sink>(
-    alloc: Global,
-    project: &Project,
-    number: u64,
-    fault: &Refusal,
-    out: &mut K,
-) -> Result<bool, Stopped>
-    ensures done { HasEffect result (refusal number project.now fault.now)
-        project.now project.now (K.taken out.old) (K.taken out.new) }
-    ensures cause { CausedByWriteFault result (K.faults out.old) (K.faults out.new) }
-{
-    let row = refused_text(alloc, project.version, number, fault)?;
-    write_row(out, row.as_slice())?;
-    Ok(true)
-}
+use std::alloc::{AllocError, Global};
 
 fn edit_lacks_memory(fault: &EditFault) -> bool
     ensures { result ≡ edit_lacks_memory fault.now }
@@ -46,90 +27,54 @@ fn edit_lacks_memory(fault: &EditFault) -> bool
     matches!(fault, EditFault::NoMemory)
 }
 
-/// Refuses an edit that the scene can't take, unless it had no memory for it.
-fn refuse_edit<K: Sink>(
-    alloc: Global,
-    project: &Project,
-    number: u64,
-    fault: EditFault,
-    out: &mut K,
-) -> Result<bool, Stopped>
-    ensures done { (after : Book) (said : Result (Book × Option Part) EditFault)
-        → applying.Gives after (Err fault) said
-        → HasEffect result (apply_effect number project.now said)
-        project.now project.now (K.taken out.old) (K.taken out.new) }
-    ensures cause { CausedByWriteFault result (K.faults out.old) (K.faults out.new) }
+/// The refusal of an edit that the scene can't take, unless it had no memory for it.
+fn refuse_edit(fault: EditFault) -> Result<Answer, AllocError>
+    ensures { (project : Project) (after : Book) (said : Result (Book × Option Part) EditFault)
+        → applying.Gives after (Err fault) said → HasEffect result (apply_effect project said) project project }
 {
     if edit_lacks_memory(&fault) {
-        return Err(Stopped::NoMemory);
+        return Err(AllocError);
     }
-    refuse(alloc, project, number, &Refusal::Edit(fault), out)
+    Ok(Answer::Refused(Refusal::Edit(fault)))
 }
 
 /// Applies an edit: where the scene takes it, this is the next version.
-fn apply<K: Sink>(
-    alloc: Global,
-    project: &mut Project,
-    number: u64,
-    edit: &Edit,
-    out: &mut K,
-) -> Result<bool, Stopped>
-    requires { project.old.version < number }
-    ensures done { HasEffect result (apply_effect number project.old (apply_of edit.now project.old.scene))
-        project.old project.new (K.taken out.old) (K.taken out.new) }
-    ensures cause { CausedByWriteFault result (K.faults out.old) (K.faults out.new) }
+fn apply(alloc: Global, project: &mut Project, edit: &Edit) -> Result<Answer, AllocError>
+    requires { project.old.version < 2 ^ 64 - 1 }
+    ensures { HasEffect result (apply_effect project.old (apply_of edit.now project.old.scene))
+        project.old project.new }
 {
     match project.scene.apply(alloc, edit) {
         Ok(_) => {
             project.version += 1;
-            Ok(false)
+            Ok(Answer::Nothing)
         }
-        Err(fault) => refuse_edit(alloc, project, number, fault, out),
+        Err(fault) => refuse_edit(fault),
     }
 }
 
 /// Applies an edit, or refuses one that asks for what the calculation doesn't have yet.
 #[tactic(auto, unfolding(crate::specs::Run::edit_effect))]
-fn edit<K: Sink>(
-    alloc: Global,
-    project: &mut Project,
-    number: u64,
-    edit: &Edit,
-    out: &mut K,
-) -> Result<bool, Stopped>
-    requires { project.old.version < number }
-    ensures done { HasEffect result (edit_effect number project.old edit.now)
-        project.old project.new (K.taken out.old) (K.taken out.new) }
-    ensures cause { CausedByWriteFault result (K.faults out.old) (K.faults out.new) }
+fn edit(alloc: Global, project: &mut Project, edit: &Edit) -> Result<Answer, AllocError>
+    requires { project.old.version < 2 ^ 64 - 1 }
+    ensures { HasEffect result (edit_effect project.old edit.now) project.old project.new }
 {
     if is_unbuilt(edit) {
-        refuse(alloc, project, number, &Refusal::NotBuilt, out)
+        Ok(Answer::Refused(Refusal::NotBuilt))
     } else {
-        apply(alloc, project, number, edit, out)
+        apply(alloc, project, edit)
     }
 }
 
 #[tactic(auto, unfolding(crate::specs::Run::command_effect))]
-fn execute<K: Sink>(
-    alloc: Global,
-    bands: bool,
-    project: &mut Project,
-    number: u64,
-    command: &Command,
-    out: &mut K,
-) -> Result<bool, Stopped>
-    requires { project.old.version < number }
-    ensures done { HasEffect result (command_effect bands number project.old command.now)
-        project.old project.new (K.taken out.old) (K.taken out.new) }
-    ensures cause { CausedByWriteFault result (K.faults out.old) (K.faults out.new) }
+fn execute(alloc: Global, project: &mut Project, command: &Command) -> Result<Answer, AllocError>
+    requires { project.old.version < 2 ^ 64 - 1 }
+    ensures { HasEffect result (command_effect project.old command.now) project.old project.new }
 {
     match command {
-        Command::Edit(change) => edit(alloc, project, number, change, out),
-        Command::Settle => {
-            settle(alloc, bands, project, out)?;
-            Ok(false)
-        }
-        Command::Look => refuse(alloc, project, number, &Refusal::NotBuilt, out),
+        Command::Edit(change) => edit(alloc, project, change),
+        Command::Settle => Ok(Answer::Settled),
+        Command::Look => Ok(Answer::Refused(Refusal::NotBuilt)),
     }
 }
 
@@ -152,81 +97,46 @@ fn line_lacks_memory(fault: &LineFault) -> bool
 }
 
 /// Refuses a line that says no command, unless there was no memory to read it.
-fn refuse_line<K: Sink>(
-    alloc: Global,
-    bands: bool,
-    project: &Project,
-    number: u64,
-    fault: LineFault,
-    out: &mut K,
-) -> Result<bool, Stopped>
-    ensures done { (said : Result CommandSaid LineFault) → answers.Gives (Err fault) said
-        → HasEffect result (answer_effect bands number project.now said)
-        project.now project.now (K.taken out.old) (K.taken out.new) }
-    ensures cause { CausedByWriteFault result (K.faults out.old) (K.faults out.new) }
+fn refuse_line(fault: LineFault) -> Result<Answer, AllocError>
+    ensures { (project : Project) (said : Result CommandSaid LineFault)
+        → answers.Gives (Err fault) said → HasEffect result (answer_effect project said) project project }
 {
     if line_lacks_memory(&fault) {
-        return Err(Stopped::NoMemory);
+        return Err(AllocError);
     }
-    refuse(alloc, project, number, &Refusal::Line(fault), out)
+    Ok(Answer::Refused(Refusal::Line(fault)))
 }
 
 #[tactic(auto, unfolding(crate::specs::Run::answer_effect))]
-fn read_and_execute<K: Sink>(
-    alloc: Global,
-    bands: bool,
-    project: &mut Project,
-    number: u64,
-    line: &[u8],
-    out: &mut K,
-) -> Result<bool, Stopped>
-    requires { project.old.version < number }
-    ensures done { HasEffect result (answer_effect bands number project.old (command_of line.now))
-        project.old project.new (K.taken out.old) (K.taken out.new) }
-    ensures cause { CausedByWriteFault result (K.faults out.old) (K.faults out.new) }
+fn read_and_execute(alloc: Global, project: &mut Project, line: &[u8]) -> Result<Answer, AllocError>
+    requires { project.old.version < 2 ^ 64 - 1 }
+    ensures { HasEffect result (answer_effect project.old (command_of line.now)) project.old project.new }
 {
     match command(alloc, line) {
-        Ok(command) => execute(alloc, bands, project, number, &command, out),
-        Err(fault) => refuse_line(alloc, bands, project, number, fault, out),
+        Ok(command) => execute(alloc, project, &command),
+        Err(fault) => refuse_line(fault),
     }
 }
 
-/// Does a line of at most 65,536 bytes, by its number from 1, and answers whether it was refused.
+/// Does a line of at most 65,536 bytes. Want of memory leaves the scene as it was.
 #[tactic(auto, unfolding(crate::specs::Run::line_effect))]
-pub fn do_line<K: Sink>(
-    alloc: Global,
-    bands: bool,
-    project: &mut Project,
-    number: u64,
-    line: &[u8],
-    out: &mut K,
-) -> Result<bool, Stopped>
-    requires version { project.old.version < number }
+pub fn do_line(alloc: Global, project: &mut Project, line: &[u8]) -> Result<Answer, AllocError>
+    requires version { project.old.version < 2 ^ 64 - 1 }
     requires length { length line.now ≤ line_limit }
-    ensures done { HasEffect result (line_effect bands number project.old line.now)
-        project.old project.new (K.taken out.old) (K.taken out.new) }
-    ensures cause { CausedByWriteFault result (K.faults out.old) (K.faults out.new) }
+    ensures { HasEffect result (line_effect project.old line.now) project.old project.new }
 {
     if is_blank_text(line) {
-        Ok(false)
+        Ok(Answer::Nothing)
     } else {
-        read_and_execute(alloc, bands, project, number, line, out)
+        read_and_execute(alloc, project, line)
     }
 }
 
-/// Refuses a line of more than 65,536 bytes.
+/// The refusal of a line of more than 65,536 bytes.
 #[tactic(auto, unfolding(crate::specs::Run::line_effect))]
-pub fn refuse_long<K: Sink>(
-    alloc: Global,
-    bands: bool,
-    project: &Project,
-    number: u64,
-    out: &mut K,
-) -> Result<bool, Stopped>
-    ensures done { (line : List ℕ) → line_limit < length line
-        → HasEffect result (line_effect bands number project.now line)
-        project.now project.now (K.taken out.old) (K.taken out.new) }
-    ensures cause { CausedByWriteFault result (K.faults out.old) (K.faults out.new) }
+pub fn refuse_long() -> Answer
+    ensures { (project : Project) (line : List ℕ) → line_limit < length line
+        → (result ≡ (line_effect project line).answer) × (project ≡ (line_effect project line).project) }
 {
-    refuse(alloc, project, number, &Refusal::LongLine, out)
+    Answer::Refused(Refusal::LongLine)
 }

@@ -1,9 +1,12 @@
 //! Runs over sources and sinks in memory. The rows expected are those of an independent calculation.
+ghost use Rattle.std.specs.Prelude.{None};
+
 use crate::run::run;
 use crate::status::{Fault, Report, Status};
-use map_io::{FreeSink, FreeSource, MemSink, MemSource, OpenGate};
+use map_io::{Failed, FreeSink, FreeSource, MemSink, MemSource, OpenGate, Sink, Source};
 use std::alloc::Global;
 use std::process::Abort;
+use std::sync::atomic::{AtomicU64, Ordering};
 use std::test::Fail;
 
 const FAN: &str =
@@ -103,6 +106,69 @@ fn faults_break_a_run_off(rt: HostRuntime) -> Result<(), Fail> {
         assert_eq!(rt; (report.status, report.lines), (status, 3));
         assert_eq!(rt; taken.as_slice(), rows.as_bytes(), "write {write}");
     }
+    Ok(())
+}
+
+// A sink that counts the rows that it takes.
+#[derive(Drop)]
+struct CountingSink<'a> {
+    rows: &'a AtomicU64,
+}
+
+impl Sink for CountingSink<'_> {
+    ghost taken = { λ _. None };
+
+    ghost faults = { λ _. 0 };
+
+    fn write(&mut self, piece: &[u8]) -> Result<usize, Failed> {
+        self.rows.fetch_add(1, Ordering::SeqCst);
+        Ok(piece.len())
+    }
+}
+
+// A source that gives three settles of an empty scene, one a read. It fails where the row of the last isn't taken yet.
+#[derive(Drop)]
+struct WatchingSource<'a> {
+    reads: u64,
+    faults: u64,
+    rows: &'a AtomicU64,
+}
+
+impl Source for WatchingSource<'_> {
+    ghost left = { λ _. None };
+
+    ghost faults = { λ s. s.faults };
+
+    fn read(&mut self, buf: &mut [u8]) -> Result<usize, Failed> {
+        if self.rows.load(Ordering::SeqCst) != self.reads {
+            self.faults = self.faults.saturating_add(1);
+            return Err(Failed);
+        }
+        if self.reads >= 3 {
+            return Ok(0);
+        }
+        self.reads += 1;
+        let line = b"{\"do\":\"settle\"}\n";
+        let count = line.len().min(buf.len());
+        buf[..count].copy_from_slice(&line[..count]);
+        Ok(count)
+    }
+}
+
+#[test]
+fn rows_are_written_before_the_next_line_is_read(rt: HostRuntime) -> Result<(), Fail> {
+    let alloc = rt.alloc();
+    let words = vec![in alloc; String::from_str(alloc, "noisemap")?]?;
+    let rows = AtomicU64::new(0);
+    let mut source = WatchingSource {
+        reads: 0,
+        faults: 0,
+        rows: &rows,
+    };
+    let mut sink = CountingSink { rows: &rows };
+    let report = run(alloc, words.as_slice(), &mut source, &mut sink, &OpenGate);
+    assert_eq!(rt; (report.status, report.lines), (Status::Done, 3));
+    assert_eq!(rt; rows.load(Ordering::SeqCst), 3);
     Ok(())
 }
 

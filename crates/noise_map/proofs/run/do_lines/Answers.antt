@@ -26,7 +26,7 @@ loop-status-smaller g c =
 pub loop-status-preserved : goal.loop-status-preserved
 loop-status-preserved g c = record {
   progress =
-      turned _ c.next-next.result c.line.result.now c.loop-status.reader c.next-next.new.self c.loop-status.project c.do_next.new.project _ c.loop-status.refused c.in-Ok.was_refused _ _ _ _ _ _ c.loop-status.invariant.progress
+      turned _ c.next-next.result c.line.result.now c.loop-status.reader c.next-next.new.self c.loop-status.project c.do_and_show.new.project _ c.loop-status.refused c.in-Ok.was_refused _ _ _ _ _ _ c.loop-status.invariant.progress
       (sym c.ending.ensures ∙ c.in_default.is) c.next-next.ensures.going
       (λ h. let kept = c.next-next.ensures.stopped h in (kept.0, kept.1, ap g.S.Source.left kept.2)) c.next-next.ensures.within.1 c.line.ensures c.in-Ok.ensures.done;
   within = c.next-next.ensures.within.1;
@@ -37,7 +37,7 @@ loop-status-preserved g c = record {
 pub returns-in-Err-clause-outcome : goal.returns-in-Err-clause-outcome
 returns-in-Err-clause-outcome g c =
     rw c.status_when.ensures
-    (turned_off _ c.in-Err.stopped c.next-next.result c.line.result.now c.loop-status.reader c.next-next.new.self c.loop-status.project c.do_next.new.project _ c.loop-status.refused _ _ _ _ _ _ c.loop-status.invariant.progress
+    (turned_off _ c.in-Err.stopped c.next-next.result c.line.result.now c.loop-status.reader c.next-next.new.self c.loop-status.project c.do_and_show.new.project _ c.loop-status.refused _ _ _ _ _ _ c.loop-status.invariant.progress
     (sym c.ending.ensures ∙ c.in_default.is) c.next-next.ensures.going
     (λ h. let kept = c.next-next.ensures.stopped h in (kept.0, kept.1, ap g.S.Source.left kept.2)) c.next-next.ensures.within.1 c.next-next.ensures.few.1 c.line.ensures c.in-Err.ensures.done)
 
