@@ -8,3 +8,4 @@ pub mod Reversing
 pub mod Turning
 pub mod CommonPoint
 pub mod Walls
+pub mod Uncrossed

@@ -23,7 +23,8 @@ AreaReversed = (outline : List Pt) → area2_of (reverse outline) ≡ neg_ℤ (a
 
 -- and meets what it met
 abbrev pub MeetsReversed : Type 0
-MeetsReversed = (outline : List Pt) (from : Pt) (dir : Dir) (end : Frac) → meets_of (reverse outline) from dir end ≡ meets_of outline from dir end
+MeetsReversed = (outline : List Pt) (from : Pt) (dir : Dir) (end : Frac)
+    → meets_of (reverse outline) from dir end ≡ meets_of outline from dir end
 
 -- the point (x / d, y / d) lies on the line from a point along a vector
 abbrev pub IsOnLine : ℤ → ℤ → ℤ → Pt → Vector → Type 0
@@ -33,7 +34,8 @@ IsOnLine x y d from v = cross v (record { x = x -ℤ d *ℤ from.x; y = y -ℤ d
 pub record IsCommonPoint (x y d : ℤ) (from : Pt) (v : Vector) (other : Pt) (w : Vector) : Type 0 where
   pub on_line : IsOnLine x y d from v
   pub on_other : IsOnLine x y d other w
-  pub alone : (x' y' d' : ℤ) → IsOnLine x' y' d' from v → IsOnLine x' y' d' other w → (x' *ℤ d ≡ x *ℤ d') × (y' *ℤ d ≡ y *ℤ d')
+  pub alone : (x' y' d' : ℤ) → IsOnLine x' y' d' from v → IsOnLine x' y' d' other w
+      → (x' *ℤ d ≡ x *ℤ d') × (y' *ℤ d ≡ y *ℤ d')
 
 -- the place n / d of a crossing, which is p + (n / d) (q - p), is the one point of the line from p to
 -- q and the side's line

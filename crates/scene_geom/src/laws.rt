@@ -1,6 +1,7 @@
 //! Laws of the plan's predicates. Each function does nothing: its contract is the law.
 
-ghost use Rattle.scene_geom.specs.Laws.{UncrossedIsUnblocked, BlocksTurned, AreaReversed, MeetsReversed, CrossingIsCommon};
+ghost use Rattle.scene_geom.specs.Laws.{UncrossedIsUnblocked, BlocksTurned, CrossingIsCommon};
+ghost use Rattle.scene_geom.specs.Laws.{AreaReversed, MeetsReversed};
 
 /// A side that doesn't cross the way between two points doesn't block it.
 pub fn uncrossed_is_unblocked()
