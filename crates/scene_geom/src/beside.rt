@@ -30,7 +30,7 @@ pub fn lies_beside(outline: &[Pt], from: Pt, dir: Dir) -> bool
 
 /// Whether all corners are on the left of a line, or all aren't.
 fn are_on_hand(corners: &[Pt], from: Pt, along: Step, left: bool) -> bool
-    ensures { result ≡ list_all (λ corner. beq (is_left from (vector along) corner) left) corners.now }
+    ensures { result ≡ list_all (λ c. beq (is_left from (vector along) c) left) corners.now }
 {
     for corner in corners {
         if leaves_left(from, along, *corner) != left {
