@@ -9,3 +9,4 @@ pub mod Turning
 pub mod CommonPoint
 pub mod Walls
 pub mod Uncrossed
+pub mod Imaging
