@@ -21,7 +21,7 @@ use Rattle.scene_geom.proofs.Blocking.{reached-orient}
 use Rattle.scene_geom.proofs.Turning.{neg-mul, beq-apart}
 
 -- ---- products of three
-mul_assoc : (a b c : ℤ) → (a *ℤ b) *ℤ c ≡ a *ℤ (b *ℤ c)
+pub mul_assoc : (a b c : ℤ) → (a *ℤ b) *ℤ c ≡ a *ℤ (b *ℤ c)
 mul_assoc a b c =
     omega (
       arith,
@@ -36,7 +36,7 @@ mul_assoc a b c =
       ap (λ (n : ℕ). down a * n) (product_is b c).1,
     )
 
-left_comm : (a b c : ℤ) → a *ℤ (b *ℤ c) ≡ b *ℤ (a *ℤ c)
+pub left_comm : (a b c : ℤ) → a *ℤ (b *ℤ c) ≡ b *ℤ (a *ℤ c)
 left_comm a b c = sym (mul_assoc a b c) ∙ ap (λ (z : ℤ). z *ℤ c) (*ℤ_comm a b) ∙ mul_assoc b a c
 
 mul-zero : (a : ℤ) → a *ℤ pos 0 ≡ pos 0
@@ -55,7 +55,7 @@ cross-sum sx sy d n ax ay bx by =
     (left_comm sx d ay) (left_comm sx n by) (left_comm sy d ax) (left_comm sy n bx)
     (mul_sub (sx *ℤ ay) (sy *ℤ ax) d) (mul_sub (sx *ℤ by) (sy *ℤ bx) n)
 
-cross-difference : (sx sy d n ax ay bx by : ℤ) → sx *ℤ (d *ℤ ay -ℤ n *ℤ by) -ℤ sy *ℤ (d *ℤ ax -ℤ n *ℤ bx) ≡ d *ℤ (sx *ℤ ay -ℤ sy *ℤ ax) -ℤ n *ℤ (sx *ℤ by -ℤ sy *ℤ bx)
+pub cross-difference : (sx sy d n ax ay bx by : ℤ) → sx *ℤ (d *ℤ ay -ℤ n *ℤ by) -ℤ sy *ℤ (d *ℤ ax -ℤ n *ℤ bx) ≡ d *ℤ (sx *ℤ ay -ℤ sy *ℤ ax) -ℤ n *ℤ (sx *ℤ by -ℤ sy *ℤ bx)
 cross-difference sx sy d n ax ay bx by =
     regroup_less _ _ _ _ _ _ _ _ _ _ _ _ (mul_sub (d *ℤ ay) (n *ℤ by) sx) (mul_sub (d *ℤ ax) (n *ℤ bx) sy)
     (left_comm sx d ay) (left_comm sx n by) (left_comm sy d ax) (left_comm sy n bx)

@@ -8,3 +8,5 @@ pub mod Reversing
 pub mod Turning
 pub mod CommonPoint
 pub mod Walls
+pub mod Uncrossed
+pub mod Imaging

@@ -23,7 +23,7 @@ power-two n = pow-suc n 1 ∙ ap (λ (m : ℕ). m * n) (pow-suc n 0 ∙ one) whe
   one : n ^ 0 * n ≡ n
   one = rw (pow-zero n) (omega arith)
 
-mul-neg : (a b : ℤ) → a *ℤ neg_ℤ b ≡ neg_ℤ (a *ℤ b)
+pub mul-neg : (a b : ℤ) → a *ℤ neg_ℤ b ≡ neg_ℤ (a *ℤ b)
 mul-neg a (pos zero) = omega (arith, ints)
 mul-neg a (pos (suc n)) = omega (arith, ints)
 mul-neg a (negsuc n) = omega (arith, ints)
@@ -192,12 +192,12 @@ pub over-d : (n : ℤ) (d : ℕ) → 0 < d → (over n (pos d)).d ≡ pos d
 over-d n zero h = absurd (omega arith)
 over-d n (suc d) h = refl
 
-dir_over-x : (v : Vector) (w : ℤ) → (dir_over v w).x ≡ v.x
+pub dir_over-x : (v : Vector) (w : ℤ) → (dir_over v w).x ≡ v.x
 dir_over-x v (pos zero) = refl
 dir_over-x v (pos (suc n)) = refl
 dir_over-x v (negsuc n) = refl
 
-dir_over-y : (v : Vector) (w : ℤ) → (dir_over v w).y ≡ v.y
+pub dir_over-y : (v : Vector) (w : ℤ) → (dir_over v w).y ≡ v.y
 dir_over-y v (pos zero) = refl
 dir_over-y v (pos (suc n)) = refl
 dir_over-y v (negsuc n) = refl

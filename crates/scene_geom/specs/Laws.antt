@@ -4,8 +4,10 @@ use Rattle.scene_geom.specs.declared.plan.Pt.{Pt}
 use Rattle.scene_geom.specs.declared.plan.Side.{Side}
 use Rattle.scene_geom.specs.declared.fraction.Frac.{Frac}
 use Rattle.scene_geom.specs.declared.direction.Dir.{Dir}
-use Rattle.scene_geom.specs.Vector.{Vector, cross}
-use Rattle.scene_geom.specs.Point.{from_to, along, turned}
+use Rattle.scene_geom.specs.Vector.{Vector, cross, dot}
+use Rattle.scene_geom.specs.Point.{from_to, along, orient_of, turned}
+use Rattle.scene_geom.specs.Direction.{way}
+use Rattle.scene_geom.specs.Reflection.{squared_length, to_image}
 use Rattle.scene_geom.specs.Crossing.{crosses_of, blocks_of}
 use Rattle.scene_geom.specs.Outline.{area2_of, meets_of}
 
@@ -23,7 +25,8 @@ AreaReversed = (outline : List Pt) → area2_of (reverse outline) ≡ neg_ℤ (a
 
 -- and meets what it met
 abbrev pub MeetsReversed : Type 0
-MeetsReversed = (outline : List Pt) (from : Pt) (dir : Dir) (end : Frac) → meets_of (reverse outline) from dir end ≡ meets_of outline from dir end
+MeetsReversed = (outline : List Pt) (from : Pt) (dir : Dir) (end : Frac)
+    → meets_of (reverse outline) from dir end ≡ meets_of outline from dir end
 
 -- the point (x / d, y / d) lies on the line from a point along a vector
 abbrev pub IsOnLine : ℤ → ℤ → ℤ → Pt → Vector → Type 0
@@ -33,7 +36,8 @@ IsOnLine x y d from v = cross v (record { x = x -ℤ d *ℤ from.x; y = y -ℤ d
 pub record IsCommonPoint (x y d : ℤ) (from : Pt) (v : Vector) (other : Pt) (w : Vector) : Type 0 where
   pub on_line : IsOnLine x y d from v
   pub on_other : IsOnLine x y d other w
-  pub alone : (x' y' d' : ℤ) → IsOnLine x' y' d' from v → IsOnLine x' y' d' other w → (x' *ℤ d ≡ x *ℤ d') × (y' *ℤ d ≡ y *ℤ d')
+  pub alone : (x' y' d' : ℤ) → IsOnLine x' y' d' from v → IsOnLine x' y' d' other w
+      → (x' *ℤ d ≡ x *ℤ d') × (y' *ℤ d ≡ y *ℤ d')
 
 -- the place n / d of a crossing, which is p + (n / d) (q - p), is the one point of the line from p to
 -- q and the side's line
@@ -44,3 +48,16 @@ CrossingIsCommon = (side : Side) (p q : Pt) (place : Frac) → crosses_of side p
     (place.d *ℤ p.y +ℤ place.n *ℤ (q.y -ℤ p.y))
     place.d
     p (from_to p q) side.from (along side)
+
+-- The image of a point in the line of a side lies on the other side of that line, as far from it as the point, and at the
+-- same place along it: so the way towards it leads across the line by the distances of both points, and along it as the
+-- direct way does. Both are times the side's length, and times the square of it, since that is the direction's divisor
+pub record LeadsToImage (side : Side) (p q : Pt) : Type 0 where
+  pub across :
+      cross (along side) (way (to_image side p q))
+      ≡ neg_ℤ (pos (squared_length side) *ℤ (orient_of side.from side.to p +ℤ orient_of side.from side.to q))
+  pub ahead :
+      dot (along side) (way (to_image side p q)) ≡ pos (squared_length side) *ℤ dot (along side) (from_to p q)
+
+abbrev pub LegsLeadToImages : Type 0
+LegsLeadToImages = (side : Side) (p q : Pt) → LeadsToImage side p q

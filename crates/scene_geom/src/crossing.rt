@@ -1,7 +1,8 @@
 //! Where sides cross a line of sight.
 
 ghost use Rattle.std.specs.Prelude.{◌≡◌, ◌≤◌, ◌*ℤ◌, unsigned_abs, IfSome};
-ghost use Rattle.scene_geom.specs.Crossing.{crosses_of, blocks_of, hits_of, passage_of, are_opposite};
+ghost use Rattle.scene_geom.specs.Crossing.{crosses_of, blocks_of, hits_of, passage_of};
+ghost use Rattle.scene_geom.specs.Crossing.{are_opposite};
 ghost use Rattle.scene_geom.specs.Direction.{FitsDirection};
 ghost use Rattle.scene_geom.specs.Fraction.{FitsPlace, FitsCrossing};
 

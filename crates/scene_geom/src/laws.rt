@@ -1,6 +1,7 @@
 //! Laws of the plan's predicates. Each function does nothing: its contract is the law.
 
-ghost use Rattle.scene_geom.specs.Laws.{UncrossedIsUnblocked, BlocksTurned, AreaReversed, MeetsReversed, CrossingIsCommon};
+ghost use Rattle.scene_geom.specs.Laws.{UncrossedIsUnblocked, BlocksTurned, CrossingIsCommon};
+ghost use Rattle.scene_geom.specs.Laws.{AreaReversed, MeetsReversed, LegsLeadToImages};
 
 /// A side that doesn't cross the way between two points doesn't block it.
 pub fn uncrossed_is_unblocked()
@@ -25,4 +26,9 @@ pub fn meets_reversed()
 /// A crossing's place is the one point common to both lines.
 pub fn crossing_is_common()
     ensures { CrossingIsCommon }
+{}
+
+/// A leg of a path by way of a wall leads to the image of the path's other end in the wall's line.
+pub fn legs_lead_to_images()
+    ensures { LegsLeadToImages }
 {}

@@ -5,6 +5,7 @@
 
 mod aims;
 mod band;
+mod beside;
 mod crossing;
 mod direction;
 mod fraction;

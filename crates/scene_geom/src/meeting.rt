@@ -7,6 +7,7 @@ ghost use Rattle.scene_geom.specs.Fraction.{FitsEnd};
 ghost use Rattle.scene_geom.specs.Outline.{ring, meets_of};
 ghost use Rattle.scene_geom.specs.ClearWinding.{clear_turn_of, clear_winding_of};
 
+use super::beside::lies_beside;
 use super::crossing::passes;
 use super::direction::Dir;
 use super::fraction::Frac;
@@ -21,6 +22,9 @@ pub fn meets(outline: &[Pt], from: Pt, dir: Dir, end: Frac) -> bool
     requires end_fits { FitsEnd end }
     ensures { result ≡ meets_of outline.now from dir end }
 {
+    if lies_beside(outline, from, dir) {
+        return false;
+    }
     match clear_winding(outline, from, dir, end) {
         None => true,
         Some(winding) => winding != 0,

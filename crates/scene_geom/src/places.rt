@@ -1,7 +1,8 @@
 //! Places on a line of sight.
 
 ghost use Rattle.std.specs.Prelude.{◌≡◌, pos, ◌≢◌, ◌<◌, ◌≤◌, ◌^◌, unsigned_abs, IfSome};
-ghost use Rattle.scene_geom.specs.Fraction.{over, inner, is_inside, rest_of, FitsPlace, FitsEnd, FitsCrossing};
+ghost use Rattle.scene_geom.specs.Fraction.{over, inner, is_inside, rest_of};
+ghost use Rattle.scene_geom.specs.Fraction.{FitsPlace, FitsEnd, FitsCrossing};
 
 use super::fraction::Frac;
 

@@ -1,11 +1,9 @@
 //! The plan of paths by way of a reflecting wall (ISO 9613-2, 7.5).
 
-ghost use Rattle.std.specs.Prelude.{◌≡◌, ◌+◌, ◌*◌, ◌^◌, ◌<◌, ◌<ℤ◌, ◌≤◌, ◌-ℤ◌, ◌*ℤ◌, pos, unsigned_abs};
-ghost use Rattle.scene_geom.specs.Direction.{FitsDirection};
-ghost use Rattle.scene_geom.specs.Fraction.{over};
+ghost use Rattle.std.specs.Prelude.{◌≡◌, ◌+◌, ◌^◌, ◌<◌, ◌<ℤ◌, ◌≤◌, ◌-ℤ◌, ◌*ℤ◌, pos, unsigned_abs};
 ghost use Rattle.scene_geom.specs.Reflection.{are_on_one_side, CanReflect, FitsReflection};
-ghost use Rattle.scene_geom.specs.Reflection.{off_wall, specular, squared_length, to_image, unfolded};
-ghost use Rattle.scene_geom.specs.Reflection.{have_one_sign, image_dir, unfolded_square};
+ghost use Rattle.scene_geom.specs.Reflection.{have_one_sign, off_wall, squared_length, image_dir};
+ghost use Rattle.scene_geom.specs.Reflection.{specular, to_image, unfolded, unfolded_square};
 ghost use Rattle.scene_geom.specs.Reflection as form;
 ghost use Rattle.scene_geom.specs.Step.{vector};
 

@@ -1,4 +1,5 @@
--- Scaffolding between the code and the definitions: A_s or A_r of Table 3 as the code keeps it, once for all bands from 2 kHz on, and without that of 63 Hz.
+-- Scaffolding between the code and the definitions: A_s or A_r of Table 3 as the code keeps it, once for all bands from
+-- 2 kHz on, and without that of 63 Hz.
 use Rattle.std.specs.Prelude.{◌≡◌, ℕ, pos, Some, List}
 use Rattle.fix_interval.specs.Interval.{Interval}
 use Rattle.fix_interval.specs.Tree.{Tree, Known, enc}

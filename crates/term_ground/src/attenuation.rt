@@ -5,7 +5,8 @@ ghost use Rattle.fix_interval.specs.Tree.{Known, Add, Const, Mul, enc};
 ghost use Rattle.path_shape.specs.Shape.{IsPath};
 ghost use Rattle.term_ground.specs.Ground.{ground};
 ghost use Rattle.term_ground.specs.Limits.{HasHeights, AreLimited};
-ghost use Rattle.term_ground.specs.EndRegions.{AreEndRegions, IsEndRegion, hard, known_attenuations, no_factor};
+ghost use Rattle.term_ground.specs.EndRegions.{AreEndRegions, IsEndRegion, hard, no_factor};
+ghost use Rattle.term_ground.specs.EndRegions.{known_attenuations};
 ghost use Rattle.term_ground.specs.Ground as form;
 
 use crate::decays::{Decays, Growths, decays_at, growths_over};

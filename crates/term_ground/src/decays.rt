@@ -3,8 +3,8 @@
 ghost use Rattle.std.specs.Prelude.{◌≡◌, ◌<◌, ◌^◌};
 ghost use Rattle.fix_interval.specs.Tree.{Known, enc};
 ghost use Rattle.path_shape.specs.Shape.{IsPath};
-ghost use Rattle.term_ground.specs.Ground.{decay_at_125, far_decay_at_125, decay_at_250, decay_at_500};
-ghost use Rattle.term_ground.specs.Ground.{decay_at_1000, near_growth, far_growth};
+ghost use Rattle.term_ground.specs.Ground.{decay_at_125, far_decay_at_125, decay_at_250};
+ghost use Rattle.term_ground.specs.Ground.{decay_at_500, decay_at_1000, near_growth, far_growth};
 ghost use Rattle.term_ground.specs.Ground as form;
 
 use enclose_exp::exp_neg;

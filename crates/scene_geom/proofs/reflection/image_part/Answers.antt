@@ -1,7 +1,8 @@
-use Rattle.std.proofs.Common.{◌≡◌, ℕ, ◌+◌, ◌^◌, ◌≤◌, ◌<◌, arith}
+use Rattle.std.proofs.Common.{◌≡◌, ℕ, ◌^◌, ◌≤◌, ◌<◌, arith}
 use Rattle.std.specs.Prelude.{ℤ, pos, ◌-ℤ◌, ◌*ℤ◌, unsigned_abs}
 use Rattle.std.proofs.lemmas.Int.{to_z-of_z, fits_signed_from_abs}
-use Rattle.scene_geom.proofs.Whole.{abs-sub, abs-mul}
+use Rattle.scene_geom.proofs.Walls.{part-within}
+use Rattle.scene_geom.proofs.Whole.{abs-mul}
 use Rattle.scene_geom.proofs.reflection.image_part.Goals as goal
 use mir.Syntax.{w64}
 use mir.Val.{SFits, to_z, of_z}
@@ -33,9 +34,7 @@ parts square way off normal hs hw ho hn =
     let first : unsigned_abs (square *ℤ way) ≤ 549751619592000000 = abs-mul square way 68718952449 8000000 hs hw in
     let twice : unsigned_abs (pos 2 *ℤ off) ≤ 5940000000000 = abs-mul (pos 2) off 2 2970000000000 (omega arith) ho in
     let second : unsigned_abs (pos 2 *ℤ off *ℤ normal) ≤ 1557129420000000000 = abs-mul (pos 2 *ℤ off) normal 5940000000000 262143 twice hn in
-    let whole : unsigned_abs (square *ℤ way -ℤ pos 2 *ℤ off *ℤ normal) ≤ 549751619592000000 + 1557129420000000000 =
-    abs-sub (square *ℤ way) (pos 2 *ℤ off *ℤ normal) 549751619592000000 1557129420000000000 first second
-    in
+    let within = part-within square way off normal hs hw ho hn in
     record {
       square_is = kept square 68718952449 hs (omega arith);
       way_is = kept way 8000000 hw (omega arith);
@@ -44,8 +43,8 @@ parts square way off normal hs hw ho hn =
       first = kept _ _ first (omega arith);
       twice = kept _ _ twice (omega arith);
       second = kept _ _ second (omega arith);
-      whole = kept _ _ whole (omega arith);
-      within = omega (arith, whole);
+      whole = kept _ _ within (omega arith);
+      within = within;
     }
 
 pub overflow_mul-result-3 : goal.overflow_mul-result-3
