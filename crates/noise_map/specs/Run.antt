@@ -14,8 +14,8 @@ use Rattle.command_lines.specs.declared.commands.Command.{Command}
 use Rattle.command_lines.specs.declared.commands.Command.TheVariants as commands
 use Rattle.command_lines.specs.declared.faults.LineFault.{LineFault}
 use Rattle.command_lines.specs.Lines.{command_of}
-use Rattle.path_calc.specs.Bands.{all_bands, place_of, frequency_of}
-use Rattle.path_calc.specs.declared.band.Band.{Band}
+use Rattle.scene_geom.specs.Bands.{all_bands, place_of, frequency_of}
+use Rattle.scene_geom.specs.declared.band.Band.{Band}
 use Rattle.path_calc.specs.Levels.{Levels}
 use Rattle.path_calc.specs.Show.{show_of}
 use Rattle.fix_interval.specs.Interval.{Interval}

@@ -9,8 +9,8 @@ use crate::refusal::Refusal;
 use crate::texts::fault_text;
 use command_lines::{LineFault, class_text, field_text};
 use scene_book::EditFault;
-use scene_parts::{Class, Field, PartFault};
-use std::alloc::{AllocError, Global};
+use scene_parts::{Class, Field, NoMemory, PartFault};
+use std::alloc::Global;
 
 fn number_row(
     alloc: Global,
@@ -18,7 +18,7 @@ fn number_row(
     line: u64,
     fault: &[u8],
     number: u32,
-) -> Result<Vec<u8>, AllocError>
+) -> Result<Vec<u8>, NoMemory>
     ensures { IfOk result (λ text. text.items
         ≡ said_row version line (about fault.now (decimal number))) }
 {
@@ -32,7 +32,7 @@ fn out_of_range_row(
     line: u64,
     field: Field,
     value: i64,
-) -> Result<Vec<u8>, AllocError>
+) -> Result<Vec<u8>, NoMemory>
     ensures { IfOk result (λ text. text.items
         ≡ said_row version line (part_fault_text (parts.OutOfRange field value))) }
 {
@@ -41,13 +41,7 @@ fn out_of_range_row(
     fault_text(alloc, version, line, b"OutOfRange", field, value.as_bytes())
 }
 
-fn side_row(
-    alloc: Global,
-    version: u64,
-    line: u64,
-    side: u32,
-    mm: u32,
-) -> Result<Vec<u8>, AllocError>
+fn side_row(alloc: Global, version: u64, line: u64, side: u32, mm: u32) -> Result<Vec<u8>, NoMemory>
     ensures { IfOk result (λ text. text.items
         ≡ said_row version line (part_fault_text (parts.SideTooLong side mm))) }
 {
@@ -69,7 +63,7 @@ fn full_row(
     line: u64,
     class: Class,
     limit: u32,
-) -> Result<Vec<u8>, AllocError>
+) -> Result<Vec<u8>, NoMemory>
     ensures { IfOk result (λ text. text.items
         ≡ said_row version line (edit_fault_text (edits.Full class limit))) }
 {
@@ -83,12 +77,12 @@ fn part_fault_row(
     version: u64,
     line: u64,
     fault: &PartFault,
-) -> Result<Vec<u8>, AllocError>
+) -> Result<Vec<u8>, NoMemory>
     ensures { IfOk result (λ text. text.items
         ≡ said_row version line (part_fault_text fault.now)) }
 {
     match fault {
-        PartFault::NoMemory => Err(AllocError),
+        PartFault::NoMemory => Err(NoMemory),
         PartFault::OutOfRange { field, value } => out_of_range_row(
             alloc, version, line, *field, *value,
         ),
@@ -117,12 +111,12 @@ fn line_fault_row(
     version: u64,
     line: u64,
     fault: &LineFault,
-) -> Result<Vec<u8>, AllocError>
+) -> Result<Vec<u8>, NoMemory>
     ensures { IfOk result (λ text. text.items
         ≡ said_row version line (line_fault_text fault.now)) }
 {
     match fault {
-        LineFault::NoMemory => Err(AllocError),
+        LineFault::NoMemory => Err(NoMemory),
         LineFault::NotJson => fault_text(alloc, version, line, b"NotJson", b"", b""),
         LineFault::NotObject => fault_text(alloc, version, line, b"NotObject", b"", b""),
         LineFault::UnknownDo { word } => {
@@ -145,12 +139,12 @@ fn edit_fault_row(
     version: u64,
     line: u64,
     fault: &EditFault,
-) -> Result<Vec<u8>, AllocError>
+) -> Result<Vec<u8>, NoMemory>
     ensures { IfOk result (λ text. text.items
         ≡ said_row version line (edit_fault_text fault.now)) }
 {
     match fault {
-        EditFault::NoMemory => Err(AllocError),
+        EditFault::NoMemory => Err(NoMemory),
         EditFault::NoSuchName { name } => {
             fault_text(alloc, version, line, b"NoSuchName", name.items(), b"")
         }
@@ -168,7 +162,7 @@ pub fn refused_text(
     version: u64,
     line: u64,
     refusal: &Refusal,
-) -> Result<Vec<u8>, AllocError>
+) -> Result<Vec<u8>, NoMemory>
     ensures { IfOk result (λ text. text.items ≡ refused_row version line refusal.now) }
 {
     match refusal {

@@ -5,8 +5,8 @@ ghost use Rattle.noise_map.specs.Heard.{bundle_within};
 
 use path_calc::{Bundle, Levels, Steps, bundle, levels, within};
 use scene_book::Scene;
-use scene_parts::{PointSource, Receiver};
-use std::alloc::{AllocError, Global};
+use scene_parts::{NoMemory, PointSource, Receiver};
+use std::alloc::Global;
 use std::marker::Brand;
 use std::sync::ledger::{Blank, Ledger};
 
@@ -18,7 +18,7 @@ fn hear<L: Ledger>(
     receiver: &Receiver,
     steps: &mut Steps<L>,
     bundles: &mut Vec<Bundle>,
-) -> Result<(), AllocError>
+) -> Result<(), NoMemory>
     ensures { OnOk result (bundles.new.items
         ≡ bundles.old.items ++ bundle_within scene.now receiver.now source.now) }
 {
@@ -34,7 +34,7 @@ fn bundles_at<L: Ledger>(
     scene: &Scene,
     receiver: &Receiver,
     steps: &mut Steps<L>,
-) -> Result<Vec<Bundle>, AllocError>
+) -> Result<Vec<Bundle>, NoMemory>
     ensures value { IfOk result (λ bundles. bundles.items ≡ bundles_of scene.now receiver.now) }
     ensures few { IfOk result (λ bundles. length bundles.items ≤ 128) }
 {
@@ -50,7 +50,7 @@ fn levels_counted<L: Ledger>(
     scene: &Scene,
     receiver: &Receiver,
     blank: Blank,
-) -> Result<Levels, AllocError>
+) -> Result<Levels, NoMemory>
     requires name { blank.name ≡ L.name }
     requires parts { blank.parts ≡ L.parts }
     requires some { 0 < blank.parts }
@@ -62,7 +62,7 @@ fn levels_counted<L: Ledger>(
 }
 
 /// The levels that the whole scene gives at a receiver.
-pub fn levels_at(alloc: Global, scene: &Scene, receiver: &Receiver) -> Result<Levels, AllocError>
+pub fn levels_at(alloc: Global, scene: &Scene, receiver: &Receiver) -> Result<Levels, NoMemory>
     ensures { IfOk result (λ levels. levels ≡ show_of scene.now receiver.now) }
 {
     levels_counted::<Brand>(alloc, scene, receiver, Blank::new(1))

@@ -3,7 +3,8 @@ ghost use Rattle.std.specs.Prelude.{IfOk, ◌≡◌};
 ghost use Rattle.noise_map.specs.Run.{empty_project};
 
 use scene_book::Scene;
-use std::alloc::{AllocError, Global};
+use scene_parts::NoMemory;
+use std::alloc::Global;
 
 /// The scene that a run holds, and its version: how many edits were accepted.
 #[derive(Drop)]
@@ -14,7 +15,7 @@ pub struct Project {
 
 impl Project {
     /// A scene without parts, of version 0.
-    pub fn empty(alloc: Global) -> Result<Project, AllocError>
+    pub fn empty(alloc: Global) -> Result<Project, NoMemory>
         ensures { IfOk result (λ project. project ≡ empty_project) }
     {
         Ok(Project {

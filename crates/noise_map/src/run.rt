@@ -16,7 +16,8 @@ use crate::step::{do_line, refuse_long};
 use crate::stopped::Stopped;
 use crate::words::bands_asked;
 use map_io::{Gate, LineReader, Next, Sink, Source};
-use std::alloc::{AllocError, Global};
+use scene_parts::NoMemory;
+use std::alloc::Global;
 
 /// The status with which an answer of the reader ends a run, if it is no line.
 fn ending(next: Next, refused: bool) -> Option<Status>
@@ -72,7 +73,7 @@ fn do_next(
     project: &mut Project,
     next: Next,
     line: &[u8],
-) -> Result<Answer, AllocError>
+) -> Result<Answer, NoMemory>
     requires version { project.old.version < 2 ^ 64 - 1 }
     requires line { IsLineOf next line.now }
     ensures { (text : List ℕ) → IsTextOf next line.now text

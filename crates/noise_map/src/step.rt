@@ -19,7 +19,8 @@ use crate::refusal::Refusal;
 use crate::unbuilt::is_unbuilt;
 use command_lines::{Command, LineFault, command};
 use scene_book::{Edit, EditFault};
-use std::alloc::{AllocError, Global};
+use scene_parts::NoMemory;
+use std::alloc::Global;
 
 fn edit_lacks_memory(fault: &EditFault) -> bool
     ensures { result ≡ edit_lacks_memory fault.now }
@@ -28,18 +29,18 @@ fn edit_lacks_memory(fault: &EditFault) -> bool
 }
 
 /// The refusal of an edit that the scene can't take, unless it had no memory for it.
-fn refuse_edit(fault: EditFault) -> Result<Answer, AllocError>
+fn refuse_edit(fault: EditFault) -> Result<Answer, NoMemory>
     ensures { (project : Project) (after : Book) (said : Result (Book × Option Part) EditFault)
         → applying.Gives after (Err fault) said → HasEffect result (apply_effect project said) project project }
 {
     if edit_lacks_memory(&fault) {
-        return Err(AllocError);
+        return Err(NoMemory);
     }
     Ok(Answer::Refused(Refusal::Edit(fault)))
 }
 
 /// Applies an edit: where the scene takes it, this is the next version.
-fn apply(alloc: Global, project: &mut Project, edit: &Edit) -> Result<Answer, AllocError>
+fn apply(alloc: Global, project: &mut Project, edit: &Edit) -> Result<Answer, NoMemory>
     requires { project.old.version < 2 ^ 64 - 1 }
     ensures { HasEffect result (apply_effect project.old (apply_of edit.now project.old.scene))
         project.old project.new }
@@ -55,7 +56,7 @@ fn apply(alloc: Global, project: &mut Project, edit: &Edit) -> Result<Answer, Al
 
 /// Applies an edit, or refuses one that asks for what the calculation doesn't have yet.
 #[tactic(auto, unfolding(crate::specs::Run::edit_effect))]
-fn edit(alloc: Global, project: &mut Project, edit: &Edit) -> Result<Answer, AllocError>
+fn edit(alloc: Global, project: &mut Project, edit: &Edit) -> Result<Answer, NoMemory>
     requires { project.old.version < 2 ^ 64 - 1 }
     ensures { HasEffect result (edit_effect project.old edit.now) project.old project.new }
 {
@@ -67,7 +68,7 @@ fn edit(alloc: Global, project: &mut Project, edit: &Edit) -> Result<Answer, All
 }
 
 #[tactic(auto, unfolding(crate::specs::Run::command_effect))]
-fn execute(alloc: Global, project: &mut Project, command: &Command) -> Result<Answer, AllocError>
+fn execute(alloc: Global, project: &mut Project, command: &Command) -> Result<Answer, NoMemory>
     requires { project.old.version < 2 ^ 64 - 1 }
     ensures { HasEffect result (command_effect project.old command.now) project.old project.new }
 {
@@ -97,18 +98,18 @@ fn line_lacks_memory(fault: &LineFault) -> bool
 }
 
 /// Refuses a line that says no command, unless there was no memory to read it.
-fn refuse_line(fault: LineFault) -> Result<Answer, AllocError>
+fn refuse_line(fault: LineFault) -> Result<Answer, NoMemory>
     ensures { (project : Project) (said : Result CommandSaid LineFault)
         → answers.Gives (Err fault) said → HasEffect result (answer_effect project said) project project }
 {
     if line_lacks_memory(&fault) {
-        return Err(AllocError);
+        return Err(NoMemory);
     }
     Ok(Answer::Refused(Refusal::Line(fault)))
 }
 
 #[tactic(auto, unfolding(crate::specs::Run::answer_effect))]
-fn read_and_execute(alloc: Global, project: &mut Project, line: &[u8]) -> Result<Answer, AllocError>
+fn read_and_execute(alloc: Global, project: &mut Project, line: &[u8]) -> Result<Answer, NoMemory>
     requires { project.old.version < 2 ^ 64 - 1 }
     ensures { HasEffect result (answer_effect project.old (command_of line.now)) project.old project.new }
 {
@@ -120,7 +121,7 @@ fn read_and_execute(alloc: Global, project: &mut Project, line: &[u8]) -> Result
 
 /// Does a line of at most 65,536 bytes. Want of memory leaves the scene as it was.
 #[tactic(auto, unfolding(crate::specs::Run::line_effect))]
-pub fn do_line(alloc: Global, project: &mut Project, line: &[u8]) -> Result<Answer, AllocError>
+pub fn do_line(alloc: Global, project: &mut Project, line: &[u8]) -> Result<Answer, NoMemory>
     requires version { project.old.version < 2 ^ 64 - 1 }
     requires length { length line.now ≤ line_limit }
     ensures { HasEffect result (line_effect project.old line.now) project.old project.new }

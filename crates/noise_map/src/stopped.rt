@@ -1,9 +1,9 @@
 //! Why a line could not be done to its end.
 ghost use Rattle.std.specs.Prelude.{◌≡◌};
-ghost use Rattle.noise_map.specs.declared.stopped.Stopped.TheVariants.{NoMemory, WriteFault};
+ghost use Rattle.noise_map.specs.declared.stopped.Stopped.TheVariants as reasons;
 
 use map_io::Failed;
-use std::alloc::AllocError;
+use scene_parts::NoMemory;
 
 /// Why a line could not be done to its end.
 #[derive(Clone, Copy, Debug, PartialEq, Eq)]
@@ -13,17 +13,17 @@ pub enum Stopped {
 }
 
 impl From<Failed> for Stopped {
-    ghost from_gives = { λ _ stopped. stopped ≡ WriteFault };
+    ghost from_gives = { λ _ stopped. stopped ≡ reasons.WriteFault };
 
     fn from(_: Failed) -> Self {
         Stopped::WriteFault
     }
 }
 
-impl From<AllocError> for Stopped {
-    ghost from_gives = { λ _ stopped. stopped ≡ NoMemory };
+impl From<NoMemory> for Stopped {
+    ghost from_gives = { λ _ stopped. stopped ≡ reasons.NoMemory };
 
-    fn from(_: AllocError) -> Self {
+    fn from(_: NoMemory) -> Self {
         Stopped::NoMemory
     }
 }

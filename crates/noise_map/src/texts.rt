@@ -8,11 +8,12 @@ use crate::level::{high_in_hundredths, low_in_hundredths};
 use csv::WriterBuilder;
 use fix_interval::Iv;
 use path_calc::{Band, Levels};
-use std::alloc::{AllocError, Global};
+use scene_parts::NoMemory;
+use std::alloc::Global;
 
 /// The row at the head of a settle: the version, and how many receivers there are.
 #[tactic(auto, unfolding(crate::specs::Rows::settle_row))]
-pub fn settle_text(alloc: Global, version: u64, receivers: usize) -> Result<Vec<u8>, AllocError>
+pub fn settle_text(alloc: Global, version: u64, receivers: usize) -> Result<Vec<u8>, NoMemory>
     ensures { IfOk result (λ text. text.items ≡ settle_row version receivers) }
 {
     let version = format!(in alloc; "{version}")?;
@@ -35,7 +36,7 @@ pub fn level_text(
     version: u64,
     name: &[u8],
     levels: &Levels,
-) -> Result<Vec<u8>, AllocError>
+) -> Result<Vec<u8>, NoMemory>
     ensures { IfOk result (λ text. text.items ≡ level_row version name.now levels.now.total) }
 {
     shown_text(alloc, b"row", version, name, b"current", levels.total)
@@ -48,7 +49,7 @@ pub fn band_text(
     name: &[u8],
     levels: &Levels,
     band: Band,
-) -> Result<Vec<u8>, AllocError>
+) -> Result<Vec<u8>, NoMemory>
     ensures { IfOk result (λ text. text.items ≡ band_row version name.now levels.now band) }
 {
     let frequency = band.frequency();
@@ -66,7 +67,7 @@ fn shown_text(
     name: &[u8],
     state: &[u8],
     level: Iv,
-) -> Result<Vec<u8>, AllocError>
+) -> Result<Vec<u8>, NoMemory>
     requires { IsLevel level }
     ensures { IfOk result (λ text. text.items ≡ shown_row kind.now version name.now state.now level) }
 {
@@ -94,7 +95,7 @@ pub fn fault_text(
     fault: &[u8],
     first: &[u8],
     second: &[u8],
-) -> Result<Vec<u8>, AllocError>
+) -> Result<Vec<u8>, NoMemory>
     ensures { IfOk result (λ text. text.items ≡ fault_row version line fault.now first.now second.now) }
 {
     let version = format!(in alloc; "{version}")?;
@@ -112,7 +113,7 @@ pub fn fault_text(
 }
 
 #[tactic(auto, unfolding(crate::specs::Rows::hundredths_text))]
-fn decibels(alloc: Global, hundredths: u64) -> Result<String, AllocError>
+fn decibels(alloc: Global, hundredths: u64) -> Result<String, NoMemory>
     ensures { IfOk result (λ text. string_bytes text ≡ hundredths_text hundredths) }
 {
     let whole = hundredths / 100;
@@ -132,14 +133,14 @@ fn row_text(
     by: &[u8],
     low: &[u8],
     high: &[u8],
-) -> Result<Vec<u8>, AllocError>
+) -> Result<Vec<u8>, NoMemory>
     ensures { IfOk result (λ text. text.items
         ≡ row (kind.now ∷ version.now ∷ receiver.now ∷ state.now ∷ by.now ∷ low.now ∷ high.now ∷ [])) }
 {
     let mut writer = WriterBuilder::new().from_writer(Vec::new(alloc));
     let fields = [kind, version, receiver, state, by, low, high];
     if writer.write_fields(&fields).is_err() {
-        return Err(AllocError);
+        return Err(NoMemory);
     }
-    writer.into_inner().map_err(|_| AllocError)
+    writer.into_inner().map_err(|_| NoMemory)
 }
