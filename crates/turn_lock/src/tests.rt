@@ -82,7 +82,8 @@ fn work_both<R: Threads + Wait + Sync>(
 ) -> Option<Seat<Counter>>
     requires one { one.seat.table ≡ office.now.lock }
     requires two { two.seat.table ≡ office.now.lock }
-    ensures { IfSome result (λ seat. (seat.table ≡ one.seat.table) × (seat.parts ≡ one.seat.parts + two.seat.parts)) }
+    ensures { IfSome result (λ seat.
+        (seat.table ≡ one.seat.table) × (seat.parts ≡ one.seat.parts + two.seat.parts)) }
 {
     let (one, two) = join(
         rt,
@@ -110,10 +111,12 @@ fn work_all<R: Threads + Wait + Sync>(
     let (left, right) = join(
         rt,
         move || -> Option<Seat<Counter>>
-            requires { IsSync R.row × (left.0.seat.table ≡ office.now.lock) × (left.1.seat.table ≡ office.now.lock) }
+            requires { IsSync R.row × (left.0.seat.table ≡ office.now.lock)
+                × (left.1.seat.table ≡ office.now.lock) }
         { work_both(rt, alloc, office, left.0, left.1) },
         move || -> Option<Seat<Counter>>
-            requires { IsSync R.row × (right.0.seat.table ≡ office.now.lock) × (right.1.seat.table ≡ office.now.lock) }
+            requires { IsSync R.row × (right.0.seat.table ≡ office.now.lock)
+                × (right.1.seat.table ≡ office.now.lock) }
         { work_both(rt, alloc, office, right.0, right.1) },
     );
     let mut left = left?;
