@@ -49,9 +49,9 @@ CrossingIsCommon = (side : Side) (p q : Pt) (place : Frac) → crosses_of side p
     place.d
     p (from_to p q) side.from (along side)
 
--- The image of a point in the line of a side lies on the other side of that line, as far from it as the point, and at the
--- same place along it: so the way towards it leads across the line by the distances of both points, and along it as the
--- direct way does. Both are times the side's length, and times the square of it, since that is the direction's divisor
+-- The image of a point in the line of a side lies on the other side of that line, as far from it as the point, and at
+-- the same place along it: so the way towards it leads across the line by the distances of both points, and along it as
+-- the direct way does. Both are times the side's length, and times the square of it, which is the direction's divisor
 pub record LeadsToImage (side : Side) (p q : Pt) : Type 0 where
   pub across :
       cross (along side) (way (to_image side p q))

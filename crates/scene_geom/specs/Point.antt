@@ -34,7 +34,11 @@ turned side = record { from = side.to; to = side.from }
 -- two points are one where their coordinates are
 pub Pt_eq : (p q : Pt) → p.x ≡ q.x → p.y ≡ q.y → p ≡ q
 Pt_eq p q e f =
-    let across : (x : ℤ) → Type 0 = λ x. (h : InPlan x) → p ≡ record { x = x; y = p.y; x_in_plan = h; y_in_plan = p.y_in_plan } in
-    let up : (y : ℤ) → Type 0 = λ y. (h : InPlan y) → p ≡ record { x = q.x; y = y; x_in_plan = q.x_in_plan; y_in_plan = h } in
-    let first = subst across e (λ h. ap (λ (w : InPlan p.x). record { x = p.x; y = p.y; x_in_plan = w; y_in_plan = p.y_in_plan }) (InPlan-prop p.x p.x_in_plan h)) q.x_in_plan in
-    subst up f (λ h. first ∙ ap (λ (w : InPlan p.y). record { x = q.x; y = p.y; x_in_plan = q.x_in_plan; y_in_plan = w }) (InPlan-prop p.y p.y_in_plan h)) q.y_in_plan
+    let across : (x : ℤ) → Type 0 =
+    λ x. (h : InPlan x) → p ≡ record { x = x; y = p.y; x_in_plan = h; y_in_plan = p.y_in_plan } in
+    let up : (y : ℤ) → Type 0 =
+    λ y. (h : InPlan y) → p ≡ record { x = q.x; y = y; x_in_plan = q.x_in_plan; y_in_plan = h } in
+    let at_x : InPlan p.x → Pt = λ w. record { x = p.x; y = p.y; x_in_plan = w; y_in_plan = p.y_in_plan } in
+    let at_y : InPlan p.y → Pt = λ w. record { x = q.x; y = p.y; x_in_plan = q.x_in_plan; y_in_plan = w } in
+    let first = subst across e (λ h. ap at_x (InPlan-prop p.x p.x_in_plan h)) q.x_in_plan in
+    subst up f (λ h. first ∙ ap at_y (InPlan-prop p.y p.y_in_plan h)) q.y_in_plan

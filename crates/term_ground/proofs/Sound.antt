@@ -3,7 +3,6 @@ use Rattle.std.proofs.Common.{ℕ, arith, Bool, true, false, List, [], ◌∷◌
 use Rattle.std.specs.Prelude.{map, pos, int_lt, if◌then◌else◌}
 use Rattle.std.specs.List.{All}
 use Rattle.std.proofs.lemmas.Int.{ints}
-use Rattle.std.proofs.lemmas.List.Elements.{All-cons, All-nil}
 use Rattle.fix_interval.specs.Tree.{Tree, Add, Sub, Neg, Min, IsSound}
 use Rattle.scene_geom.specs.declared.plan.Pt.{Pt}
 use Rattle.scene_geom.specs.declared.fraction.Frac.{Frac}
@@ -20,6 +19,7 @@ use Rattle.term_ground.specs.declared.region.Region.TheVariants.{Source, Middle,
 use Rattle.term_ground.specs.Lengths.{zero_form, one_form, factor, plus_all}
 use Rattle.term_ground.specs.Zones.{place_form, before, signed, counted, left_of_sides, length_inside, met_zones, length_on_leg, length_on_legs}
 use Rattle.term_ground.specs.Regions.{region_start, region_end, region_from, zone_term, stretch_share, share_of}
+use Rattle.term_ground.proofs.Eight.{all_eight}
 use Rattle.term_ground.specs.Ground.{near_growth, far_growth, decay_at_125, far_decay_at_125, decay_at_250, decay_at_500, decay_at_1000, a_prime, b_prime, c_prime, d_prime, end_region_below_2khz, end_region_from_2khz, minus_one_and_a_half, middle_part, middle_at_63, middle_above, ground}
 
 sound-sum : {X : Type 0} (f : X → Tree) → ((x : X) → IsSound (f x)) → (total : Tree) → IsSound total → (xs : List X) → IsSound (plus_all total (map f xs))
@@ -116,18 +116,6 @@ sound-part : (path : Path) (dp : Tree) → IsSound dp → IsSound (middle_part p
 unfolding middle_part
 sound-part path dp k = (k, omega arith, (omega arith, (omega arith, k)), omega arith)
 
-all_eight : (a b c d e f g h : Tree) → IsSound a → IsSound b → IsSound c → IsSound d → IsSound e → IsSound f → IsSound g → IsSound h
-    → All IsSound (a ∷ b ∷ c ∷ d ∷ e ∷ f ∷ g ∷ h ∷ [])
-all_eight a b c d e f g h pa pb pc pd pe pf pg ph =
-    All-cons IsSound a (b ∷ c ∷ d ∷ e ∷ f ∷ g ∷ h ∷ []) pa
-    (All-cons IsSound b (c ∷ d ∷ e ∷ f ∷ g ∷ h ∷ []) pb
-    (All-cons IsSound c (d ∷ e ∷ f ∷ g ∷ h ∷ []) pc
-    (All-cons IsSound d (e ∷ f ∷ g ∷ h ∷ []) pd
-    (All-cons IsSound e (f ∷ g ∷ h ∷ []) pe
-    (All-cons IsSound f (g ∷ h ∷ []) pf
-    (All-cons IsSound g (h ∷ []) pg
-    (All-cons IsSound h [] ph (All-nil IsSound))))))))
-
 sound-low : (g shape : Tree) → IsSound g → IsSound shape → IsSound (end_region_below_2khz g shape)
 sound-low g shape h k = (omega arith, (h, k))
 
@@ -159,7 +147,7 @@ ground-sound zones g0 path dp h =
     let r : IsSound (share_of Receiver zones g0 path dp) = sound-share Receiver zones g0 path dp h in
     let p : IsSound (middle_part path dp) = sound-part path dp h in
     let high = sound-high_band gs gr q gm s r p m in
-    all_eight _ _ _ _ _ _ _ _
+    all_eight IsSound _ _ _ _ _ _ _ _
     (sound-band_63 q p)
     (sound-low_band gs gr q gm (a_prime path.hs dp) (a_prime path.hr dp) s r p m (sound-a_prime path.hs dp h) (sound-a_prime path.hr dp h))
     (sound-low_band gs gr q gm (b_prime path.hs dp) (b_prime path.hr dp) s r p m (sound-b_prime path.hs dp h) (sound-b_prime path.hr dp h))

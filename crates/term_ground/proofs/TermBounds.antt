@@ -1,11 +1,10 @@
 -- Bounds on the attenuation by the ground, from the ranges of its parts.
 use Rattle.std.proofs.Common.{◌≡◌, ℕ, ◌+◌, ◌*◌, ◌<◌, ◌≤◌, ◌^◌, ℤ, pos, neg_ℤ, ◌*ℤ◌, ◌≤ℤ◌, ◌<ℤ◌, refl, sym, ap, ◌∙◌, arith, lit<, inl, inr}
-use Rattle.std.specs.Prelude.{Option, Some, None, ◌⊎◌, List, [], ◌∷◌, map, int_lt, int_le, Bool, true, false}
+use Rattle.std.specs.Prelude.{Option, Some, None, ◌⊎◌, List, map, int_lt, int_le, Bool, true, false}
 use Rattle.std.specs.List.{All}
 use Rattle.std.specs.Int.{abs_diff}
 use Rattle.std.proofs.lemmas.Int.{ints}
 use Rattle.std.proofs.lemmas.Nat.{mul-le}
-use Rattle.std.proofs.lemmas.List.Elements.{All-cons, All-nil}
 use Rattle.std.proofs.Math.Nat.{pow-suc, pow-zero}
 use Rattle.fix_interval.specs.Units.{unit, unit-is}
 use Rattle.fix_interval.specs.Interval.{Interval}
@@ -25,6 +24,7 @@ use Rattle.scene_parts.specs.Views.{Zone}
 use Rattle.path_shape.specs.declared.path.Path.{Path}
 use Rattle.path_shape.proofs.Lengths.{Found, path-found}
 use Rattle.path_shape.specs.Shape.{IsPath}
+use Rattle.term_ground.proofs.Eight.{all_eight}
 use Rattle.term_ground.specs.declared.region.Region.{Region}
 use Rattle.term_ground.specs.declared.region.Region.TheVariants.{Source, Middle, Receiver}
 use Rattle.term_ground.specs.Lengths.{zero_form, factor}
@@ -268,19 +268,6 @@ at-1000 gs gm gr q s r h k l =
     between _ _ {t = band_below gs gm gr q s r}
     (sum (sum (below-has gs s (one_part 5 1) h.source k) (below-has gr r (one_part 5 1) h.receiver l)) (middle-has gs gm gr q h)) refl
 
-all_eight : (a b c d e f g h : Tree) → Within a → Within b → Within c → Within d → Within e → Within f → Within g → Within h
-    → All (AreBetween least_ground most_ground) (map enc (a ∷ b ∷ c ∷ d ∷ e ∷ f ∷ g ∷ h ∷ []))
-all_eight a b c d e f g h pa pb pc pd pe pf pg ph =
-    let P : Interval → Type 0 = AreBetween least_ground most_ground in
-    All-cons P (enc a) (map enc (b ∷ c ∷ d ∷ e ∷ f ∷ g ∷ h ∷ [])) pa
-    (All-cons P (enc b) (map enc (c ∷ d ∷ e ∷ f ∷ g ∷ h ∷ [])) pb
-    (All-cons P (enc c) (map enc (d ∷ e ∷ f ∷ g ∷ h ∷ [])) pc
-    (All-cons P (enc d) (map enc (e ∷ f ∷ g ∷ h ∷ [])) pd
-    (All-cons P (enc e) (map enc (f ∷ g ∷ h ∷ [])) pe
-    (All-cons P (enc f) (map enc (g ∷ h ∷ [])) pf
-    (All-cons P (enc g) (map enc (h ∷ [])) pg
-    (All-cons P (enc h) [] ph (All-nil P))))))))
-
 pub ground-between : (zones : List Zone) (g0 : ℕ) (path : Path) → IsPath path → g0 ≤ 100 → HasHeights path
     → All (AreBetween least_ground most_ground) (map enc (ground zones g0 path (Known path.dp)))
 unfolding ground
@@ -303,9 +290,10 @@ ground-between zones g0 path is g heights =
     let below = band_below gs gm gr q in
     let top = Add (Add (end_region_from_2khz gs) (end_region_from_2khz gr)) (middle_above q gm) in
     let at = Known path.dp in
-    all_eight (Add (Add minus_one_and_a_half minus_one_and_a_half) (middle_at_63 q))
-    (below (a_prime path.hs at) (a_prime path.hr at)) (below (b_prime path.hs at) (b_prime path.hr at))
-    (below (c_prime path.hs at) (c_prime path.hr at)) (below (d_prime path.hs at) (d_prime path.hr at)) top top top
+    all_eight (AreBetween least_ground most_ground) (enc (Add (Add minus_one_and_a_half minus_one_and_a_half) (middle_at_63 q)))
+    (enc (below (a_prime path.hs at) (a_prime path.hr at))) (enc (below (b_prime path.hs at) (b_prime path.hr at)))
+    (enc (below (c_prime path.hs at) (c_prime path.hr at))) (enc (below (d_prime path.hs at) (d_prime path.hr at)))
+    (enc top) (enc top) (enc top)
     (at-63 gs gm gr q h)
     (at-125 gs gm gr q _ _ h (a-has path.hs at hs dp) (a-has path.hr at hr dp))
     (at-250 gs gm gr q _ _ h (b-has path.hs at hs dp) (b-has path.hr at hr dp))

@@ -99,9 +99,8 @@ fn turns_right(outline: &[Pt]) -> bool
 /// What the sides of an outline that cross the line add and take off.
 fn left_of_sides(outline: &[Pt], from: Pt, dir: Dir, stretches: &Stretches) -> Regional
     requires { FitsDirection dir }
-    ensures {
-        result ≡ advanced (walked_sides (ring outline.now) from dir) walks.nothing stretches.now
-    }
+    ensures { result
+        ≡ advanced (walked_sides (ring outline.now) from dir) walks.nothing stretches.now }
 {
     let mut lengths = nothing();
     let Some((first, rest)) = outline.split_first() else {
@@ -126,9 +125,8 @@ fn left_of_sides(outline: &[Pt], from: Pt, dir: Dir, stretches: &Stretches) -> R
 /// The lengths with what a side adds or takes off where it crosses the line.
 fn with_side(lengths: Regional, side: Side, from: Pt, dir: Dir, stretches: &Stretches) -> Regional
     requires { FitsDirection dir }
-    ensures {
-        result ≡ advanced (walked (option_to_list (passage_of side from dir))) lengths stretches.now
-    }
+    ensures { result
+        ≡ advanced (walked (option_to_list (passage_of side from dir))) lengths stretches.now }
 {
     match passes(side, from, dir) {
         None => lengths,

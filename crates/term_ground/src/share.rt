@@ -54,10 +54,8 @@ pub(crate) fn shares(zones: &[Zone], g0: u8, path: &Path) -> Regional
 
 /// A sum kept within 0 and 1, where the plan length is greater than a limit, and else the ground factor outside of zones.
 fn share(sum: Iv, outside: Iv, limit: Iv, dp: Iv) -> Iv
-    ensures {
-        result
-        ≡ enc (Pick (Known dp) (Known limit) (Max zero_form (Min one_form (Known sum))) (Known outside))
-    }
+    ensures { result
+        ≡ enc (Pick (Known dp) (Known limit) (Max zero_form (Min one_form (Known sum))) (Known outside)) }
 {
     pick(less(limit, dp), max(exact(0), min(exact(1), sum)), outside)
 }
@@ -84,10 +82,8 @@ fn sums(zones: &[Zone], outside: Iv, path: &Path) -> Regional
 
 /// The sums with what a zone adds to them, which is nothing where it doesn't meet the path.
 fn with_zone(total: Regional, zone: &Zone, outside: Iv, route: &Route) -> Regional
-    ensures {
-        (path : Path) → IsRoute route.now path
-        → result ≡ with_zones (zone.now ∷ []) outside path total
-    }
+    ensures { (path : Path) → IsRoute route.now path
+        → result ≡ with_zones (zone.now ∷ []) outside path total }
 {
     let Some(lengths) = lengths_on(zone.points.items(), route) else {
         return total;

@@ -1,8 +1,6 @@
 use Rattle.std.proofs.Common.{◌≡◌, ◌∙◌, sym, subst, List, map}
-use Rattle.std.specs.List.{All}
 use Rattle.fix_interval.specs.Interval.{Interval}
 use Rattle.fix_interval.specs.Tree.{Known, enc}
-use Rattle.fix_interval.specs.Bounds.{AreBetween}
 use Rattle.term_ground.specs.Ground.{ground}
 use Rattle.term_ground.specs.Limits.{AreLimited}
 use Rattle.term_ground.proofs.Shares.{by-shares}
