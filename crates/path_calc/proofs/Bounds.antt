@@ -74,13 +74,10 @@ level-within emission d alpha10 ground he hd few hg =
     between _ _ {t = level_over (Known emission) (Known d) alpha10 (Known ground)}
     (sum (sum (sum (part-between _ _ he) (negation (part-between _ _ {t = divergence (Known d)} (divergence-between d hd)))) (negation (part-between _ _ {t = absorption (Known d) alpha10} (absorption-between d alpha10 few hd)))) (negation (part-between _ _ hg))) refl
 
--- a level, with the A-weight or without, has an energy
+-- a level with the A-weight has an energy
 pub weighted-level : (level weight : Interval) → IsAtReceiver level → IsWeight weight → IsHearable (add_of level weight)
 unfolding sum_range
 weighted-level level weight p q = between _ _ {t = Add (Known level) (Known weight)} (sum (part-between _ _ p) (part-between _ _ q)) refl
-
-pub plain-level : (level : Interval) → IsAtReceiver level → IsHearable level
-plain-level level p = between _ _ {t = Known level} (part-between _ _ p) refl
 
 -- ---- the level of a sum
 

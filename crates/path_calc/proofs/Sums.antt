@@ -86,18 +86,6 @@ pub sums-added : (a b : Interval) (m n : ℕ) → m + n < 2 ^ 18 → IsSumOf m a
 unfolding add_of
 sums-added a b m n few p q = record { lo = sum-bounded m n a.lo b.lo few p.lo q.lo; hi = sum-bounded m n a.hi b.hi few p.hi q.hi }
 
-not-negative : (count : ℕ) (end : Option ℤ) → IsBetween (pos 0) (pos (count * sound_limit)) end → IsSomeAnd end (λ z. pos 0 ≤ℤ z)
-not-negative count None p = absurd p
-not-negative count (Some z) p = p.0
-
-limited : (count : ℕ) (end : Option ℤ) → count < 2 ^ 18 → IsBetween (pos 0) (pos (count * sound_limit)) end → IsSomeAnd end (λ z. (pos 0 ≤ℤ z) × (z <ℤ pos (energy_limit)))
-limited count None few p = absurd p
-limited count (Some z) few p = (p.0, omega (arith, ints, p.1, few))
-
--- each is an energy
-pub sum-is-energy : (count : ℕ) (e : Interval) → count < 2 ^ 18 → IsSumOf count e → IsEnergy e
-sum-is-energy count e few is = record { low = not-negative count e.lo is.lo; high = limited count e.hi few is.hi }
-
 -- ---- sums of lists
 
 -- the interval of a sum is the sum of the intervals
@@ -142,7 +130,7 @@ units-added None y = omega arith
 units-added (Some x) None = omega arith
 units-added (Some x) (Some y) = end-units-by (is_small (x +ℤ y)) (x +ℤ y) (unsigned_abs x + unsigned_abs y) (abs-sum x y)
 
-units-below : (end : Option ℤ) → IsSomeAnd end (λ z. (pos 0 ≤ℤ z) × (z <ℤ pos (energy_limit))) → units_of end < energy_limit
+units-below : (end : Option ℤ) → IsSomeAnd end (λ z. (pos 0 ≤ℤ z) × (z <ℤ pos energy_limit)) → units_of end < energy_limit
 units-below None p = absurd p
 units-below (Some (pos n)) p = omega (arith, ints, p.1)
 units-below (Some (negsuc n)) p = absurd (omega (arith, ints, p.0))
