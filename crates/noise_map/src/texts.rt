@@ -119,7 +119,7 @@ fn decibels(alloc: Global, hundredths: u64) -> Result<String, NoMemory>
     let whole = hundredths / 100;
     let tenths = hundredths / 10 % 10;
     let last = hundredths % 10;
-    format!(in alloc; "{whole}.{tenths}{last}")
+    Ok(format!(in alloc; "{whole}.{tenths}{last}")?)
 }
 
 // A row of seven fields, by what they are in the row of a receiver.

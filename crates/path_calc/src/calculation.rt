@@ -5,11 +5,11 @@ ghost use Rattle.path_calc.specs.Prepared.{prepared_of};
 
 use crate::bundles::Bundle;
 use crate::energies::path_energies;
-use crate::memory::NoMemory;
+
 use crate::prepared::{PreparedReceiver, PreparedSource};
 use crate::steps::Steps;
 use scene_book::Scene;
-use scene_parts::{Name, PointSource, Receiver};
+use scene_parts::{Name, NoMemory, PointSource, Receiver};
 use std::alloc::Global;
 use std::sync::ledger::Ledger;
 
