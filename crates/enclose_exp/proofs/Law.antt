@@ -3,9 +3,9 @@
 use Rattle.std.proofs.Common.{◌≡◌, ℕ, zero, suc, ◌+◌, ◌-◌, ◌*◌, ◌/◌, ◌^◌, ◌<◌, ◌≤◌, inl, inr, sym, ap, ◌∙◌, subst, arith}
 use Rattle.std.proofs.lemmas.Nat.{mul-le, pow-add, mul-pow}
 use Rattle.std.proofs.lemmas.Grind.{div_ceil_times}
-use Rattle.std.proofs.Math.Nat.{pow-suc, pow-zero, one-le-pow, pow-le-pow_left, mul-le-mul_right, le_of_mul-le-mul_right, div-mul-le_self, div-div-eq-div-mul, div-eq_of_lt, div-one}
+use Rattle.std.proofs.Math.Nat.{pow-suc, one-le-pow, pow-le-pow_left, mul-le-mul_right, le_of_mul-le-mul_right, div-mul-le_self, div-div-eq-div-mul, div-eq_of_lt, div-one}
 use Rattle.fix_interval.specs.Roots.{one_factor, times_low, times_high, root_low, root_high, digit_at, product}
-use Rattle.fix_interval.proofs.Powers.{pow-one, pow-mul, one-pow}
+use Rattle.fix_interval.proofs.Powers.{pow-one}
 use Rattle.enclose_exp.proofs.Products.{product-zero, product-cases}
 use Rattle.enclose_exp.proofs.Roots.{floor_root-holds, ceil_root-reaches}
 

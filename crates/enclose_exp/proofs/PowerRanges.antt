@@ -1,8 +1,8 @@
 -- Powers of ten and decays keep to their ranges.
-use Rattle.std.proofs.Common.{◌≡◌, ℕ, zero, suc, ◌+◌, ◌*◌, ◌/◌, ◌%◌, ◌<◌, ◌≤◌, ◌^◌, ℤ, pos, negsuc, neg_ℤ, ◌+ℤ◌, ◌≤ℤ◌, ◌<ℤ◌, unsigned_abs, Option, refl, sym, ap, ◌∙◌, subst, arith}
+use Rattle.std.proofs.Common.{◌≡◌, ℕ, ◌*◌, ◌/◌, ◌%◌, ◌<◌, ◌≤◌, ◌^◌, ℤ, pos, neg_ℤ, ◌≤ℤ◌, ◌<ℤ◌, unsigned_abs, Option, refl, arith}
 use Rattle.std.specs.Prelude.{Bool, true, false, Some, None, IsSomeAnd, IfSome, int_le, int_lt, if◌then◌else◌}
 use Rattle.std.specs.Int.{div_ceil}
-use Rattle.std.specs.Option.{option_map, option_map_or, option_and_then}
+use Rattle.std.specs.Option.{option_map_or, option_and_then}
 use Rattle.std.proofs.lemmas.Int.{ints}
 use Rattle.std.proofs.lemmas.Bool.{false≢true}
 use Rattle.std.proofs.lemmas.Nat.{mul-le}
@@ -12,12 +12,12 @@ use Rattle.fix_interval.specs.Units.{unit, unit-is}
 use Rattle.fix_interval.specs.Interval.{Interval, All}
 use Rattle.fix_interval.specs.Lg.{is_at_least}
 use Rattle.fix_interval.specs.Ten.{fraction_high, raised_high, ten_low, ten_high, ten_of}
-use Rattle.fix_interval.specs.ExpNeg.{exp_neg_low, exp_neg_high, exp_neg_of}
+use Rattle.fix_interval.specs.ExpNeg.{exp_neg_low, exp_neg_of}
 use Rattle.fix_interval.specs.Ranges.{IsFrom, IsUpTo, LiesIn, IsRanged, from_to, power_limit, power_range, decay_range}
 use Rattle.fix_interval.proofs.Ranging.{LiesIn-All}
 use Rattle.enclose_exp.proofs.TableLemmas.{fraction_high-small}
-use Rattle.enclose_exp.proofs.Exponents.{ten_low-least, ten_high-least, ten_high-within, ten_high-greatest}
-use Rattle.enclose_exp.proofs.TenInterval.{Place, least, within, greatest, place_of, shifted, shifted-ordered, ends-ordered, ten_high-positive}
+use Rattle.enclose_exp.proofs.Exponents.{ten_high-least, ten_high-within}
+use Rattle.enclose_exp.proofs.TenInterval.{least, within, greatest, place_of, shifted, shifted-ordered, ends-ordered, ten_high-positive}
 use Rattle.enclose_exp.proofs.DecayLaw.{exp_neg_high-le}
 use Rattle.enclose_exp.proofs.DecayLaw as decays
 use Rattle.enclose_exp.proofs.DecayInterval.{ends, exp_neg_of-ends}
@@ -68,14 +68,14 @@ IsBelowLimit limit end = IfSome limit (λ (l : ℤ). IsSomeAnd end (λ (z : ℤ)
 
 high-below : (n m : ℤ) → n ≤ℤ m → IsBelowLimit (power_limit m) (ten_high n)
 high-below n m h = elim (place_of m) [
-    | least below ↦ rw (power_limit-least m below, ten_high-least n (omega (arith, ints, h, below))) (omega (arith, ints))
-    | within low high ↦ rw (power_limit-within m low high) (elim (place_of n) [
-      | least below ↦ rw (ten_high-least n below) (omega (arith, ints, limit-positive (shifted m)))
-      | within low_n high_n ↦ rw (ten_high-within n low_n high_n) (omega (arith, ints, raised-below (shifted n) (shifted m) (shifted-ordered n m low_n h)))
-      | greatest above ↦ absurd (omega (arith, ints, h, high, above))
-    ])
-    | greatest above ↦ rw (power_limit-greatest m above) tt
-  ]
+  | least below ↦ rw (power_limit-least m below, ten_high-least n (omega (arith, ints, h, below))) (omega (arith, ints))
+  | within low high ↦ rw (power_limit-within m low high) (elim (place_of n) [
+    | least below ↦ rw (ten_high-least n below) (omega (arith, ints, limit-positive (shifted m)))
+    | within low_n high_n ↦ rw (ten_high-within n low_n high_n) (omega (arith, ints, raised-below (shifted n) (shifted m) (shifted-ordered n m low_n h)))
+    | greatest above ↦ absurd (omega (arith, ints, h, high, above))
+  ])
+  | greatest above ↦ rw (power_limit-greatest m above) tt
+]
 
 not_negative : (n : ℤ) → IfSome (ten_high n) (λ z. pos 0 ≤ℤ z)
 not_negative n = weaker (ten_high n) (ten_high-positive n) where
@@ -97,6 +97,7 @@ power-up_to (Some m) lo (Some n) h = both (power_limit m) (high-below n m h.1) (
   low-ends : (lo : Option ℤ) → IfSome lo (λ z. z ≤ℤ m) → IfSome (power_limit m) (λ l. pos (option_map_or ten_low lo 0) ≤ℤ l)
   low-ends None k = low-below n (power_limit m) (ten_high n) 0 (high-below n m h.1) (not_negative n)
   low-ends (Some x) k = low-below x (power_limit m) (ten_high x) (ten_low x) (high-below x m k) (ends-ordered x x (omega (arith, ints)))
+
   both : (limit : Option ℤ) → IsBelowLimit limit (ten_high n) → IfSome limit (λ l. pos (option_map_or ten_low lo 0) ≤ℤ l)
       → IsUpTo limit (record { lo = Some (pos (option_map_or ten_low lo 0)); hi = ten_high n })
   both None k l = tt
@@ -128,6 +129,7 @@ from-zero (Some l) i e h = (from-low i.lo h.0, from-high i.hi h.1) where
   from-low : (lo : Option ℤ) → IsSomeAnd lo (λ z. l ≤ℤ z) → IsSomeAnd lo (λ z. pos 0 ≤ℤ z)
   from-low None k = absurd k
   from-low (Some z) k = let at_least : pos 0 ≤ℤ l = grind (arith, ints) in omega (arith, ints, at_least, k)
+
   from-high : (hi : Option ℤ) → IfSome hi (λ z. l ≤ℤ z) → IfSome hi (λ z. pos 0 ≤ℤ z)
   from-high None k = tt
   from-high (Some z) k = let at_least : pos 0 ≤ℤ l = grind (arith, ints) in omega (arith, ints, at_least, k)

@@ -1,8 +1,7 @@
 -- Scaling a factor by a power of ten, rounded down and rounded up.
 use Rattle.std.proofs.Common.{◌≡◌, ℕ, ◌+◌, ◌-◌, ◌*◌, ◌/◌, ◌^◌, ◌<◌, ◌≤◌, sym, ap, ◌∙◌, arith}
-use Rattle.std.proofs.Math.Nat.{div-div-eq-div-mul, mul-div-mul_left, mul-div-mul_right, mul-le-mul_left, mul-le-mul_right, mul-lt-mul_of_pos_left, lt_of_mul-lt-mul_right, one-le-pow, lt-div-mul-add, div-mul-le_self}
+use Rattle.std.proofs.Math.Nat.{div-div-eq-div-mul, mul-div-mul_left, mul-div-mul_right, one-le-pow}
 use Rattle.std.proofs.lemmas.Nat.{pow-add}
-use Rattle.std.proofs.lemmas.Grind.{div_ceil_times}
 use Rattle.std.specs.Int.{div_ceil}
 use Rattle.fix_interval.proofs.Ceilings.{div_ceil-scaled, div_ceil-nested}
 

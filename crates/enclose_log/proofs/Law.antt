@@ -5,7 +5,7 @@ use Rattle.std.specs.Int.{div_ceil}
 use Rattle.std.proofs.lemmas.Bool.{cases_eq}
 use Rattle.std.proofs.lemmas.Nat.{mul-le, pow-add, mul-pow}
 use Rattle.std.proofs.lemmas.Grind.{div_ceil_times}
-use Rattle.std.proofs.Math.Nat.{pow-suc, pow-zero, mul-le-mul_left, le_of_mul-le-mul_right, div-mul-le_self}
+use Rattle.std.proofs.Math.Nat.{pow-suc, mul-le-mul_left, le_of_mul-le-mul_right, div-mul-le_self}
 use Rattle.fix_interval.specs.Lg.{LgTurn, turn_low, turn_high, turns, one_mantissa, rounded_up}
 use Rattle.fix_interval.proofs.Powers.{pow-one, pow-mul}
 use Rattle.enclose_log.proofs.Turns.{turn_low-cases, turn_high-cases, turns_low-in_range, turns_high-in_range}

@@ -1,8 +1,7 @@
 -- Quotients rounded down and rounded up.
-use Rattle.std.proofs.Common.{◌≡◌, ℕ, ◌+◌, ◌*◌, ◌/◌, ◌%◌, ◌<◌, ◌≤◌, min, sym, ap, ◌∙◌, arith}
-use Rattle.std.proofs.Math.Nat.{mul-add-div_right, mul-le-mul_left, mul-lt-mul_of_pos_left, lt_of_mul-lt-mul_right}
+use Rattle.std.proofs.Common.{◌≡◌, ℕ, ◌+◌, ◌*◌, ◌/◌, ◌%◌, ◌<◌, min, sym, ap, ◌∙◌, arith}
+use Rattle.std.proofs.Math.Nat.{mul-add-div_right}
 use Rattle.std.proofs.lemmas.Nat.{div-add-mod', mul-mod_first}
-use Rattle.std.proofs.lemmas.Grind.{div_ceil_times}
 use Rattle.std.specs.Int.{div_ceil}
 
 -- a product's quotient from the quotient and the remainder of its first factor

@@ -1,10 +1,10 @@
 -- The two ends of the logarithm's value: what they enclose, their order and their bounds.
-use Rattle.std.proofs.Common.{◌≡◌, ℕ, zero, suc, ◌+◌, ◌-◌, ◌*◌, ◌^◌, ◌<◌, ◌≤◌, ◌⊎◌, Bool, true, false, leb, inl, inr, refl, sym, ap, ◌∙◌, subst, arith, rules, tests, pos, negsuc, ◌-ℤ◌, ◌≤ℤ◌, neg_ℤ}
+use Rattle.std.proofs.Common.{◌≡◌, ℕ, zero, suc, ◌+◌, ◌*◌, ◌^◌, ◌<◌, ◌≤◌, ◌⊎◌, Bool, true, false, leb, inl, inr, refl, sym, ap, ◌∙◌, subst, arith, rules, tests, pos, ◌≤ℤ◌, neg_ℤ}
 use Rattle.std.proofs.lemmas.Int.{ints}
 use Rattle.std.proofs.lemmas.Bool.{cases_lt, leb-true, leb-false}
-use Rattle.std.proofs.lemmas.Nat.{pow-add, mul-pow}
+use Rattle.std.proofs.lemmas.Nat.{mul-pow}
 use Rattle.std.proofs.lemmas.Grind.{div_ceil_times}
-use Rattle.std.proofs.Math.Nat.{pow-suc, pow-zero, one-le-pow, pow-le-pow_left, pow-le-pow_right, mul-le-mul_left, le_of_mul-le-mul_left, le_of_mul-le-mul_right, div-mul-le_self}
+use Rattle.std.proofs.Math.Nat.{pow-suc, pow-zero, one-le-pow, pow-le-pow_left, pow-le-pow_right, mul-le-mul_left, le_of_mul-le-mul_right, div-mul-le_self}
 use Rattle.fix_interval.specs.Units.{unit, unit-is}
 use Rattle.fix_interval.specs.Lg.{greatest, decade_of, mantissa_low, mantissa_high, one_mantissa, digits_low, digits_high, rounded_up, lg_low, lg_high, IsAtMostLg, IsAtLeastLg, turn_high, turns}
 use Rattle.enclose_log.specs.Decade.{IsDecade}

@@ -1,5 +1,5 @@
 -- Adding an energy to a sum adds its ends.
-use Rattle.std.proofs.Common.{◌≡◌, ℕ, ◌+◌, ◌<◌, ◌≤◌, ◌^◌, ℤ, pos, negsuc, ◌+ℤ◌, ◌≤ℤ◌, unsigned_abs, Option, refl, sym, ap, ◌∙◌, subst, arith, lit<, ◌*ℤ◌, to_z, of_z}
+use Rattle.std.proofs.Common.{◌≡◌, ℕ, ◌+◌, ◌<◌, ◌≤◌, ◌^◌, ℤ, pos, negsuc, ◌≤ℤ◌, unsigned_abs, Option, sym, ap, ◌∙◌, subst, arith, lit<, to_z, of_z}
 use Rattle.std.specs.Int.{w128}
 use Rattle.std.proofs.Math.IntN.{zero-*ℤ}
 use Rattle.fix_interval.specs.Units.{unit}
@@ -7,7 +7,7 @@ use Rattle.energy_sum.specs.Sums.{units_of}
 use Rattle.std.specs.Prelude.{Some, None, IsSomeAnd}
 use Rattle.std.proofs.lemmas.Int.{ints}
 use Rattle.fix_interval.specs.Interval.{Interval, IsInterval}
-use Rattle.fix_interval.specs.Values.{ratio_of, add_of, end_of}
+use Rattle.fix_interval.specs.Values.{ratio_of, add_of}
 use Rattle.fix_interval.proofs.Ratios.{ratio_of-one, passed}
 use Rattle.fix_interval.proofs.Multiplying.{end_of-small}
 

@@ -1,5 +1,5 @@
 -- The ends of energies and of levels are bounded.
-use Rattle.std.proofs.Common.{◌≡◌, ◌*◌, ◌-◌, ◌^◌, pos, neg_ℤ, refl, lit<}
+use Rattle.std.proofs.Common.{◌*◌, ◌-◌, ◌^◌, pos, neg_ℤ, refl, lit<}
 use Rattle.fix_interval.specs.Units.{unit}
 use Rattle.fix_interval.specs.Interval.{Interval}
 use Rattle.fix_interval.specs.Bounds.{AreBetween}

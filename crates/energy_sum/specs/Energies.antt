@@ -1,5 +1,5 @@
 -- Energies of levels, and levels of sums of energies (ISO 9613-2, equation 5).
-use Rattle.std.specs.Prelude.{ℕ, pos}
+use Rattle.std.specs.Prelude.{pos}
 use Rattle.fix_interval.specs.Tree.{Tree, Const, Mul, Div, Max, Lg, Ten}
 
 -- the energy of a level in dB: 10 to the power of a tenth of it

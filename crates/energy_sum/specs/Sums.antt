@@ -1,6 +1,5 @@
 -- What a sum of energies keeps.
-use Rattle.std.specs.Prelude.{ℕ, ◌^◌, ◌≤◌, ◌<◌, ◌+ℤ◌, ◌<ℤ◌, pos, ℤ, Option, Some, None, IsSomeAnd, unsigned_abs}
-use Rattle.fix_interval.specs.Interval.{Interval}
+use Rattle.std.specs.Prelude.{ℕ, ◌^◌, ◌≤◌, ◌<◌, ℤ, Option, Some, None, unsigned_abs}
 
 -- the ends of a sum, in units of 2^-32
 pub record IsSum (lo hi : ℕ) : Type 0 where

@@ -1,6 +1,5 @@
 -- A choice keeps to the hull of the ranges of its cases.
-use Rattle.std.proofs.Common.{ℤ, ◌≤ℤ◌, Option, arith}
-use Rattle.std.specs.Prelude.{Some, None, IsSomeAnd, IfSome}
+use Rattle.std.proofs.Common.{ℤ, Option, arith}
 use Rattle.std.proofs.lemmas.Int.{ints, clamps}
 use Rattle.fix_interval.specs.Interval.{Interval}
 use Rattle.fix_interval.specs.Values.{hull_of, pick_of, lesser_low, greater_high}

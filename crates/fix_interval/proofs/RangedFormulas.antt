@@ -5,8 +5,7 @@ use Rattle.std.proofs.lemmas.Int.{ints}
 use Rattle.std.proofs.lemmas.Bool.{false≢true}
 use Rattle.fix_interval.specs.Interval.{Interval}
 use Rattle.fix_interval.specs.Bounds.{IsBetween, AreBetween}
-use Rattle.fix_interval.specs.Values.{less_of}
-use Rattle.fix_interval.specs.Tree.{Tree, Known, Const, Add, Neg, Mul, Div, Max, Min, Root, Lg, Ten, ExpNeg, Pick, enc}
+use Rattle.fix_interval.specs.Tree.{Tree, Known, Const, enc}
 use Rattle.fix_interval.specs.Ranges.{from_to, is_inside, LiesIn, HasRanges, range_of, part, constant, sum, negation, product, quotient, greater, lesser, square_root, logarithm, ten_power, decay, choice}
 use Rattle.fix_interval.proofs.Ranging.{are_between, lies_in, ratio-lies, sum-lies, negation-lies, greater-lies, lesser-lies}
 use Rattle.fix_interval.proofs.RangedChoices.{choice-lies}
@@ -42,6 +41,7 @@ widened low high (Some l) (Some h) i e k =
     both-true : (a b : Bool) → (a && b) ≡ true → (a ≡ true) × (b ≡ true)
     both-true true b e = (refl, e)
     both-true false b e = absurd (false≢true e)
+
     wider : (end : Option ℤ) → IsBetween l h end → low ≤ℤ l → h ≤ℤ high → IsBetween low high end
     wider None k least most = absurd k
     wider (Some z) k least most = (omega (arith, ints, k.0, least), omega (arith, ints, k.1, most))

@@ -1,6 +1,6 @@
 -- Roots keep to their ranges.
-use Rattle.std.proofs.Common.{◌≡◌, ℕ, zero, suc, ◌+◌, ◌*◌, ◌<◌, ◌≤◌, ◌^◌, ℤ, pos, negsuc, ◌≤ℤ◌, ◌<ℤ◌, unsigned_abs, Option, refl, sym, ap, ◌∙◌, subst, arith, inl, inr}
-use Rattle.std.specs.Prelude.{Bool, true, false, ◌⊎◌, Some, None, IsSomeAnd, IfSome, int_le, int_lt, nat_le, nat_lt, min, if◌then◌else◌}
+use Rattle.std.proofs.Common.{◌≡◌, ℕ, zero, suc, ◌*◌, ◌<◌, ◌≤◌, ◌^◌, ℤ, pos, negsuc, ◌≤ℤ◌, Option, refl, arith, inl, inr}
+use Rattle.std.specs.Prelude.{Bool, true, false, ◌⊎◌, Some, None, IfSome, int_lt, nat_le, nat_lt, if◌then◌else◌}
 use Rattle.std.specs.Option.{option_and_then}
 use Rattle.std.proofs.lemmas.Int.{ints}
 use Rattle.std.proofs.lemmas.Bool.{cases_lt}
@@ -12,7 +12,6 @@ use Rattle.fix_interval.specs.Round.{floor_root, ceil_root}
 use Rattle.fix_interval.specs.Values.{root_of, root_of_high, low_radicand, is_below_zero}
 use Rattle.fix_interval.specs.Lg.{is_at_least}
 use Rattle.fix_interval.specs.Ranges.{IsFrom, IsUpTo, LiesIn, root_limit, root_limit_of, root_range}
-use Rattle.fix_interval.proofs.Ratios.{nat_lt-yes, nat_lt-no}
 use Rattle.std.proofs.lemmas.Bool.{false≢true}
 use Rattle.std.proofs.Math.Nat.{le_trans}
 use Rattle.fix_interval.proofs.Rooting.{floor_root-below, ceil_root-le, ceil_root-square, floor_root-le-ceil_root, high_root_is, root_of-roots}

@@ -1,24 +1,16 @@
 -- Each operation keeps to its range.
-use Rattle.std.proofs.Common.{◌≡◌, ℕ, zero, suc, ◌+◌, ◌*◌, ◌<◌, ◌≤◌, ◌^◌, ℤ, pos, negsuc, neg_ℤ, ◌+ℤ◌, ◌*ℤ◌, ◌≤ℤ◌, ◌<ℤ◌, unsigned_abs, Option, refl, sym, ap, ◌∙◌, subst, arith, inl, inr}
-use Rattle.std.specs.Prelude.{Bool, true, false, ◌⊎◌, Some, None, IsSomeAnd, IfSome, int_le, int_lt, nat_lt, if◌then◌else◌}
-use Rattle.std.specs.Int.{int_min, int_max}
-use Rattle.std.specs.Option.{option_map, option_and_then}
+use Rattle.std.proofs.Common.{◌≡◌, ℕ, ◌<◌, ◌^◌, ℤ, pos, negsuc, neg_ℤ, ◌+ℤ◌, ◌*ℤ◌, ◌≤ℤ◌, unsigned_abs, Option, refl, arith, inl, inr}
+use Rattle.std.specs.Prelude.{Bool, true, false, ◌⊎◌, Some, None, nat_lt, if◌then◌else◌}
+use Rattle.std.specs.Option.{option_map}
 use Rattle.std.proofs.lemmas.Int.{ints, clamps}
-use Rattle.fix_interval.specs.Units.{unit, unit-is}
+use Rattle.fix_interval.specs.Units.{unit}
 use Rattle.fix_interval.specs.Interval.{Interval, All}
 use Rattle.fix_interval.specs.Bounds.{IsBetween, AreBetween}
-use Rattle.fix_interval.specs.Round.{floor_of, ceil_of, floor_quotient, ceil_quotient}
-use Rattle.fix_interval.specs.Values.{ratio_of, end_of, is_small, sum_of_ends, add_of, neg_of, on_ends, mul_of, product_of_ends, least_of, greatest_of, least_product, greatest_product, rounded_outward, div_of, quotient_of_ends, holds_zero, max_of, min_of, hull_of, pick_of, greater_low, greater_high, lesser_low, lesser_high}
-use Rattle.fix_interval.specs.declared.truth.Truth.{Truth}
-use Rattle.fix_interval.specs.declared.truth.Truth.TheVariants.{Sure, Never, Unsure}
-use Rattle.fix_interval.specs.Lg.{is_at_least}
-use Rattle.fix_interval.specs.Ranges.{IsFrom, IsUpTo, LiesIn, from_to, both_or_all, sum_range, quotient_range}
-use Rattle.fix_interval.proofs.Ratios.{ratio_of-small, nat_lt-yes}
-use Rattle.fix_interval.proofs.Ends.{on_ends-bounded}
-use Rattle.fix_interval.proofs.Order.{int_min-keeps, int_max-keeps}
-use Rattle.fix_interval.proofs.Rounding.{floor_of-mono, ceil_of-mono, floor_of-le-ceil_of, floor_of-anti, floor_of-anti_negative}
-use Rattle.fix_interval.proofs.Multiplying.{end_of-small, times-mono, times-anti, times-mono_right}
-use Rattle.fix_interval.proofs.Dividing.{≤ℤ_trans, unit-pos, units-mono, floor_quotient-mono, ceil_quotient-mono}
+use Rattle.fix_interval.specs.Round.{floor_of, ceil_of}
+use Rattle.fix_interval.specs.Values.{ratio_of, end_of, add_of, neg_of, on_ends, max_of, min_of, greater_low, greater_high, lesser_low, lesser_high}
+use Rattle.fix_interval.specs.Ranges.{IsFrom, IsUpTo, LiesIn, from_to, both_or_all, sum_range}
+use Rattle.fix_interval.proofs.Rounding.{floor_of-le-ceil_of}
+use Rattle.fix_interval.proofs.Multiplying.{end_of-small}
 
 -- ---- bounded ends
 

@@ -1,5 +1,5 @@
 -- Powers of ten with a signed exponent: a power of ten that is moved to the other side of an inequality.
-use Rattle.std.proofs.Common.{◌≡◌, ℕ, suc, ◌+◌, ◌-◌, ◌*◌, ◌^◌, ◌≤◌, inl, inr, ap, ◌∙◌, arith, ℤ, pos, negsuc, ◌-ℤ◌}
+use Rattle.std.proofs.Common.{◌≡◌, ℕ, suc, ◌+◌, ◌-◌, ◌*◌, ◌^◌, ◌≤◌, inl, inr, ap, ◌∙◌, arith, pos, negsuc, ◌-ℤ◌}
 use Rattle.std.proofs.lemmas.Int.{ints}
 use Rattle.std.proofs.lemmas.Bool.{cases_lt}
 use Rattle.std.proofs.lemmas.Nat.{pow-add}
@@ -26,12 +26,12 @@ positive s = one-le-pow s 10 (omega arith)
 
 pub at_most-shifted : (s t n : ℕ) → 10 ^ s * unit ^ unit ≤ 10 ^ t * n ^ unit → IsAtMostLg (pos s -ℤ pos t) n
 at_most-shifted s t n h = elim (difference s t) [
-    | below k is power ↦ rw is (le_of_mul-le-mul_left {k = 10 ^ s} (omega (arith, rw power at h)) (positive s))
-    | above k is power ↦ rw is (le_of_mul-le-mul_left {k = 10 ^ t} (omega (arith, rw power at h)) (positive t))
-  ]
+  | below k is power ↦ rw is (le_of_mul-le-mul_left {k = 10 ^ s} (omega (arith, rw power at h)) (positive s))
+  | above k is power ↦ rw is (le_of_mul-le-mul_left {k = 10 ^ t} (omega (arith, rw power at h)) (positive t))
+]
 
 pub at_least-shifted : (s t n : ℕ) → 10 ^ t * n ^ unit ≤ 10 ^ s * unit ^ unit → IsAtLeastLg (pos s -ℤ pos t) n
 at_least-shifted s t n h = elim (difference s t) [
-    | below k is power ↦ rw is (le_of_mul-le-mul_left {k = 10 ^ s} (omega (arith, rw power at h)) (positive s))
-    | above k is power ↦ rw is (le_of_mul-le-mul_left {k = 10 ^ t} (omega (arith, rw power at h)) (positive t))
-  ]
+  | below k is power ↦ rw is (le_of_mul-le-mul_left {k = 10 ^ s} (omega (arith, rw power at h)) (positive s))
+  | above k is power ↦ rw is (le_of_mul-le-mul_left {k = 10 ^ t} (omega (arith, rw power at h)) (positive t))
+]

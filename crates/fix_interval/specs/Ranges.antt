@@ -1,7 +1,7 @@
 -- Between which bounds a formula lies, from those between which its parts lie: an algebra of ranges. A range is written
 -- as an interval; an end of `None` bounds nothing on its side. What a range says is far coarser than an enclosure, so
 -- that it can be calculated of closed numbers where the ends of an enclosure aren't known.
-use Rattle.std.specs.Prelude.{◌≡◌, ◌<◌, ◌≤ℤ◌, ℕ, zero, suc, ◌+◌, ◌*◌, ◌/◌, ◌^◌, nat_le, Bool, false, ◌&&◌, if◌then◌else◌, ℤ, pos, neg_ℤ, ◌+ℤ◌, int_le, int_lt, unsigned_abs, Option, Some, None, IsSomeAnd, IfSome}
+use Rattle.std.specs.Prelude.{◌<◌, ◌≤ℤ◌, ℕ, zero, suc, ◌*◌, ◌/◌, ◌^◌, nat_le, Bool, false, ◌&&◌, if◌then◌else◌, ℤ, pos, neg_ℤ, ◌+ℤ◌, int_le, int_lt, unsigned_abs, Option, Some, None, IsSomeAnd, IfSome}
 use Rattle.std.specs.Int.{div_ceil}
 use Rattle.std.specs.Option.{option_map, option_and_then}
 use Rattle.fix_interval.specs.Units.{unit}

@@ -16,7 +16,8 @@ mod whole_quotient;
 
 pub use iv::{Iv, OPEN_HI, OPEN_LO};
 pub use laws::{
-    formulas_are_enclosed, formulas_keep_their_ranges, holding_encloses, table_encloses, table_gives_intervals,
+    formulas_are_enclosed, formulas_keep_their_ranges, holding_encloses, table_encloses,
+    table_gives_intervals,
 };
 pub use powers_of_ten::power_of_ten;
 pub use products::mul;

@@ -10,7 +10,6 @@ use Rattle.scene_parts.specs.Answers.{◌>>◌}
 use Rattle.scene_parts.specs.Views.{Source, Obstacle, Zone, Receiver, Grid}
 use Rattle.scene_parts.specs.declared.parts.Part.{Part}
 use Rattle.scene_parts.specs.declared.parts.Part.TheVariants as parts
-use Rattle.scene_book.specs.declared.edits.Edit.{Edit}
 use Rattle.scene_book.specs.declared.edits.Edit.TheVariants as edits
 use Rattle.scene_book.specs.declared.edits.EditFault.{EditFault}
 use Rattle.scene_parts.specs.declared.kinds.Class.TheVariants as classes
@@ -18,8 +17,8 @@ use Rattle.scene_book.specs.Limits.{most_receivers}
 use Rattle.scene_book.specs.Lists.{named, put_in, take_out, put_all}
 use Rattle.scene_book.specs.Book.{Book}
 use Rattle.scene_book.specs.Grid.{receivers_of}
-use Rattle.scene_book.specs.Applying.{apply_of, at_most, all_own, own_class, name_of, class_of, holder, in_limits, put_of, put_where_room, remove_of, grid_of, taken, with_part, replaced, part_named, with_receivers}
-use Rattle.scene_book.specs.Laws.{Edited, PutIsEdit, RemovalIsEdit, FlatMapStays, FilterStays, AnyStays, PutsInTurn, Pieces, no_pieces, pieces_of, pieces_of_any, ListsEdited, Changes, AcceptedChanges}
+use Rattle.scene_book.specs.Applying.{apply_of, at_most, all_own, own_class, name_of, class_of, holder, in_limits, put_of, put_where_room, remove_of, grid_of, taken, with_part, replaced, with_receivers}
+use Rattle.scene_book.specs.Laws.{Edited, FlatMapStays, FilterStays, AnyStays, PutsInTurn, no_pieces, pieces_of, pieces_of_any, ListsEdited, Changes, AcceptedChanges}
 
 module _ {A : Type 0} where
   -- an edit behind a thing that stays

@@ -1,6 +1,6 @@
 -- Things filed under their names: the entries of a map and the list of its values.
 use Rattle.std.proofs.Common.{◌≡◌, ℕ, refl, sym, ◌∙◌, ap, Bool, true, false, cond, List, [], ◌∷◌, ◌++◌}
-use Rattle.std.specs.Prelude.{bytes_eq, Option, Vec}
+use Rattle.std.specs.Prelude.{bytes_eq, Vec}
 use Rattle.std.specs.List.{IsDistinct, AllByRecursion}
 use Rattle.std.specs.Map.{keys_of, lookup, values_of, remove_entry}
 use Rattle.std.specs.declared.alloc.Global.{Global}

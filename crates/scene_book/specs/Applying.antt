@@ -1,6 +1,6 @@
 -- What an edit makes of a scene.
-use Rattle.std.specs.Prelude.{◌≡◌, ℕ, ◌*◌, List, [], ◌∷◌, length, nat_lt, ◌==◌, Bool, true, false, Option, Some, None, option_map, Result, Ok, Err, if◌then◌else◌}
-use Rattle.scene_parts.specs.Views.{Source, Obstacle, Zone, Receiver, Globals, Grid, Setting}
+use Rattle.std.specs.Prelude.{ℕ, ◌*◌, List, [], ◌∷◌, length, nat_lt, ◌==◌, Bool, true, false, Option, Some, None, option_map, Result, Ok, Err, if◌then◌else◌}
+use Rattle.scene_parts.specs.Views.{Receiver, Grid, Setting}
 use Rattle.scene_parts.specs.declared.parts.Part.{Part}
 use Rattle.scene_parts.specs.declared.parts.Part.TheVariants as parts
 use Rattle.scene_parts.specs.declared.kinds.Shape.{Shape}

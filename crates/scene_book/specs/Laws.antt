@@ -1,5 +1,5 @@
 -- What an edit changes in the lists of a scene, and what stays.
-use Rattle.std.specs.Prelude.{◌≡◌, Bool, false, List, [], ◌∷◌, ◌++◌, Option, Some, None, Result, Ok, flat_map, filter, ℕ}
+use Rattle.std.specs.Prelude.{◌≡◌, Bool, false, List, [], ◌∷◌, ◌++◌, Option, Some, None, Ok, flat_map, filter, ℕ}
 use Rattle.std.specs.List.{list_any}
 use Rattle.std.specs.Option.{option_to_list}
 use Rattle.scene_parts.specs.Views.{Source, Obstacle, Zone, Receiver}

@@ -1,5 +1,5 @@
 -- Lists of named things, in the order of insertion.
-use Rattle.std.specs.Prelude.{◌≡◌, ℕ, ◌+◌, Bool, false, bytes_eq, List, [], ◌∷◌, Option, if◌then◌else◌, find}
+use Rattle.std.specs.Prelude.{◌≡◌, ℕ, ◌+◌, false, bytes_eq, List, [], ◌∷◌, Option, if◌then◌else◌, find}
 
 -- the first thing of a name
 abbrev pub named : {A : Type 0} → (A → List ℕ) → List ℕ → List A → Option A

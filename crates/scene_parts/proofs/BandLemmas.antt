@@ -1,5 +1,5 @@
 -- Eight bands.
-use Rattle.std.proofs.Common.{◌≡◌, ℕ, List, [], ◌∷◌, length, get_or, refl, arith}
+use Rattle.std.proofs.Common.{◌≡◌, List, [], ◌∷◌, length, get_or, refl, arith}
 
 -- a list of eight items is its items
 pub eight : {A : Type 0} (xs : List A) (d : A) → length xs ≡ 8

@@ -1,6 +1,6 @@
 -- The sides of an outline by their numbers.
-use Rattle.std.proofs.Common.{◌≡◌, ℕ, zero, suc, ◌+◌, ◌-◌, ◌<◌, ◌≤◌, ap, sym, ◌∙◌, refl, List, [], ◌∷◌, ◌++◌, length, drop, Bool, true, false, cond, ◌&&◌, IsTrue, arith, add-one, length-append}
-use Rattle.std.specs.Prelude.{Option, Some, None, Result, Ok, Err, slice_get}
+use Rattle.std.proofs.Common.{◌≡◌, ℕ, zero, suc, ◌+◌, ◌-◌, ◌<◌, ◌≤◌, ap, ◌∙◌, refl, List, [], ◌∷◌, ◌++◌, length, drop, Bool, true, false, cond, ◌&&◌, IsTrue, arith, add-one, length-append}
+use Rattle.std.specs.Prelude.{Some, Ok, Err, slice_get}
 use Rattle.std.specs.List.{list_all}
 use Rattle.std.proofs.Common.{get_or}
 use Rattle.std.proofs.lemmas.List.{drop_all}

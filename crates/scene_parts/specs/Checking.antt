@@ -1,5 +1,5 @@
 -- What the check of a line's part answers: for each word its tests in their order, and the part where all pass.
-use Rattle.std.specs.Prelude.{ℕ, ◌+◌, ◌==◌, ℤ, pos, neg_ℤ, List, [], ◌∷◌, length, Bool, ◌&&◌, ◌||◌, nat_lt, int_le, Option, Result, Ok, Err, if◌then◌else◌, codes, bytes_eq, unsigned_abs}
+use Rattle.std.specs.Prelude.{ℕ, ◌+◌, ℤ, pos, neg_ℤ, List, [], ◌∷◌, length, ◌&&◌, ◌||◌, nat_lt, int_le, Option, Result, Ok, Err, if◌then◌else◌, codes, bytes_eq, unsigned_abs}
 use Rattle.scene_geom.specs.declared.plan.Pt.{Pt}
 use Rattle.scene_geom.specs.declared.plan.Side.{Side}
 use Rattle.scene_geom.specs.Point.{point_at}
@@ -14,7 +14,6 @@ use Rattle.scene_parts.specs.declared.kinds.Field.TheVariants as fields
 use Rattle.scene_parts.specs.declared.outlines.RawPt.{RawPt}
 use Rattle.scene_parts.specs.declared.faults.PartFault.{PartFault}
 use Rattle.scene_parts.specs.declared.faults.PartFault.TheVariants.{OutOfRange, OutsideMethod, UnknownKind, TooLight, FewCorners, FlatShape, SideTooLong, WeakMirror}
-use Rattle.scene_parts.specs.declared.parts.Part.{Part}
 use Rattle.scene_parts.specs.declared.parts.Part.TheVariants as parts
 use Rattle.scene_parts.specs.declared.raw.RawPart.{RawPart}
 use Rattle.scene_parts.specs.declared.raw.RawPart.TheVariants as raw

@@ -1,5 +1,5 @@
 -- The sides of barriers and buildings.
-use Rattle.std.specs.Prelude.{ℕ, zero, suc, ◌+◌, ◌*◌, List, Bool, nat_le, if◌then◌else◌, unsigned_abs}
+use Rattle.std.specs.Prelude.{ℕ, zero, suc, ◌*◌, List, Bool, nat_le, if◌then◌else◌, unsigned_abs}
 use Rattle.scene_geom.specs.declared.plan.Pt.{Pt}
 use Rattle.scene_geom.specs.declared.plan.Side.{Side}
 use Rattle.scene_geom.specs.Vector.{dot}

@@ -1,13 +1,13 @@
 -- The ends of the attenuations are bounded.
-use Rattle.std.proofs.Common.{◌≡◌, ℕ, ◌*◌, ◌<◌, ◌^◌, ℤ, pos, ◌*ℤ◌, ◌≤ℤ◌, refl, arith, lit<}
+use Rattle.std.proofs.Common.{ℕ, ◌*◌, ◌<◌, ◌^◌, pos, refl, arith, lit<}
 use Rattle.std.proofs.lemmas.Int.{ints}
-use Rattle.fix_interval.specs.Units.{unit, unit-is}
+use Rattle.fix_interval.specs.Units.{unit}
 use Rattle.fix_interval.specs.Interval.{Interval}
 use Rattle.fix_interval.specs.Bounds.{AreBetween}
 use Rattle.fix_interval.specs.Values.{ratio_of, mul_of, div_of, max_of}
 use Rattle.fix_interval.specs.Lg.{greatest, decade_of}
 use Rattle.fix_interval.specs.Tree.{Tree, Known, Const, enc}
-use Rattle.fix_interval.specs.Ranges.{HasRanges, from_to, sum, product, quotient, greater, logarithm, constant, sum_range, quotient_range, logarithm_range}
+use Rattle.fix_interval.specs.Ranges.{from_to, sum, product, quotient, greater, logarithm, constant, sum_range, quotient_range, logarithm_range}
 use Rattle.fix_interval.proofs.Ratios.{ratio_of-one}
 use Rattle.fix_interval.proofs.Spans.{units-is}
 use Rattle.fix_interval.proofs.RangedFormulas.{between, part-between}

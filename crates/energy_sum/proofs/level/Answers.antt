@@ -1,4 +1,3 @@
-use Rattle.std.proofs.Common.{subst, sym}
 use Rattle.energy_sum.proofs.Ends.{level-between}
 use Rattle.energy_sum.proofs.level.Goals as goal
 

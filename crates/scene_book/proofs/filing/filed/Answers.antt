@@ -1,4 +1,4 @@
-use Rattle.std.proofs.Common.{◌≡◌, ◌∙◌, ◌++◌, List, [], ap, sym, append-nil, arith}
+use Rattle.std.proofs.Common.{◌≡◌, ◌∙◌, ◌++◌, [], ap, sym, append-nil, arith}
 use Rattle.std.specs.Map.{values_of}
 use Rattle.scene_book.proofs.ListLemmas.{empty}
 use Rattle.scene_book.proofs.FiledLemmas.{filed-push, values-push}

@@ -1,4 +1,4 @@
-use Rattle.std.proofs.Common.{◌≡◌, ap, length, arith}
+use Rattle.std.proofs.Common.{ap, length, arith}
 use Rattle.scene_book.proofs.filing.insert_all.Goals as goal
 
 pub unwrap-old-requires : goal.unwrap-old-requires

@@ -1,4 +1,4 @@
-use Rattle.std.proofs.Common.{◌≡◌, ℕ, ◌<◌, ◌+◌, ◌-◌, ◌++◌, List, ◌∙◌, sym, ap, append_assoc, rules, arith}
+use Rattle.std.proofs.Common.{◌≡◌, ◌<◌, ◌+◌, ◌-◌, ◌++◌, List, ◌∙◌, sym, ap, append_assoc, rules, arith}
 use Rattle.scene_parts.specs.Views.{Receiver, Grid}
 use Rattle.scene_book.specs.Grid.{columns_from, rows_from, receivers_of}
 use Rattle.scene_book.proofs.GridLemmas.{rows-step, rows-apart}

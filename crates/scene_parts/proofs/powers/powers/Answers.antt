@@ -1,5 +1,5 @@
-use Rattle.std.proofs.Common.{◌≡◌, ◌∙◌, ap, sym, ℕ, [], ◌∷◌, length, get_or, arith}
-use Rattle.std.specs.Prelude.{ℤ, Option, None}
+use Rattle.std.proofs.Common.{◌≡◌, ◌∙◌, ap, sym, [], ◌∷◌, length, get_or, arith}
+use Rattle.std.specs.Prelude.{None}
 use Rattle.scene_parts.specs.Answers.{each}
 use Rattle.scene_parts.specs.Checking.{power_of}
 use Rattle.scene_parts.proofs.BandLemmas.{eight}

@@ -1,7 +1,5 @@
-use Rattle.std.proofs.Common.{◌≡◌, ◌∙◌, sym, ap, not, Bool, true, false, arith}
-use Rattle.std.specs.Prelude.{Result, Err}
+use Rattle.std.proofs.Common.{◌≡◌, ◌∙◌, sym, true, false, arith}
 use Rattle.scene_parts.specs.Sides.{sides_in, is_short}
-use Rattle.scene_parts.specs.Checking.{check_sides_from}
 use Rattle.scene_parts.proofs.SideLemmas.{short-step, short-stop, short-all, short-end}
 use Rattle.scene_parts.proofs.shapes.check_sides.Goals as goal
 

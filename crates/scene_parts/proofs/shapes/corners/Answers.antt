@@ -1,8 +1,8 @@
-use Rattle.std.proofs.Common.{◌≡◌, ◌∙◌, length, length-append, arith, add-one}
+use Rattle.std.proofs.Common.{◌∙◌, length-append, arith}
 use Rattle.std.specs.Prelude.{pos}
 use Rattle.std.proofs.lemmas.Result.{err_from_is_err_and}
 use Rattle.scene_parts.specs.Answers.{lacks_memory}
-use Rattle.scene_parts.specs.Checking.{corner_of, corners_of}
+use Rattle.scene_parts.specs.Checking.{corner_of}
 use Rattle.scene_parts.specs.declared.outlines.RawPt.{RawPt}
 use Rattle.scene_parts.proofs.AnswerLemmas.{unless, after-step, after-stop, corners-stop}
 use Rattle.scene_parts.proofs.shapes.corners.Goals as goal

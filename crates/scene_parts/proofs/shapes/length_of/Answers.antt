@@ -1,4 +1,3 @@
-use Rattle.std.proofs.Common.{sym}
 use Rattle.scene_parts.proofs.RootLemmas.{floor_root-is}
 use Rattle.scene_parts.proofs.shapes.length_of.Goals as goal
 

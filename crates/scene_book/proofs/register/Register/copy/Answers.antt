@@ -1,4 +1,4 @@
-use Rattle.std.proofs.Common.{◌≡◌, ◌≤◌, ◌∙◌, ap, sym, length, arith}
+use Rattle.std.proofs.Common.{◌≤◌, ◌∙◌, ap, sym, length, arith}
 use Rattle.std.proofs.lemmas.List.{drop_all}
 use Rattle.scene_book.specs.Lists.{put_all}
 use Rattle.scene_book.proofs.ListLemmas.{put_all-apart}

@@ -1,4 +1,4 @@
-use Rattle.std.proofs.Common.{◌≡◌, ◌∙◌}
+use Rattle.std.proofs.Common.{◌∙◌}
 use Rattle.scene_book.proofs.FiledLemmas.{named-lookup}
 use Rattle.scene_book.proofs.register.Register.get.Goals as goal
 

@@ -1,5 +1,4 @@
-use Rattle.std.proofs.Common.{◌≡◌, ◌∙◌, sym, ap, List, ℕ}
-use Rattle.scene_book.specs.Lists.{put_in, named}
+use Rattle.std.proofs.Common.{◌∙◌}
 use Rattle.scene_book.proofs.FiledLemmas.{named-lookup, put-values, put-filed, apart}
 use Rattle.scene_book.proofs.register.Register.insert.Goals as goal
 

@@ -1,4 +1,3 @@
-use Rattle.std.proofs.Common.{◌≡◌}
 use Rattle.scene_book.proofs.FiledLemmas.{apart}
 use Rattle.scene_book.proofs.register.Register.items.Goals as goal
 

@@ -1,4 +1,4 @@
-use Rattle.std.proofs.Common.{◌≡◌, ◌≤◌, ◌∙◌, ap, List, length, arith}
+use Rattle.std.proofs.Common.{◌≤◌, ap, length, arith}
 use Rattle.std.proofs.lemmas.List.{drop_all}
 use Rattle.scene_book.proofs.ListLemmas.{absent, length-put_all}
 use Rattle.scene_book.proofs.register.Register.len_with_all.Goals as goal

@@ -1,4 +1,4 @@
-use Rattle.std.proofs.Common.{◌≡◌, ◌∙◌, ap}
+use Rattle.std.proofs.Common.{◌∙◌, ap}
 use Rattle.std.specs.Map.{values_of}
 use Rattle.scene_book.specs.Lists.{put_all}
 use Rattle.scene_book.proofs.FiledLemmas.{all-filed, all-values, apart}

@@ -1,4 +1,4 @@
-use Rattle.std.proofs.Common.{◌≡◌, ◌∙◌}
+use Rattle.std.proofs.Common.{◌∙◌}
 use Rattle.std.specs.Map.{values_of}
 use Rattle.scene_book.proofs.FiledLemmas.{named-lookup, take-values, take-filed, apart}
 use Rattle.scene_book.proofs.ListLemmas.{length-take_out}

@@ -1,4 +1,4 @@
-use Rattle.std.proofs.Common.{◌≡◌, ℕ, List, length, sym, arith}
+use Rattle.std.proofs.Common.{ℕ, List, length, sym, arith}
 use Rattle.scene_parts.specs.Views.{Obstacle}
 use Rattle.scene_parts.specs.Sides.{sides_of}
 use Rattle.scene_book.proofs.ListLemmas.{sum-take_out, total-there}

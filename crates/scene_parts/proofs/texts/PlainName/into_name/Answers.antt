@@ -1,4 +1,3 @@
-use Rattle.std.specs.Prelude.{◌≡◌}
 use Rattle.scene_parts.proofs.NameLemmas.{name-is_any_name}
 use Rattle.scene_parts.proofs.texts.PlainName.into_name.Goals as goal
 
