@@ -1,7 +1,6 @@
 -- Faults that are no want of memory are what is said.
-use Rattle.std.proofs.Common.{◌≡◌, Bool, true, false, List, [], ◌++◌, Option, refl, sym, ap, ◌∙◌, subst}
-use Rattle.std.specs.Prelude.{ℕ, Result, Ok, Err}
-use Rattle.std.specs.Io.KnownBytes.{Appends}
+use Rattle.std.proofs.Common.{◌≡◌, false, List, [], Option, refl}
+use Rattle.std.specs.Prelude.{ℕ, Result, Err}
 use Rattle.std.proofs.KnownBytes.{Appends-nil}
 use Rattle.scene_parts.specs.declared.parts.Part.{Part}
 use Rattle.scene_book.specs.Book.{Book}

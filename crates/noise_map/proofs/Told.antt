@@ -1,6 +1,6 @@
 -- Which faults a status tells, and that a run without them comes to its end.
 use Rattle.std.proofs.Common.{◌≡◌, ◌≢◌, ◌≤◌, ℕ, Bool, true, false, List, [], ◌∷◌, ◌++◌, length, refl, ap, sym, ◌∙◌, subst, arith, length-append}
-use Rattle.std.specs.Prelude.{Option, Some, None, Result, Err}
+use Rattle.std.specs.Prelude.{Option, Some, None, Err}
 use Rattle.map_io.specs.Causes.{Rose}
 use Rattle.map_io.specs.declared.reader.Stop.{Stop}
 use Rattle.map_io.specs.declared.reader.Stop.TheVariants.{Going, AtEnd, AfterFault, AtLimit}
@@ -14,7 +14,7 @@ use Rattle.noise_map.specs.declared.status.Status.TheVariants as status
 use Rattle.noise_map.specs.declared.project.Project.{Project}
 use Rattle.noise_map.specs.Taking.{CausedByWriteFault}
 use Rattle.noise_map.specs.Outcome.{Outcome, CoversLimit, TellsFault, IsUnbroken, RunsToTheEnd}
-use Rattle.noise_map.specs.Progress.{status_at_end, status_of, ending_of, HandedOut, Progress}
+use Rattle.noise_map.specs.Progress.{status_of, ending_of, HandedOut, Progress}
 
 same_some : {X : Type 0} {x y : X} → Some x ≡ Some y → x ≡ y
 same_some e = cc

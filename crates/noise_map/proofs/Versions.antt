@@ -12,7 +12,6 @@ use Rattle.command_lines.specs.declared.faults.LineFault.{LineFault}
 use Rattle.command_lines.specs.Lines.{command_of}
 use Rattle.map_io.specs.Reading.{line_limit}
 use Rattle.noise_map.specs.declared.project.Project.{Project}
-use Rattle.noise_map.specs.declared.refusal.Refusal.{Refusal}
 use Rattle.noise_map.specs.declared.refusal.Refusal.TheVariants.{LongLine, NotBuilt}
 use Rattle.noise_map.specs.Run.{Effect, no_effect, refusal, apply_effect, edit_effect, command_effect, answer_effect, is_blank, is_unbuilt, line_effect, line_course}
 

@@ -28,7 +28,8 @@ about_both fault first second = record { fault = fault; first = first; second = 
 
 abbrev pub part_fault_text : PartFault → FaultText
 part_fault_text parts.NoMemory = plain []
-part_fault_text (parts.OutOfRange field value) = about_both (codes "OutOfRange") (field_name field) (signed_decimal value)
+part_fault_text (parts.OutOfRange field value) =
+    about_both (codes "OutOfRange") (field_name field) (signed_decimal value)
 part_fault_text (parts.OutsideMethod kind) = about (codes "OutsideMethod") kind
 part_fault_text (parts.UnknownKind kind) = about (codes "UnknownKind") kind
 part_fault_text (parts.TooLight density) = about (codes "TooLight") (decimal density)

@@ -1,6 +1,6 @@
 -- What lines do to a scene, and what they write.
-use Rattle.std.specs.Prelude.{ℕ, ◌+◌, Bool, true, false, ◌&&◌, ◌||◌, ◌==◌, nat_lt, List, [], ◌∷◌, ◌++◌}
-use Rattle.std.specs.Prelude.{length, Option, Some, None, Result, Ok, Err, if◌then◌else◌, slice_index_or, unwrap_or}
+use Rattle.std.specs.Prelude.{ℕ, ◌+◌, Bool, true, false, ◌||◌, ◌==◌, nat_lt, List, [], ◌∷◌, ◌++◌}
+use Rattle.std.specs.Prelude.{length, Option, Result, Ok, Err, if◌then◌else◌, slice_index_or, unwrap_or}
 use Rattle.std.specs.List.{list_all, flat_map}
 use Rattle.scene_parts.specs.Views.{Receiver, Setting}
 use Rattle.scene_parts.specs.declared.parts.Part.{Part}

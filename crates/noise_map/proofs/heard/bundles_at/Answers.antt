@@ -1,4 +1,4 @@
-use Rattle.std.proofs.Common.{◌≡◌, ℕ, ◌≤◌, ◌<◌, List, length, flat_map, take, sym, ap, ◌∙◌, subst, arith}
+use Rattle.std.proofs.Common.{length, flat_map, ap, ◌∙◌, arith}
 use Rattle.std.proofs.lemmas.List.{take_all}
 use Rattle.noise_map.specs.Heard.{bundle_within}
 use Rattle.noise_map.proofs.Hearing.{heard_all, heard_few}

@@ -1,4 +1,4 @@
-use Rattle.std.proofs.Common.{refl, sym, ap, ◌∙◌, arith}
+use Rattle.std.proofs.Common.{refl, sym, ap, ◌∙◌}
 use Rattle.noise_map.proofs.Steps.{started_as, within_at_start, run_ended, turned, turned_off, passes_on}
 use Rattle.noise_map.proofs.Told.{goes_without_fault, line_is_no_fault, read_told, write_untold, read_untold, write_told}
 use Rattle.noise_map.proofs.run.do_lines.Goals as goal
