@@ -2,10 +2,10 @@
 use Rattle.std.proofs.Common.{◌≡◌, ◌≤◌, Bool, true, false, List, [], ◌∷◌, ◌++◌, length, map, flat_map, cond, refl, ap, ◌∙◌, arith}
 use Rattle.std.specs.Prelude.{filter, if◌then◌else◌}
 use Rattle.std.proofs.lemmas.List.{length-append}
-use Rattle.scene_parts.specs.Views.{Receiver}
+use Rattle.scene_parts.specs.Views.{Source, Receiver}
 use Rattle.scene_book.specs.Book.{Book}
 use Rattle.path_calc.specs.Lengths.{is_within}
-use Rattle.path_calc.specs.Bundles.{bundle_of}
+use Rattle.path_calc.specs.Bundles.{Bundle, bundle_of}
 use Rattle.path_calc.specs.Show.{bundles_of}
 use Rattle.noise_map.specs.Heard.{bundle_within}
 
@@ -31,3 +31,16 @@ heard_all book r = kept (λ s. is_within book.globals.reach s.at r.at) (λ s. bu
 
 pub heard_few : (book : Book) (r : Receiver) → length (flat_map (bundle_within book r) book.sources) ≤ length book.sources
 heard_few book r = no_more (λ s. is_within book.globals.reach s.at r.at) (λ s. bundle_of book s r) book.sources
+
+fused : {X Y Z : Type 0} (f : Y → List Z) (g : X → Y) (xs : List X) → flat_map (λ x. f (g x)) xs ≡ flat_map f (map g xs)
+fused f g [] = refl
+fused f g (x ∷ xs) = ap (λ ys. f (g x) ++ ys) (fused f g xs)
+
+-- of what stands for each source
+pub heard_by : {E : Type 0} (source : E → Source) (es all : List E) (book : Book) (r : Receiver) → es ≡ all → map source all ≡ book.sources
+    → flat_map (λ e. bundle_within book r (source e)) es ≡ bundles_of book r
+heard_by source es all book r whole is =
+    ap (flat_map (λ e. bundle_within book r (source e))) whole ∙ fused (bundle_within book r) source all ∙ ap (flat_map (bundle_within book r)) is ∙ heard_all book r
+
+pub few_heard : (book : Book) (r : Receiver) (bundles : List Bundle) → bundles ≡ bundles_of book r → length book.sources ≤ 128 → length bundles ≤ 128
+few_heard book r bundles is few = rw is (omega (arith, ap length (heard_all book r), heard_few book r, few))

@@ -5,7 +5,7 @@ ghost use Rattle.noise_map.specs.Rows.{refused_row, settle_row};
 ghost use Rattle.noise_map.specs.Run.{band_row, band_rows, level_rows, receiver_rows, settle_rows};
 
 use crate::faults::refused_text;
-use crate::heard::levels_at;
+use crate::heard::PreparedScene;
 use crate::refusal::Refusal;
 use crate::stopped::Stopped;
 use crate::texts::{band_text, level_text, settle_text};
@@ -58,8 +58,9 @@ impl<'a, K: Sink> Rows<'a, K> {
         ensures same { (self.new.version ≡ self.old.version) × (self.new.number ≡ self.old.number)
             × (self.new.out.ghost_name ≡ self.old.out.ghost_name) }
     {
+        let prepared = PreparedScene::of(self.alloc, scene)?;
         self.head(scene)?;
-        self.receivers(bands, scene)
+        self.receivers(bands, &prepared)
     }
 
     fn head(&mut self, scene: &Scene) -> Result<(), Stopped>
@@ -73,29 +74,30 @@ impl<'a, K: Sink> Rows<'a, K> {
         self.put(head.as_slice())
     }
 
-    fn receivers(&mut self, bands: bool, scene: &Scene) -> Result<(), Stopped>
+    fn receivers(&mut self, bands: bool, prepared: &PreparedScene) -> Result<(), Stopped>
         ensures taken { Takes result (K.taken self.old.out.now) (K.taken self.new.out.now)
-            (flat_map (receiver_rows bands self.old.version scene.now) scene.now.receivers) }
+            (flat_map (receiver_rows bands self.old.version prepared.now.scene.now)
+            prepared.now.scene.now.receivers) }
         ensures cause { CausedByWriteFault result (K.faults self.old.out.now) (K.faults self.new.out.now) }
         ensures same { (self.new.version ≡ self.old.version) × (self.new.number ≡ self.old.number)
             × (self.new.out.ghost_name ≡ self.old.out.ghost_name) }
     {
-        for receiver in scene.receivers() {
-            self.receiver(bands, scene, receiver)?;
+        for receiver in prepared.scene.receivers() {
+            self.receiver(bands, prepared, receiver)?;
         }
         Ok(())
     }
 
     /// Calculates the levels at a receiver, and writes their rows.
     #[tactic(auto, unfolding(crate::specs::Run::receiver_rows))]
-    fn receiver(&mut self, bands: bool, scene: &Scene, receiver: &Receiver) -> Result<(), Stopped>
+    fn receiver(&mut self, bands: bool, prepared: &PreparedScene, receiver: &Receiver) -> Result<(), Stopped>
         ensures taken { Takes result (K.taken self.old.out.now) (K.taken self.new.out.now)
-            (receiver_rows bands self.old.version scene.now receiver.now) }
+            (receiver_rows bands self.old.version prepared.now.scene.now receiver.now) }
         ensures cause { CausedByWriteFault result (K.faults self.old.out.now) (K.faults self.new.out.now) }
         ensures same { (self.new.version ≡ self.old.version) × (self.new.number ≡ self.old.number)
             × (self.new.out.ghost_name ≡ self.old.out.ghost_name) }
     {
-        let levels = levels_at(self.alloc, scene, receiver)?;
+        let levels = prepared.levels_at(self.alloc, receiver)?;
         self.levels(bands, receiver.name.items(), &levels)
     }
 

@@ -1,7 +1,7 @@
 use Rattle.std.proofs.Common.{ap, ◌∙◌}
 use Rattle.path_calc.specs.Levels.{levels_of}
 use Rattle.path_calc.specs.Show.{show_of}
-use Rattle.noise_map.proofs.heard.levels_counted.Goals as goal
+use Rattle.noise_map.proofs.heard.PreparedScene.levels_counted.Goals as goal
 
 pub returns : goal.returns
 unfolding show_of
