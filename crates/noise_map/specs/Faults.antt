@@ -59,19 +59,3 @@ refusal_text refusals.LongLine = plain (codes "LongLine")
 refusal_text (refusals.Line fault) = line_fault_text fault
 refusal_text refusals.NotBuilt = plain (codes "NotBuilt")
 refusal_text (refusals.Edit fault) = edit_fault_text fault
-
--- want of memory, which is no refusal
-abbrev pub edit_lacks_memory : EditFault → Bool
-edit_lacks_memory edits.NoMemory = true
-edit_lacks_memory (edits.NoSuchName name) = false
-edit_lacks_memory (edits.OtherClass name class) = false
-edit_lacks_memory (edits.Full class limit) = false
-
-abbrev pub line_lacks_memory : LineFault → Bool
-line_lacks_memory lines.NoMemory = true
-line_lacks_memory lines.NotJson = false
-line_lacks_memory lines.NotObject = false
-line_lacks_memory (lines.UnknownDo word) = false
-line_lacks_memory (lines.Missing field) = false
-line_lacks_memory (lines.WrongType field) = false
-line_lacks_memory (lines.Part fault) = false

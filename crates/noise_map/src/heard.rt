@@ -104,7 +104,13 @@ impl<'a> PreparedScene<'a> {
         let source = emitter.source;
         if within(self.scene.globals().reach, source.at, receiver.at) {
             let bundle = bundle_between(
-                alloc, self.scene, source, &emitter.prepared, receiver, to, steps,
+                alloc,
+                self.scene,
+                source,
+                &emitter.prepared,
+                receiver,
+                to,
+                steps,
             )?;
             bundles.push(bundle)?;
         }

@@ -90,7 +90,12 @@ impl<'a, K: Sink> Rows<'a, K> {
 
     /// Calculates the levels at a receiver, and writes their rows.
     #[tactic(auto, unfolding(crate::specs::Run::receiver_rows))]
-    fn receiver(&mut self, bands: bool, prepared: &PreparedScene, receiver: &Receiver) -> Result<(), Stopped>
+    fn receiver(
+        &mut self,
+        bands: bool,
+        prepared: &PreparedScene,
+        receiver: &Receiver,
+    ) -> Result<(), Stopped>
         ensures taken { Takes result (K.taken self.old.out.now) (K.taken self.new.out.now)
             (receiver_rows bands self.old.version prepared.now.scene.now receiver.now) }
         ensures cause { CausedByWriteFault result (K.faults self.old.out.now) (K.faults self.new.out.now) }

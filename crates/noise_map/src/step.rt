@@ -1,6 +1,7 @@
 //! One line after another: what each does to the scene, and what is shown of it.
 ghost use Rattle.std.specs.Prelude.{◌≡◌, ◌-◌, ◌<◌, ◌≤◌, ◌^◌, ℕ, List, length, Option, Result, Err};
 ghost use Rattle.noise_map.specs.declared.project.Project.{Project};
+ghost use Rattle.scene_parts.specs.Answers.{MatchesUnlessMemory};
 ghost use Rattle.scene_parts.specs.declared.parts.Part.{Part};
 ghost use Rattle.scene_book.specs.Book.{Book};
 ghost use Rattle.scene_book.specs.Applying as applying;
@@ -9,7 +10,6 @@ ghost use Rattle.command_lines.specs.declared.commands.Command.{Command as Comma
 ghost use Rattle.command_lines.specs.Answers as answers;
 ghost use Rattle.command_lines.specs.Lines.{command_of};
 ghost use Rattle.map_io.specs.Reading.{line_limit};
-ghost use Rattle.noise_map.specs.Faults.{edit_lacks_memory, line_lacks_memory};
 ghost use Rattle.noise_map.specs.Taking.{HasEffect};
 ghost use Rattle.noise_map.specs.Run.{apply_effect, edit_effect, command_effect, answer_effect, line_effect, is_blank, is_blank_byte};
 
@@ -23,7 +23,7 @@ use scene_parts::NoMemory;
 use std::alloc::Global;
 
 fn edit_lacks_memory(fault: &EditFault) -> bool
-    ensures { result ≡ edit_lacks_memory fault.now }
+    ensures { result ≡ applying.lacks_memory fault.now }
 {
     matches!(fault, EditFault::NoMemory)
 }
@@ -31,7 +31,7 @@ fn edit_lacks_memory(fault: &EditFault) -> bool
 /// The refusal of an edit that the scene can't take, unless it had no memory for it.
 fn refuse_edit(fault: EditFault) -> Result<Answer, NoMemory>
     ensures { (project : Project) (after : Book) (said : Result (Book × Option Part) EditFault)
-        → applying.Gives after (Err fault) said → HasEffect result (apply_effect project said) project project }
+        → applying.Leaves after (Err fault) said → HasEffect result (apply_effect project said) project project }
 {
     if edit_lacks_memory(&fault) {
         return Err(NoMemory);
@@ -92,7 +92,7 @@ fn is_blank_char(byte: u8) -> bool
 }
 
 fn line_lacks_memory(fault: &LineFault) -> bool
-    ensures { result ≡ line_lacks_memory fault.now }
+    ensures { result ≡ answers.lacks_memory fault.now }
 {
     matches!(fault, LineFault::NoMemory)
 }
@@ -100,7 +100,7 @@ fn line_lacks_memory(fault: &LineFault) -> bool
 /// Refuses a line that says no command, unless there was no memory to read it.
 fn refuse_line(fault: LineFault) -> Result<Answer, NoMemory>
     ensures { (project : Project) (said : Result CommandSaid LineFault)
-        → answers.Gives (Err fault) said → HasEffect result (answer_effect project said) project project }
+        → MatchesUnlessMemory answers.lacks_memory (Err fault) said → HasEffect result (answer_effect project said) project project }
 {
     if line_lacks_memory(&fault) {
         return Err(NoMemory);
