@@ -5,7 +5,6 @@ ghost use Rattle.path_calc.specs.Prepared.{prepared_of};
 
 use crate::bundles::Bundle;
 use crate::energies::path_energies;
-
 use crate::prepared::{PreparedReceiver, PreparedSource};
 use crate::steps::Steps;
 use scene_book::Scene;
