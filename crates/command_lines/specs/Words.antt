@@ -19,7 +19,8 @@ use Rattle.command_lines.specs.Answers.{of_part}
 
 abbrev pub source_fields : List Entry
 source_fields =
-    needed Name name ∷ needed Kind text ∷ needed X whole ∷ needed Y whole ∷ needed H whole ∷ needed Lw powers ∷ optional Dc whole ∷ []
+    needed Name name ∷ needed Kind text ∷ needed X whole ∷ needed Y whole ∷ needed H whole ∷ needed Lw powers
+    ∷ optional Dc whole ∷ []
 
 abbrev pub barrier_fields : List Entry
 barrier_fields =
@@ -55,7 +56,8 @@ source_in line =
 
 abbrev pub barrier_in : Data → RawPart
 barrier_in line =
-    raw.Barrier (name_at Name line) (points_at Points line) (whole_at H line) (whole_at Density line) (whole_at Rho line)
+    raw.Barrier (name_at Name line) (points_at Points line) (whole_at H line) (whole_at Density line)
+    (whole_at Rho line)
 
 abbrev pub building_in : Data → RawPart
 building_in line = raw.Building (name_at Name line) (points_at Points line) (whole_at H line) (whole_at Rho line)

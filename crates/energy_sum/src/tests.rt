@@ -1,3 +1,4 @@
+//! Energies and levels with ends from outside, by an independent program.
 use super::*;
 use std::process::Abort;
 

@@ -1,3 +1,4 @@
+//! Divergence and absorption with ends from outside, by an independent program.
 use super::*;
 use std::process::Abort;
 

@@ -3,7 +3,8 @@ use Rattle.turn_lock.specs.History.{StepRelation}
 use Rattle.std.specs.Borrow.{MutBor}
 use Rattle.std.specs.Fn.{Once}
 
--- from every state in which the call can be answered, f may be called; what it answers and leaves is a step for the call
+-- from every state in which the call can be answered, f may be called;
+-- what it answers and leaves is a step for the call
 pub record AnswersAs {F M S C R : Type 0}
     (g : Once F (MutBor M × (C × Unit {0})) (R × (MutBor M × Unit {0}))) (state : M → S)
     (can : S → C → Type 0) (steps : StepRelation S C R) (f : F) (call : C) : Type 0 where

@@ -31,7 +31,8 @@ Leads {S} steps from (e ∷ es) to = (next : S) × steps from e.call e.reply nex
 -- after the entries `before`, each further entry is one that its seat may ask, by the seat's own entries before it
 abbrev pub EachAllowed : {C R : Type 0} → Permission C R → List (Entry C R) → List (Entry C R) → Type 0
 EachAllowed may before [] = Unit {0}
-EachAllowed may before (e ∷ es) = may e.number (entries_of e.number before) e.call × EachAllowed may (before ++ e ∷ []) es
+EachAllowed may before (e ∷ es) =
+    may e.number (entries_of e.number before) e.call × EachAllowed may (before ++ e ∷ []) es
 
 -- the history is a run of the machine, from its start to this state, in which each seat asked only what it may
 pub record IsRun {S C R : Type 0} (start : S) (steps : StepRelation S C R) (may : Permission C R)

@@ -1,9 +1,11 @@
--- What a lock's callers conclude from a history: how its last entry came about, how it runs through any place in it, and what holds at its end.
+-- What a lock's callers conclude from a history: how its last entry came about, how it runs through any place in it,
+-- and what holds at its end.
 use Rattle.std.specs.Prelude.{◌≡◌, ℕ, List, [], ◌∷◌, ◌++◌, All}
 use Rattle.turn_lock.specs.declared.entry.Entry.{Entry}
 use Rattle.turn_lock.specs.History.{Leads, EachAllowed, IsRun, entries_of, StepRelation, Permission}
 
--- The last entry was asked after a run of what came before it, by a seat that might ask it, and the machine's step led to its reply.
+-- The last entry was asked after a run of what came before it, by a seat that might ask it, and the machine's step led
+-- to its reply.
 pub record HasLastStep {S C R : Type 0} (start : S) (steps : StepRelation S C R) (may : Permission C R)
     (before : List (Entry C R)) (last : Entry C R) (after : S) : Type 0 where
   pub state : S
@@ -17,7 +19,8 @@ LastStep {S} {C} {R} start steps may =
     (before : List (Entry C R)) (last : Entry C R) (after : S)
     → IsRun start steps may (before ++ last ∷ []) after → HasLastStep start steps may before last after
 
--- A run goes through a state between its front and its back: the front is a run to there, and the back leads on from there, by entries that their seats might ask.
+-- A run goes through a state between its front and its back: the front is a run to there, and the back leads on from
+-- there, by entries that their seats might ask.
 pub record RunsBetween {S C R : Type 0} (start : S) (steps : StepRelation S C R) (may : Permission C R)
     (front back : List (Entry C R)) (after : S) : Type 0 where
   pub state : S
@@ -32,14 +35,17 @@ RunThrough {S} {C} {R} start steps may =
     → IsRun start steps may (front ++ back) after → RunsBetween start steps may front back after
 
 -- a fact of states that each allowed step keeps, after any run, where its entry is of some kind
-abbrev pub IsKeptByEach : {S C R : Type 0} → S → StepRelation S C R → Permission C R → (Entry C R → Type 0) → (S → Type 0) → Type 0
+abbrev pub IsKeptByEach : {S C R : Type 0} → S → StepRelation S C R → Permission C R
+    → (Entry C R → Type 0) → (S → Type 0) → Type 0
 IsKeptByEach {S} {C} {R} start steps may OfKind Holds =
     (history : List (Entry C R)) (before after : S) (e : Entry C R)
-    → IsRun start steps may history before → may e.number (entries_of e.number history) e.call → steps before e.call e.reply after
+    → IsRun start steps may history before → may e.number (entries_of e.number history) e.call
+    → steps before e.call e.reply after
     → OfKind e → Holds before → Holds after
 
 -- What holds after the front of a run, and is kept by each entry behind it, holds at the end.
-abbrev pub KeptWhere : {S C R : Type 0} → S → StepRelation S C R → Permission C R → (Entry C R → Type 0) → (S → Type 0) → Type 0
+abbrev pub KeptWhere : {S C R : Type 0} → S → StepRelation S C R → Permission C R
+    → (Entry C R → Type 0) → (S → Type 0) → Type 0
 KeptWhere {S} {C} {R} start steps may OfKind Holds =
     IsKeptByEach start steps may OfKind Holds
     → (front back : List (Entry C R)) (between after : S)

@@ -41,7 +41,8 @@ module _ {C R : Type 0} where
   with_part_less v = record v { parts = v.parts - 1 }
 
   abbrev pub unnamed : View C R → View C R
-  unnamed v = record { name = None; seen = v.seen; mine = []; parts = 1; joined = []; bound = v.bound; beside = []; phase = Free }
+  unnamed v = record {
+      name = None; seen = v.seen; mine = []; parts = 1; joined = []; bound = v.bound; beside = []; phase = Free }
 
   -- the shorter of the two lists, where `longer` gives the other
   abbrev pub shorter : List (Entry C R) → List (Entry C R) → List (Entry C R)
@@ -109,7 +110,8 @@ module _ {M S C R : Type 0} (state : M → S) (start : S) (steps : StepRelation 
     pub others : (ticket : ℕ) → before.0.phase ≡ Waiting ticket → found ≢ ticket → after ≡ before
 
   -- pass on: the entries join the history, the machine is back in its slot, and the next ticket is served
-  abbrev pub PassesOn : List (Entry C R) → Step (Option M) → Me (Option M) (View C R) → ℕ → Me (Option M) (View C R) → Type 0
+  abbrev pub PassesOn : List (Entry C R) → Step (Option M) → Me (Option M) (View C R) → ℕ
+      → Me (Option M) (View C R) → Type 0
   PassesOn added step before found after =
       (after ≡ (with_entries added before.0, rest before.1)) × Knows start steps may after.0
 
