@@ -80,7 +80,7 @@ module _ {M S C R : Type 0} (state : M → S) (start : S) (steps : StepRelation 
   FitsSlot homes history count =
       ((homes ≡ none ∷ []) × (count ≡ 1))
       ⊎ ((machine : M) × (homes ≡ some (Some machine) ∷ [])
-        × IsRun start steps may history (state machine) × (count ≡ 0))
+      × IsRun start steps may history (state machine) × (count ≡ 0))
 
   pub record IsKept (table : State (Option M) (View C R)) : Type 0 where
     pub history : List (Entry C R)
@@ -104,4 +104,12 @@ module _ {M S C R : Type 0} (state : M → S) (start : S) (steps : StepRelation 
 -- the view of the first seat
 abbrev pub first_view : {C R : Type 0} → View C R
 first_view = record {
-    name = Some 0; seen = []; mine = []; parts = all_parts; joined = []; bound = 1; beside = []; phase = Free }
+  name = Some 0;
+  seen = [];
+  mine = [];
+  parts = all_parts;
+  joined = [];
+  bound = 1;
+  beside = [];
+  phase = Free;
+}

@@ -52,7 +52,13 @@ pub record IsNew {C R : Type 0} (number : ℕ) (seat : Standing C R) : Type 0 wh
 -- a new seat of the same lock: a number of its own, one part, it sees what the old one sees, and has done nothing
 abbrev pub newcomer : {C R : Type 0} → ℕ → Standing C R → Standing C R
 newcomer number seat = record {
-    table = seat.table; number = number; seen = seat.seen; mine = []; parts = 1; joined = [] }
+  table = seat.table;
+  number = number;
+  seen = seat.seen;
+  mine = [];
+  parts = 1;
+  joined = [];
+}
 
 -- the longer of two lists
 abbrev pub longer : {X : Type 0} → List X → List X → List X

@@ -42,7 +42,15 @@ module _ {C R : Type 0} where
 
   abbrev pub unnamed : View C R → View C R
   unnamed v = record {
-      name = None; seen = v.seen; mine = []; parts = 1; joined = []; bound = v.bound; beside = []; phase = Free }
+    name = None;
+    seen = v.seen;
+    mine = [];
+    parts = 1;
+    joined = [];
+    bound = v.bound;
+    beside = [];
+    phase = Free;
+  }
 
   -- the shorter of the two lists, where `longer` gives the other
   abbrev pub shorter : List (Entry C R) → List (Entry C R) → List (Entry C R)
