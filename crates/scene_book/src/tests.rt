@@ -74,7 +74,7 @@ fn grid(alloc: Global, columns: i64, rows: i64) -> Result<RawPart, AllocError> {
 }
 
 #[test]
-fn edits_in_a_row(rt: HostRuntime) -> Result<(), Fail> {
+fn parts_are_put_and_replaced(rt: HostRuntime) -> Result<(), Fail> {
     let alloc = rt.alloc();
     let mut scene = Scene::empty(alloc)?;
     let barrier = RawPart::Barrier {
@@ -95,10 +95,6 @@ fn edits_in_a_row(rt: HostRuntime) -> Result<(), Fail> {
         EditOutcome::New
     );
     assert_eq!(rt;
-        put(&mut scene, alloc, receiver(alloc, b"b", 2)?),
-        EditOutcome::New
-    );
-    assert_eq!(rt;
         put(&mut scene, alloc, receiver(alloc, b"a", 3)?),
         EditOutcome::Replaced
     );
@@ -111,6 +107,26 @@ fn edits_in_a_row(rt: HostRuntime) -> Result<(), Fail> {
         put(&mut scene, alloc, receiver(alloc, b"w", 3)?),
         EditOutcome::Other(Class::Barrier)
     );
+    let [a] = scene.receivers() else {
+        return Err("not one receiver".into());
+    };
+    assert_eq!(rt; a.at.x, 3);
+    assert_eq!(rt;
+        scene.obstacles().len() + scene.sources().len() + scene.zones().len(),
+        1
+    );
+    assert_eq!(rt; scene.globals().reach, 4_000_000);
+    Ok(())
+}
+
+#[test]
+fn grids_are_put_whole(rt: HostRuntime) -> Result<(), Fail> {
+    let alloc = rt.alloc();
+    let mut scene = Scene::empty(alloc)?;
+    assert_eq!(rt;
+        put(&mut scene, alloc, receiver(alloc, b"a", 1)?),
+        EditOutcome::New
+    );
     assert_eq!(rt;
         put(&mut scene, alloc, grid(alloc, 4096, 4096)?),
         EditOutcome::Full(Class::Receiver, 4096)
@@ -119,18 +135,32 @@ fn edits_in_a_row(rt: HostRuntime) -> Result<(), Fail> {
         put(&mut scene, alloc, grid(alloc, 64, 64)?),
         EditOutcome::Full(Class::Receiver, 4096)
     );
+    assert_eq!(rt; scene.receivers().len(), 1);
     assert_eq!(rt;
         put(&mut scene, alloc, grid(alloc, 2, 2)?),
         EditOutcome::New
     );
-    let copy = scene.copy(alloc)?;
-    let [a, b, first, second, ..] = copy.receivers() else {
+    let [a, first, second, ..] = scene.receivers() else {
         return Err("too few receivers".into());
     };
-    assert_eq!(rt; a.at.x, 3);
-    assert_eq!(rt; b.at.x, 2);
+    assert_eq!(rt; a.at.x, 1);
     assert_eq!(rt; first.name.items(), b"g/0/0".as_slice());
     assert_eq!(rt; second.name.items(), b"g/1/0".as_slice());
+    Ok(())
+}
+
+#[test]
+fn parts_are_removed(rt: HostRuntime) -> Result<(), Fail> {
+    let alloc = rt.alloc();
+    let mut scene = Scene::empty(alloc)?;
+    assert_eq!(rt;
+        put(&mut scene, alloc, receiver(alloc, b"a", 1)?),
+        EditOutcome::New
+    );
+    assert_eq!(rt;
+        put(&mut scene, alloc, grid(alloc, 2, 2)?),
+        EditOutcome::New
+    );
     let gone = Name::from_vec(b"a".to_vec(alloc)?);
     assert_eq!(rt;
         applied(&mut scene, alloc, Edit::Remove(gone)),
@@ -141,12 +171,7 @@ fn edits_in_a_row(rt: HostRuntime) -> Result<(), Fail> {
         applied(&mut scene, alloc, Edit::Remove(unknown)),
         EditOutcome::NoName
     );
-    assert_eq!(rt; scene.receivers().len(), 5);
-    assert_eq!(rt;
-        scene.obstacles().len() + scene.sources().len() + scene.zones().len(),
-        1
-    );
-    assert_eq!(rt; scene.globals().reach, 4_000_000);
+    assert_eq!(rt; scene.receivers().len(), 4);
     Ok(())
 }
 
