@@ -73,110 +73,154 @@ fn grid(alloc: Global, columns: i64, rows: i64) -> Result<RawPart, AllocError> {
     })
 }
 
-#[test]
-fn parts_are_put_and_replaced(rt: HostRuntime) -> Result<(), Fail> {
-    let alloc = rt.alloc();
-    let mut scene = Scene::empty(alloc)?;
-    let barrier = RawPart::Barrier {
+fn barrier(alloc: Global) -> Result<RawPart, AllocError> {
+    Ok(RawPart::Barrier {
         name: name(alloc, b"w")?,
         points: corners(alloc)?,
         h: 1,
         density: 10,
         rho: 0,
-    };
-    let building = RawPart::Building {
+    })
+}
+
+fn building(alloc: Global) -> Result<RawPart, AllocError> {
+    Ok(RawPart::Building {
         name: name(alloc, b"w")?,
         points: corners(alloc)?,
         h: 1,
         rho: 0,
-    };
+    })
+}
+
+#[test]
+fn an_empty_scene_has_defaults(rt: HostRuntime) -> Result<(), Fail> {
+    let scene = Scene::empty(rt.alloc())?;
     assert_eq!(rt;
-        put(&mut scene, alloc, receiver(alloc, b"a", 1)?),
-        EditOutcome::New
+        (scene.globals().reach, scene.globals().g, scene.globals().c0),
+        (4_000_000, 0, 0)
     );
-    assert_eq!(rt;
-        put(&mut scene, alloc, receiver(alloc, b"a", 3)?),
-        EditOutcome::Replaced
-    );
-    assert_eq!(rt; put(&mut scene, alloc, barrier), EditOutcome::New);
-    assert_eq!(rt;
-        put(&mut scene, alloc, building),
-        EditOutcome::Other(Class::Barrier)
-    );
-    assert_eq!(rt;
-        put(&mut scene, alloc, receiver(alloc, b"w", 3)?),
-        EditOutcome::Other(Class::Barrier)
-    );
-    let [a] = scene.receivers() else {
-        return Err("not one receiver".into());
-    };
-    assert_eq!(rt; a.at.x, 3);
-    assert_eq!(rt;
-        scene.obstacles().len() + scene.sources().len() + scene.zones().len(),
-        1
-    );
-    assert_eq!(rt; scene.globals().reach, 4_000_000);
     Ok(())
 }
 
 #[test]
-fn grids_are_put_whole(rt: HostRuntime) -> Result<(), Fail> {
+fn a_part_is_replaced(rt: HostRuntime) -> Result<(), Fail> {
     let alloc = rt.alloc();
     let mut scene = Scene::empty(alloc)?;
+    let first = receiver(alloc, b"a", 1)?;
+    assert_eq!(rt; put(&mut scene, alloc, first), EditOutcome::New);
+    let second = receiver(alloc, b"a", 3)?;
+    assert_eq!(rt; put(&mut scene, alloc, second), EditOutcome::Replaced);
+    let [a] = scene.receivers() else {
+        return Err("not one receiver".into());
+    };
+    assert_eq!(rt; a.at.x, 3);
+    Ok(())
+}
+
+#[test]
+fn a_name_keeps_its_class(rt: HostRuntime) -> Result<(), Fail> {
+    let alloc = rt.alloc();
+    let mut scene = Scene::empty(alloc)?;
+    let first = barrier(alloc)?;
+    assert_eq!(rt; put(&mut scene, alloc, first), EditOutcome::New);
+    let second = building(alloc)?;
     assert_eq!(rt;
-        put(&mut scene, alloc, receiver(alloc, b"a", 1)?),
-        EditOutcome::New
+        put(&mut scene, alloc, second),
+        EditOutcome::Other(Class::Barrier)
     );
+    assert_eq!(rt; scene.obstacles().len(), 1);
+    Ok(())
+}
+
+#[test]
+fn a_large_grid_is_refused(rt: HostRuntime) -> Result<(), Fail> {
+    let alloc = rt.alloc();
+    let mut scene = Scene::empty(alloc)?;
+    let large = grid(alloc, 4096, 4096)?;
     assert_eq!(rt;
-        put(&mut scene, alloc, grid(alloc, 4096, 4096)?),
+        put(&mut scene, alloc, large),
         EditOutcome::Full(Class::Receiver, 4096)
     );
+    Ok(())
+}
+
+#[test]
+fn a_grid_has_room_beside_receivers(rt: HostRuntime) -> Result<(), Fail> {
+    let alloc = rt.alloc();
+    let mut scene = Scene::empty(alloc)?;
+    let first = receiver(alloc, b"a", 1)?;
+    assert_eq!(rt; put(&mut scene, alloc, first), EditOutcome::New);
+    let full = grid(alloc, 64, 64)?;
     assert_eq!(rt;
-        put(&mut scene, alloc, grid(alloc, 64, 64)?),
+        put(&mut scene, alloc, full),
         EditOutcome::Full(Class::Receiver, 4096)
     );
     assert_eq!(rt; scene.receivers().len(), 1);
-    assert_eq!(rt;
-        put(&mut scene, alloc, grid(alloc, 2, 2)?),
-        EditOutcome::New
-    );
-    let [a, first, second, ..] = scene.receivers() else {
-        return Err("too few receivers".into());
+    Ok(())
+}
+
+#[test]
+fn a_grid_names_its_receivers(rt: HostRuntime) -> Result<(), Fail> {
+    let alloc = rt.alloc();
+    let mut scene = Scene::empty(alloc)?;
+    let small = grid(alloc, 2, 2)?;
+    assert_eq!(rt; put(&mut scene, alloc, small), EditOutcome::New);
+    let [first, second, _, _] = scene.receivers() else {
+        return Err("not four receivers".into());
     };
-    assert_eq!(rt; a.at.x, 1);
     assert_eq!(rt; first.name.items(), b"g/0/0".as_slice());
     assert_eq!(rt; second.name.items(), b"g/1/0".as_slice());
     Ok(())
 }
 
 #[test]
-fn parts_are_removed(rt: HostRuntime) -> Result<(), Fail> {
+fn a_part_is_removed(rt: HostRuntime) -> Result<(), Fail> {
     let alloc = rt.alloc();
     let mut scene = Scene::empty(alloc)?;
-    assert_eq!(rt;
-        put(&mut scene, alloc, receiver(alloc, b"a", 1)?),
-        EditOutcome::New
-    );
-    assert_eq!(rt;
-        put(&mut scene, alloc, grid(alloc, 2, 2)?),
-        EditOutcome::New
-    );
+    let first = receiver(alloc, b"a", 1)?;
+    assert_eq!(rt; put(&mut scene, alloc, first), EditOutcome::New);
     let gone = Name::from_vec(b"a".to_vec(alloc)?);
     assert_eq!(rt;
         applied(&mut scene, alloc, Edit::Remove(gone)),
         EditOutcome::Replaced
     );
+    assert_eq!(rt; scene.receivers().len(), 0);
+    Ok(())
+}
+
+#[test]
+fn an_unknown_name_is_not_removed(rt: HostRuntime) -> Result<(), Fail> {
+    let alloc = rt.alloc();
+    let mut scene = Scene::empty(alloc)?;
     let unknown = Name::from_vec(b"g".to_vec(alloc)?);
     assert_eq!(rt;
         applied(&mut scene, alloc, Edit::Remove(unknown)),
         EditOutcome::NoName
     );
-    assert_eq!(rt; scene.receivers().len(), 4);
     Ok(())
 }
 
 #[test]
-fn copies_and_settings(rt: HostRuntime) -> Result<(), Fail> {
+fn settings_stay_in_copies(rt: HostRuntime) -> Result<(), Fail> {
+    let alloc = rt.alloc();
+    let mut scene = Scene::empty(alloc)?;
+    let setting = RawPart::Set {
+        reach: None,
+        g: Some(50),
+        air: None,
+        c0: Some(1000),
+    };
+    assert_eq!(rt; put(&mut scene, alloc, setting), EditOutcome::New);
+    let copy = scene.copy(alloc)?;
+    assert_eq!(rt;
+        (copy.globals().reach, copy.globals().g, copy.globals().c0),
+        (4_000_000, 50, 1000)
+    );
+    Ok(())
+}
+
+#[test]
+fn copies_keep_what_is_removed(rt: HostRuntime) -> Result<(), Fail> {
     let alloc = rt.alloc();
     let mut scene = Scene::empty(alloc)?;
     let zone = RawPart::Zone {
@@ -184,18 +228,7 @@ fn copies_and_settings(rt: HostRuntime) -> Result<(), Fail> {
         points: corners(alloc)?,
         g: 100,
     };
-    let setting = RawPart::Set {
-        reach: None,
-        g: Some(50),
-        air: None,
-        c0: Some(1000),
-    };
     assert_eq!(rt; put(&mut scene, alloc, zone), EditOutcome::New);
-    assert_eq!(rt;
-        put(&mut scene, alloc, receiver(alloc, b"a", 7)?),
-        EditOutcome::New
-    );
-    assert_eq!(rt; put(&mut scene, alloc, setting), EditOutcome::New);
     let copy = scene.copy(alloc)?;
     let gone = Name::from_vec(b"z".to_vec(alloc)?);
     assert_eq!(rt;
@@ -203,14 +236,9 @@ fn copies_and_settings(rt: HostRuntime) -> Result<(), Fail> {
         EditOutcome::Replaced
     );
     assert_eq!(rt; scene.zones().len(), 0);
-    let ([zone], [receiver]) = (copy.zones(), copy.receivers()) else {
-        return Err("not the parts of the scene".into());
+    let [zone] = copy.zones() else {
+        return Err("not one zone".into());
     };
     assert_eq!(rt; zone.g, 100);
-    assert_eq!(rt; receiver.at.x, 7);
-    assert_eq!(rt;
-        (copy.globals().reach, copy.globals().g, copy.globals().c0),
-        (4_000_000, 50, 1000)
-    );
     Ok(())
 }
