@@ -20,7 +20,8 @@ pub fn power_is_enclosed()
 /// stand on the right sides of the powers of two fractions next to e. So in a formula the node of the decay is
 /// enclosed where its part is.
 pub fn decay_is_enclosed()
-    ensures ends { (i : Interval) → IsInterval i → IsSomeAnd i.lo (λ x. pos 0 ≤ℤ x) → HoldsDecay i (exp_neg_of i) }
+    ensures ends { (i : Interval) → IsInterval i → IsSomeAnd i.lo (λ x. pos 0 ≤ℤ x)
+        → HoldsDecay i (exp_neg_of i) }
     ensures lawful { IsLawful ExpNeg exp_neg_of }
 {}
 

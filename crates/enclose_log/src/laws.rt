@@ -12,7 +12,8 @@ ghost use Rattle.fix_interval.specs.Tree.{Lg};
 /// ends, raised to 2^32, stand on the right sides of those of the argument. So in a formula the node of the
 /// logarithm is enclosed where its part is.
 pub fn logarithm_is_enclosed()
-    ensures ends { (i : Interval) → IsInterval i → IsSomeAnd i.lo (λ x. pos 1 ≤ℤ x) → HoldsLogarithm i (lg_of i) }
+    ensures ends { (i : Interval) → IsInterval i → IsSomeAnd i.lo (λ x. pos 1 ≤ℤ x)
+        → HoldsLogarithm i (lg_of i) }
     ensures lawful { IsLawful Lg lg_of }
 {}
 

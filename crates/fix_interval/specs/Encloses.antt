@@ -22,6 +22,9 @@ pub data Encloses : Tree → Interval → Type 0 where
   ten_power : {a : Tree} {i k : Interval} → Encloses a i → HoldsTenPower i k → Encloses (Ten a) k
   decay : {a : Tree} {i k : Interval} → Encloses a i → HoldsDecay i k → Encloses (ExpNeg a) k
   -- a choice by x > y takes a where y is surely less than x, b where it never is, and else k encloses both
-  pick_first : {x y a b : Tree} {i j k : Interval} → Encloses x i → Encloses y j → less_of j i ≡ Sure → Encloses a k → Encloses (Pick x y a b) k
-  pick_second : {x y a b : Tree} {i j k : Interval} → Encloses x i → Encloses y j → less_of j i ≡ Never → Encloses b k → Encloses (Pick x y a b) k
-  pick_both : {x y a b : Tree} {i j k : Interval} → Encloses x i → Encloses y j → less_of j i ≡ Unsure → Encloses a k → Encloses b k → Encloses (Pick x y a b) k
+  pick_first : {x y a b : Tree} {i j k : Interval} → Encloses x i → Encloses y j → less_of j i ≡ Sure
+      → Encloses a k → Encloses (Pick x y a b) k
+  pick_second : {x y a b : Tree} {i j k : Interval} → Encloses x i → Encloses y j → less_of j i ≡ Never
+      → Encloses b k → Encloses (Pick x y a b) k
+  pick_both : {x y a b : Tree} {i j k : Interval} → Encloses x i → Encloses y j → less_of j i ≡ Unsure
+      → Encloses a k → Encloses b k → Encloses (Pick x y a b) k

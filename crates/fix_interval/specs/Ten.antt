@@ -37,7 +37,8 @@ ten_low n =
 unfoldable pub ten_high : ℤ → Option ℤ
 ten_high n =
     if int_le (pos (20 * unit)) n then None
-    else (if int_lt n (neg_ℤ (pos (19 * unit))) then Some (pos 1) else Some (pos (raised_high (unsigned_abs (n +ℤ pos (20 * unit))))))
+    else (if int_lt n (neg_ℤ (pos (19 * unit))) then Some (pos 1)
+    else Some (pos (raised_high (unsigned_abs (n +ℤ pos (20 * unit))))))
 
 -- ten to the power of an interval, end by end; no power is below 0
 unfoldable pub ten_of : Interval → Interval

@@ -129,8 +129,10 @@ quotient_of_ends al ah bl bh =
     then All
     else (let low = al *ℤ pos unit in let high = ah *ℤ pos unit in
     record {
-      lo = Some (least_of (floor_quotient low bl) (floor_quotient low bh) (floor_quotient high bl) (floor_quotient high bh));
-      hi = Some (greatest_of (ceil_quotient low bl) (ceil_quotient low bh) (ceil_quotient high bl) (ceil_quotient high bh));
+      lo = Some (least_of (floor_quotient low bl) (floor_quotient low bh)
+          (floor_quotient high bl) (floor_quotient high bh));
+      hi = Some (greatest_of (ceil_quotient low bl) (ceil_quotient low bh)
+          (ceil_quotient high bl) (ceil_quotient high bh));
     })
 
 unfoldable pub div_of : Interval → Interval → Interval

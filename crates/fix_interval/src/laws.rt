@@ -18,14 +18,20 @@ ghost use Rattle.fix_interval.specs.declared.truth.Truth.{Truth};
 pub fn table_encloses()
     ensures known { (i : Interval) → Encloses (Known i) i }
     ensures constant { (p : ℤ) (q : ℕ) → 0 < q → Encloses (Const p q) (ratio_of p q) }
-    ensures sum { (a b : Tree) (i j : Interval) → Encloses a i → Encloses b j → Encloses (Add a b) (add_of i j) }
+    ensures sum { (a b : Tree) (i j : Interval) → Encloses a i → Encloses b j
+        → Encloses (Add a b) (add_of i j) }
     ensures negation { (a : Tree) (i : Interval) → Encloses a i → Encloses (Neg a) (neg_of i) }
-    ensures product { (a b : Tree) (i j : Interval) → Encloses a i → Encloses b j → Encloses (Mul a b) (mul_of i j) }
-    ensures quotient { (a b : Tree) (i j : Interval) → IsInterval j → Encloses a i → Encloses b j → Encloses (Div a b) (div_of i j) }
-    ensures greater { (a b : Tree) (i j : Interval) → Encloses a i → Encloses b j → Encloses (Max a b) (max_of i j) }
-    ensures lesser { (a b : Tree) (i j : Interval) → Encloses a i → Encloses b j → Encloses (Min a b) (min_of i j) }
+    ensures product { (a b : Tree) (i j : Interval) → Encloses a i → Encloses b j
+        → Encloses (Mul a b) (mul_of i j) }
+    ensures quotient { (a b : Tree) (i j : Interval) → IsInterval j → Encloses a i → Encloses b j
+        → Encloses (Div a b) (div_of i j) }
+    ensures greater { (a b : Tree) (i j : Interval) → Encloses a i → Encloses b j
+        → Encloses (Max a b) (max_of i j) }
+    ensures lesser { (a b : Tree) (i j : Interval) → Encloses a i → Encloses b j
+        → Encloses (Min a b) (min_of i j) }
     ensures square_root { (a : Tree) (i : Interval) → Encloses a i → Encloses (Root a) (root_of i) }
-    ensures choice { (x y a b : Tree) (i j k l : Interval) → Encloses x i → Encloses y j → Encloses a k → Encloses b l
+    ensures choice { (x y a b : Tree) (i j k l : Interval) → Encloses x i → Encloses y j
+        → Encloses a k → Encloses b l
         → Encloses (Pick x y a b) (pick_of (less_of j i) k l) }
 {}
 
@@ -54,8 +60,10 @@ pub fn table_gives_intervals()
 /// Where the values of the logarithm and of the two powers are lawful, the interval of every sound formula
 /// is one, and encloses the formula.
 pub fn formulas_are_enclosed()
-    ensures intervals { IsLawful Lg lg_of → IsLawful Ten ten_of → IsLawful ExpNeg exp_neg_of → (t : Tree) → IsSound t → IsInterval (enc t) }
-    ensures enclosed { IsLawful Lg lg_of → IsLawful Ten ten_of → IsLawful ExpNeg exp_neg_of → (t : Tree) → IsSound t → Encloses t (enc t) }
+    ensures intervals { IsLawful Lg lg_of → IsLawful Ten ten_of → IsLawful ExpNeg exp_neg_of
+        → (t : Tree) → IsSound t → IsInterval (enc t) }
+    ensures enclosed { IsLawful Lg lg_of → IsLawful Ten ten_of → IsLawful ExpNeg exp_neg_of
+        → (t : Tree) → IsSound t → Encloses t (enc t) }
 {}
 
 /// Where the parts of a formula lie in ranges, the formula lies in the range that these give for it; and so between two

@@ -97,7 +97,8 @@ fn quotient_by_positive(a: Span, b: Span) -> Iv
 fn least_quotient(a: Span, by: Span) -> Option<i128>
     requires positive { pos 0 <ℤ by.lo }
     requires small { unsigned_abs a.lo < 2 ^ 94 }
-    ensures { result ≡ Some (int_min (floor_quotient (a.lo *ℤ pos unit) by.lo) (floor_quotient (a.lo *ℤ pos unit) by.hi)) }
+    ensures { result ≡ Some (int_min (floor_quotient (a.lo *ℤ pos unit) by.lo)
+        (floor_quotient (a.lo *ℤ pos unit) by.hi)) }
 {
     if 0 <= a.lo {
         fraction(a.lo, by.hi.unsigned_abs()).low()
@@ -112,7 +113,8 @@ fn least_quotient(a: Span, by: Span) -> Option<i128>
 fn greatest_quotient(a: Span, by: Span) -> Option<i128>
     requires positive { pos 0 <ℤ by.lo }
     requires small { unsigned_abs a.hi < 2 ^ 94 }
-    ensures { result ≡ Some (int_max (ceil_quotient (a.hi *ℤ pos unit) by.lo) (ceil_quotient (a.hi *ℤ pos unit) by.hi)) }
+    ensures { result ≡ Some (int_max (ceil_quotient (a.hi *ℤ pos unit) by.lo)
+        (ceil_quotient (a.hi *ℤ pos unit) by.hi)) }
 {
     if 0 <= a.hi {
         fraction(a.hi, by.lo.unsigned_abs()).high()

@@ -19,4 +19,5 @@ exceeds_wavelength extent square band = nat_lt (sound_speed ^ 2 * square) ((freq
 
 -- Where source and receiver share their place in plan, nothing is in a band
 abbrev pub is_in_band : Obstacle → Pt → Pt → Band → Bool
-is_in_band o s r = exceeds_wavelength (unsigned_abs (extent_of o.points s r)) (squared_length (record { from = s; to = r }))
+is_in_band o s r =
+    exceeds_wavelength (unsigned_abs (extent_of o.points s r)) (squared_length (record { from = s; to = r }))

@@ -139,6 +139,7 @@ fn is_short_side(side: Side) -> bool
     squared(side) <= LONGEST_SIDE * LONGEST_SIDE
 }
 
+/// The squared length of a side, in mm².
 pub fn squared(side: Side) -> u64
     ensures value { result ≡ squared_length side }
     ensures within { result ≤ 128000000000000 }
