@@ -18,7 +18,7 @@ use Rattle.scene_book.specs.Lists.{named, put_in, take_out, put_all}
 use Rattle.scene_book.specs.Book.{Book}
 use Rattle.scene_book.specs.Grid.{receivers_of}
 use Rattle.scene_book.specs.Applying.{apply_of, at_most, all_own, own_class, name_of, class_of, holder, in_limits, put_of, put_where_room, remove_of, grid_of, taken, with_part, replaced, with_receivers}
-use Rattle.scene_book.specs.Laws.{Edited, FlatMapStays, FilterStays, AnyStays, PutsInTurn, no_pieces, pieces_of, pieces_of_any, ListsEdited, Changes, AcceptedChanges}
+use Rattle.scene_book.specs.Laws.{Edited, FlatMapStays, FilterStays, AnyStays, PutsInTurn, Pieces, no_pieces, pieces_of, pieces_of_any, ListsEdited, Changes, AcceptedChanges}
 
 module _ {A : Type 0} where
   -- an edit behind a thing that stays
@@ -64,42 +64,31 @@ module _ {A : Type 0} where
     puts-in_turn (new ∷ news) xs =
         (put_in name_of new xs, put-edited new xs, puts-in_turn news (put_in name_of new xs))
 
+module _ {A B : Type 0} (of : List A → B) (join : B → B → B) (none : B)
+    (appends : (xs ys : List A) → of (xs ++ ys) ≡ join (of xs) (of ys)) (nothing : (x : B) → join none x ≡ x) where
   -- what is made of a list with a piece of which nothing is made
-  flat-around : {B : Type 0} (f : A → List B) (before piece after : List A) → flat_map f piece ≡ []
-      → flat_map f (before ++ (piece ++ after)) ≡ flat_map f before ++ flat_map f after
-  flat-around f before piece after none =
-      rw (flat_map-append f before (piece ++ after), flat_map-append f piece after, none) refl
+  around : (before piece after : List A) → of piece ≡ none
+      → of (before ++ (piece ++ after)) ≡ join (of before) (of after)
+  around before piece after gone =
+      appends before (piece ++ after)
+      ∙ ap (join (of before)) (appends piece after ∙ ap (λ x. join x (of after)) gone ∙ nothing (of after))
 
-  filter-around : (test : A → Bool) (before piece after : List A) → filter test piece ≡ []
-      → filter test (before ++ (piece ++ after)) ≡ filter test before ++ filter test after
-  filter-around test before piece after none =
-      rw (filter-append test before (piece ++ after), filter-append test piece after, none) refl
-
-  any-around : (test : A → Bool) (before piece after : List A) → list_any test piece ≡ false
-      → list_any test (before ++ (piece ++ after)) ≡ (list_any test before || list_any test after)
-  any-around test before piece after none =
-      rw (list_any-append test before (piece ++ after), list_any-append test piece after, none) refl
+  -- where nothing is made of either piece, the same is made of both lists
+  stays : (old new xs ys : List A) → Edited old new xs ys → of old ≡ none → of new ≡ none → of xs ≡ of ys
+  stays old new xs ys e no_old no_new =
+      ap of e.was
+      ∙ around e.before old e.after no_old
+      ∙ sym (around e.before new e.after no_new)
+      ∙ sym (ap of e.is)
 
 pub flat-stays : {A B : Type 0} → FlatMapStays A B
-flat-stays f old new xs ys e no_old no_new =
-    ap (flat_map f) e.was
-    ∙ flat-around f e.before old e.after no_old
-    ∙ sym (flat-around f e.before new e.after no_new)
-    ∙ sym (ap (flat_map f) e.is)
+flat-stays f = stays (flat_map f) (λ x y. x ++ y) [] (flat_map-append f) (λ x. refl)
 
 pub filter-stays : {A : Type 0} → FilterStays A
-filter-stays test old new xs ys e no_old no_new =
-    ap (filter test) e.was
-    ∙ filter-around test e.before old e.after no_old
-    ∙ sym (filter-around test e.before new e.after no_new)
-    ∙ sym (ap (filter test) e.is)
+filter-stays test = stays (filter test) (λ x y. x ++ y) [] (filter-append test) (λ x. refl)
 
 pub any-stays : {A : Type 0} → AnyStays A
-any-stays test old new xs ys e no_old no_new =
-    ap (list_any test) e.was
-    ∙ any-around test e.before old e.after no_old
-    ∙ sym (any-around test e.before new e.after no_new)
-    ∙ sym (ap (list_any test) e.is)
+any-stays test = stays (list_any test) (λ x y. x || y) false (list_any-append test) (λ x. refl)
 
 -- what an accepted edit leaves is what its last step says
 abbrev accepted : Book × Option Part → Result (Book × Option Part) EditFault
@@ -132,87 +121,95 @@ own_zone z = z.name
 abbrev own_receiver : Receiver → List ℕ
 own_receiver r = r.name
 
-put-source : (s : Source) (a : Book) (found : Option Source) → named (λ s. s.name) s.name a.sources ≡ found
-    → ListsEdited (pieces_of_any (option_map parts.Source found)) (pieces_of (parts.Source s)) a (with_part (parts.Source s) a)
-put-source s a (Some old) e = record {
-  sources = subst (λ found. Edited (option_to_list found) (s ∷ []) a.sources (put_in own_source s a.sources)) e
-      (put-edited own_source s a.sources);
-  obstacles = same a.obstacles;
-  zones = same a.zones;
-  receivers = same a.receivers;
-  globals = refl;
-}
-put-source s a None e = record {
-  sources = subst (λ found. Edited (option_to_list found) (s ∷ []) a.sources (put_in own_source s a.sources)) e
-      (put-edited own_source s a.sources);
+-- an edit of one list of a scene
+in-sources : (a : Book) (old new after : List Source) → Edited old new a.sources after
+    → ListsEdited (record no_pieces { sources = old }) (record no_pieces { sources = new }) a (record a { sources = after })
+in-sources a old new after e = record {
+  sources = e;
   obstacles = same a.obstacles;
   zones = same a.zones;
   receivers = same a.receivers;
   globals = refl;
 }
 
-put-obstacle : (o : Obstacle) (a : Book) (found : Option Obstacle) → named (λ o. o.name) o.name a.obstacles ≡ found
-    → ListsEdited (pieces_of_any (option_map parts.Obstacle found)) (pieces_of (parts.Obstacle o)) a (with_part (parts.Obstacle o) a)
-put-obstacle o a (Some old) e = record {
+in-obstacles : (a : Book) (old new after : List Obstacle) → Edited old new a.obstacles after
+    → ListsEdited (record no_pieces { obstacles = old }) (record no_pieces { obstacles = new }) a (record a { obstacles = after })
+in-obstacles a old new after e = record {
   sources = same a.sources;
-  obstacles = subst (λ found. Edited (option_to_list found) (o ∷ []) a.obstacles (put_in own_obstacle o a.obstacles)) e
-      (put-edited own_obstacle o a.obstacles);
-  zones = same a.zones;
-  receivers = same a.receivers;
-  globals = refl;
-}
-put-obstacle o a None e = record {
-  sources = same a.sources;
-  obstacles = subst (λ found. Edited (option_to_list found) (o ∷ []) a.obstacles (put_in own_obstacle o a.obstacles)) e
-      (put-edited own_obstacle o a.obstacles);
+  obstacles = e;
   zones = same a.zones;
   receivers = same a.receivers;
   globals = refl;
 }
 
-put-zone : (z : Zone) (a : Book) (found : Option Zone) → named (λ z. z.name) z.name a.zones ≡ found
-    → ListsEdited (pieces_of_any (option_map parts.Zone found)) (pieces_of (parts.Zone z)) a (with_part (parts.Zone z) a)
-put-zone z a (Some old) e = record {
+in-zones : (a : Book) (old new after : List Zone) → Edited old new a.zones after
+    → ListsEdited (record no_pieces { zones = old }) (record no_pieces { zones = new }) a (record a { zones = after })
+in-zones a old new after e = record {
   sources = same a.sources;
   obstacles = same a.obstacles;
-  zones = subst (λ found. Edited (option_to_list found) (z ∷ []) a.zones (put_in own_zone z a.zones)) e
-      (put-edited own_zone z a.zones);
-  receivers = same a.receivers;
-  globals = refl;
-}
-put-zone z a None e = record {
-  sources = same a.sources;
-  obstacles = same a.obstacles;
-  zones = subst (λ found. Edited (option_to_list found) (z ∷ []) a.zones (put_in own_zone z a.zones)) e
-      (put-edited own_zone z a.zones);
+  zones = e;
   receivers = same a.receivers;
   globals = refl;
 }
 
-put-receiver : (r : Receiver) (a : Book) (found : Option Receiver) → named (λ r. r.name) r.name a.receivers ≡ found
-    → ListsEdited (pieces_of_any (option_map parts.Receiver found)) (pieces_of (parts.Receiver r)) a (with_part (parts.Receiver r) a)
-put-receiver r a (Some old) e = record {
+in-receivers : (a : Book) (old new after : List Receiver) → Edited old new a.receivers after
+    → ListsEdited (record no_pieces { receivers = old }) (record no_pieces { receivers = new }) a (record a { receivers = after })
+in-receivers a old new after e = record {
   sources = same a.sources;
   obstacles = same a.obstacles;
   zones = same a.zones;
-  receivers = subst (λ found. Edited (option_to_list found) (r ∷ []) a.receivers (put_in own_receiver r a.receivers)) e
-      (put-edited own_receiver r a.receivers);
+  receivers = e;
   globals = refl;
 }
-put-receiver r a None e = record {
-  sources = same a.sources;
-  obstacles = same a.obstacles;
-  zones = same a.zones;
-  receivers = subst (λ found. Edited (option_to_list found) (r ∷ []) a.receivers (put_in own_receiver r a.receivers)) e
-      (put-edited own_receiver r a.receivers);
-  globals = refl;
-}
+
+-- the piece of a part that may be there
+source-pieces : (found : Option Source)
+    → record no_pieces { sources = option_to_list found } ≡ pieces_of_any (option_map parts.Source found)
+source-pieces None = refl
+source-pieces (Some s) = refl
+
+obstacle-pieces : (found : Option Obstacle)
+    → record no_pieces { obstacles = option_to_list found } ≡ pieces_of_any (option_map parts.Obstacle found)
+obstacle-pieces None = refl
+obstacle-pieces (Some o) = refl
+
+zone-pieces : (found : Option Zone)
+    → record no_pieces { zones = option_to_list found } ≡ pieces_of_any (option_map parts.Zone found)
+zone-pieces None = refl
+zone-pieces (Some z) = refl
+
+receiver-pieces : (found : Option Receiver)
+    → record no_pieces { receivers = option_to_list found } ≡ pieces_of_any (option_map parts.Receiver found)
+receiver-pieces None = refl
+receiver-pieces (Some r) = refl
+
+-- an edit between these pieces, of which the first are known
+abbrev Between : Pieces → Book → Book → Pieces → Type 0
+Between new a b old = ListsEdited old new a b
 
 put-lists : (part : Part) (a : Book) → ListsEdited (pieces_of_any (replaced part a)) (pieces_of part) a (with_part part a)
-put-lists (parts.Source s) a = put-source s a (named (λ s. s.name) s.name a.sources) refl
-put-lists (parts.Obstacle o) a = put-obstacle o a (named (λ o. o.name) o.name a.obstacles) refl
-put-lists (parts.Zone z) a = put-zone z a (named (λ z. z.name) z.name a.zones) refl
-put-lists (parts.Receiver r) a = put-receiver r a (named (λ r. r.name) r.name a.receivers) refl
+put-lists (parts.Source s) a =
+    subst (Between (pieces_of (parts.Source s)) a (with_part (parts.Source s) a))
+    (source-pieces (named own_source s.name a.sources))
+    (in-sources a _ (s ∷ []) _ (put-edited own_source s a.sources))
+put-lists (parts.Obstacle o) a =
+    subst (Between (pieces_of (parts.Obstacle o)) a (with_part (parts.Obstacle o) a))
+    (obstacle-pieces (named own_obstacle o.name a.obstacles))
+    (in-obstacles a _ (o ∷ []) _ (put-edited own_obstacle o a.obstacles))
+put-lists (parts.Zone z) a =
+    subst (Between (pieces_of (parts.Zone z)) a (with_part (parts.Zone z) a))
+    (zone-pieces (named own_zone z.name a.zones))
+    (in-zones a _ (z ∷ []) _ (put-edited own_zone z a.zones))
+put-lists (parts.Receiver r) a =
+    subst (Between (pieces_of (parts.Receiver r)) a (with_part (parts.Receiver r) a))
+    (receiver-pieces (named own_receiver r.name a.receivers))
+    (in-receivers a _ (r ∷ []) _ (put-edited own_receiver r a.receivers))
+
+-- a removal whose old piece is that of the thing found
+taken-from : {A : Type 0} (name_of : A → List ℕ) (name : List ℕ) (xs : List A) (found : Option A)
+    → named name_of name xs ≡ found → Edited (option_to_list found) [] xs (take_out name_of name xs)
+taken-from name_of name xs found e =
+    subst (λ found. Edited (option_to_list found) [] xs (take_out name_of name xs)) e (take-edited name_of name xs)
 
 take-lists : (name : List ℕ) (a b : Book) (old : Option Part) (ms : Option Source) (mo : Option Obstacle) (mz : Option Zone)
     (mr : Option Receiver) → named (λ s. s.name) name a.sources ≡ ms → named (λ o. o.name) name a.obstacles ≡ mo
@@ -222,41 +219,17 @@ take-lists : (name : List ℕ) (a b : Book) (old : Option Part) (ms : Option Sou
     → ListsEdited (pieces_of_any (option_or (option_map parts.Source ms) (option_or (option_map parts.Obstacle mo)
     (option_or (option_map parts.Zone mz) (option_map parts.Receiver mr))))) no_pieces a b
 take-lists name a b old (Some s) mo mz mr es eo ez er h =
-    subst (ListsEdited (pieces_of (parts.Source s)) no_pieces a) (result-first _ (b, old) h) (record {
-      sources = subst (λ found. Edited (option_to_list found) [] a.sources (take_out own_source name a.sources)) es
-          (take-edited own_source name a.sources);
-      obstacles = same a.obstacles;
-      zones = same a.zones;
-      receivers = same a.receivers;
-      globals = refl;
-    })
+    subst (ListsEdited (pieces_of (parts.Source s)) no_pieces a) (result-first _ (b, old) h)
+    (in-sources a (s ∷ []) [] _ (taken-from own_source name a.sources (Some s) es))
 take-lists name a b old None (Some o) mz mr es eo ez er h =
-    subst (ListsEdited (pieces_of (parts.Obstacle o)) no_pieces a) (result-first _ (b, old) h) (record {
-      sources = same a.sources;
-      obstacles = subst (λ found. Edited (option_to_list found) [] a.obstacles (take_out own_obstacle name a.obstacles)) eo
-          (take-edited own_obstacle name a.obstacles);
-      zones = same a.zones;
-      receivers = same a.receivers;
-      globals = refl;
-    })
+    subst (ListsEdited (pieces_of (parts.Obstacle o)) no_pieces a) (result-first _ (b, old) h)
+    (in-obstacles a (o ∷ []) [] _ (taken-from own_obstacle name a.obstacles (Some o) eo))
 take-lists name a b old None None (Some z) mr es eo ez er h =
-    subst (ListsEdited (pieces_of (parts.Zone z)) no_pieces a) (result-first _ (b, old) h) (record {
-      sources = same a.sources;
-      obstacles = same a.obstacles;
-      zones = subst (λ found. Edited (option_to_list found) [] a.zones (take_out own_zone name a.zones)) ez
-          (take-edited own_zone name a.zones);
-      receivers = same a.receivers;
-      globals = refl;
-    })
+    subst (ListsEdited (pieces_of (parts.Zone z)) no_pieces a) (result-first _ (b, old) h)
+    (in-zones a (z ∷ []) [] _ (taken-from own_zone name a.zones (Some z) ez))
 take-lists name a b old None None None (Some r) es eo ez er h =
-    subst (ListsEdited (pieces_of (parts.Receiver r)) no_pieces a) (result-first _ (b, old) h) (record {
-      sources = same a.sources;
-      obstacles = same a.obstacles;
-      zones = same a.zones;
-      receivers = subst (λ found. Edited (option_to_list found) [] a.receivers (take_out own_receiver name a.receivers)) er
-          (take-edited own_receiver name a.receivers);
-      globals = refl;
-    })
+    subst (ListsEdited (pieces_of (parts.Receiver r)) no_pieces a) (result-first _ (b, old) h)
+    (in-receivers a (r ∷ []) [] _ (taken-from own_receiver name a.receivers (Some r) er))
 take-lists name a b old None None None None es eo ez er h = cc
 
 grid-changes : (grid : Grid) (a b : Book) (old : Option Part) → grid_of grid a ≡ Ok (b, old) → Changes (edits.Grid grid) a b

@@ -45,8 +45,9 @@ fn name(alloc: Global, text: &[u8]) -> Result<PlainName, AllocError>
 fn receiver(alloc: Global, text: &[u8], x: i64) -> Result<RawPart, AllocError>
     requires { IsName text.now }
 {
+    let name = name(alloc, text)?;
     Ok(RawPart::Receiver {
-        name: name(alloc, text)?,
+        name,
         x,
         y: 0,
         h: 4000,
@@ -62,8 +63,9 @@ fn corners(alloc: Global) -> Result<RawPoints, AllocError> {
 }
 
 fn grid(alloc: Global, columns: i64, rows: i64) -> Result<RawPart, AllocError> {
+    let name = name(alloc, b"g")?;
     Ok(RawPart::Grid {
-        name: name(alloc, b"g")?,
+        name,
         x: 0,
         y: 0,
         step: 1,
@@ -74,9 +76,11 @@ fn grid(alloc: Global, columns: i64, rows: i64) -> Result<RawPart, AllocError> {
 }
 
 fn barrier(alloc: Global) -> Result<RawPart, AllocError> {
+    let name = name(alloc, b"w")?;
+    let points = corners(alloc)?;
     Ok(RawPart::Barrier {
-        name: name(alloc, b"w")?,
-        points: corners(alloc)?,
+        name,
+        points,
         h: 1,
         density: 10,
         rho: 0,
@@ -84,12 +88,40 @@ fn barrier(alloc: Global) -> Result<RawPart, AllocError> {
 }
 
 fn building(alloc: Global) -> Result<RawPart, AllocError> {
+    let name = name(alloc, b"w")?;
+    let points = corners(alloc)?;
     Ok(RawPart::Building {
-        name: name(alloc, b"w")?,
-        points: corners(alloc)?,
+        name,
+        points,
         h: 1,
         rho: 0,
     })
+}
+
+fn zone(alloc: Global) -> Result<RawPart, AllocError> {
+    let name = name(alloc, b"z")?;
+    let points = corners(alloc)?;
+    Ok(RawPart::Zone {
+        name,
+        points,
+        g: 100,
+    })
+}
+
+fn setting() -> RawPart {
+    RawPart::Set {
+        reach: None,
+        g: Some(50),
+        air: None,
+        c0: Some(1000),
+    }
+}
+
+fn removed(scene: &mut Scene, alloc: Global, text: &[u8]) -> Result<EditOutcome, AllocError>
+    requires { IsName text.now }
+{
+    let gone = Name::from_vec(text.to_vec(alloc)?);
+    Ok(applied(scene, alloc, Edit::Remove(gone)))
 }
 
 #[test]
@@ -103,22 +135,24 @@ fn an_empty_scene_has_defaults(rt: HostRuntime) -> Result<(), Fail> {
 }
 
 #[test]
-fn a_part_is_replaced(rt: HostRuntime) -> Result<(), Fail> {
+fn a_part_is_replaced_in_its_place(rt: HostRuntime) -> Result<(), Fail> {
     let alloc = rt.alloc();
     let mut scene = Scene::empty(alloc)?;
     let first = receiver(alloc, b"a", 1)?;
     assert_eq!(rt; put(&mut scene, alloc, first), EditOutcome::New);
-    let second = receiver(alloc, b"a", 3)?;
-    assert_eq!(rt; put(&mut scene, alloc, second), EditOutcome::Replaced);
-    let [a] = scene.receivers() else {
-        return Err("not one receiver".into());
+    let second = receiver(alloc, b"b", 2)?;
+    assert_eq!(rt; put(&mut scene, alloc, second), EditOutcome::New);
+    let third = receiver(alloc, b"a", 3)?;
+    assert_eq!(rt; put(&mut scene, alloc, third), EditOutcome::Replaced);
+    let [a, b] = scene.receivers() else {
+        return Err("not two receivers".into());
     };
-    assert_eq!(rt; a.at.x, 3);
+    assert_eq!(rt; (a.at.x, b.at.x), (3, 2));
     Ok(())
 }
 
 #[test]
-fn a_name_keeps_its_class(rt: HostRuntime) -> Result<(), Fail> {
+fn a_building_may_not_bear_the_name_of_a_barrier(rt: HostRuntime) -> Result<(), Fail> {
     let alloc = rt.alloc();
     let mut scene = Scene::empty(alloc)?;
     let first = barrier(alloc)?;
@@ -129,6 +163,21 @@ fn a_name_keeps_its_class(rt: HostRuntime) -> Result<(), Fail> {
         EditOutcome::Other(Class::Barrier)
     );
     assert_eq!(rt; scene.obstacles().len(), 1);
+    Ok(())
+}
+
+#[test]
+fn a_receiver_may_not_bear_the_name_of_a_barrier(rt: HostRuntime) -> Result<(), Fail> {
+    let alloc = rt.alloc();
+    let mut scene = Scene::empty(alloc)?;
+    let first = barrier(alloc)?;
+    assert_eq!(rt; put(&mut scene, alloc, first), EditOutcome::New);
+    let second = receiver(alloc, b"w", 3)?;
+    assert_eq!(rt;
+        put(&mut scene, alloc, second),
+        EditOutcome::Other(Class::Barrier)
+    );
+    assert_eq!(rt; (scene.receivers().len(), scene.obstacles().len()), (0, 1));
     Ok(())
 }
 
@@ -174,29 +223,44 @@ fn a_grid_names_its_receivers(rt: HostRuntime) -> Result<(), Fail> {
 }
 
 #[test]
-fn a_part_is_removed(rt: HostRuntime) -> Result<(), Fail> {
+fn a_removal_leaves_the_others(rt: HostRuntime) -> Result<(), Fail> {
     let alloc = rt.alloc();
     let mut scene = Scene::empty(alloc)?;
     let first = receiver(alloc, b"a", 1)?;
     assert_eq!(rt; put(&mut scene, alloc, first), EditOutcome::New);
-    let gone = Name::from_vec(b"a".to_vec(alloc)?);
-    assert_eq!(rt;
-        applied(&mut scene, alloc, Edit::Remove(gone)),
-        EditOutcome::Replaced
-    );
-    assert_eq!(rt; scene.receivers().len(), 0);
+    let second = receiver(alloc, b"b", 2)?;
+    assert_eq!(rt; put(&mut scene, alloc, second), EditOutcome::New);
+    let outcome = removed(&mut scene, alloc, b"a")?;
+    assert_eq!(rt; outcome, EditOutcome::Replaced);
+    let [b] = scene.receivers() else {
+        return Err("not one receiver".into());
+    };
+    assert_eq!(rt; b.at.x, 2);
     Ok(())
 }
 
 #[test]
-fn an_unknown_name_is_not_removed(rt: HostRuntime) -> Result<(), Fail> {
+fn the_name_of_a_grid_is_not_removed(rt: HostRuntime) -> Result<(), Fail> {
     let alloc = rt.alloc();
     let mut scene = Scene::empty(alloc)?;
-    let unknown = Name::from_vec(b"g".to_vec(alloc)?);
-    assert_eq!(rt;
-        applied(&mut scene, alloc, Edit::Remove(unknown)),
-        EditOutcome::NoName
-    );
+    let small = grid(alloc, 2, 2)?;
+    assert_eq!(rt; put(&mut scene, alloc, small), EditOutcome::New);
+    let outcome = removed(&mut scene, alloc, b"g")?;
+    assert_eq!(rt; outcome, EditOutcome::NoName);
+    assert_eq!(rt; scene.receivers().len(), 4);
+    Ok(())
+}
+
+#[test]
+fn each_class_has_its_list(rt: HostRuntime) -> Result<(), Fail> {
+    let alloc = rt.alloc();
+    let mut scene = Scene::empty(alloc)?;
+    let wall = barrier(alloc)?;
+    assert_eq!(rt; put(&mut scene, alloc, wall), EditOutcome::New);
+    let ground = zone(alloc)?;
+    assert_eq!(rt; put(&mut scene, alloc, ground), EditOutcome::New);
+    assert_eq!(rt; (scene.obstacles().len(), scene.zones().len()), (1, 1));
+    assert_eq!(rt; scene.sources().len() + scene.receivers().len(), 0);
     Ok(())
 }
 
@@ -204,13 +268,7 @@ fn an_unknown_name_is_not_removed(rt: HostRuntime) -> Result<(), Fail> {
 fn settings_stay_in_copies(rt: HostRuntime) -> Result<(), Fail> {
     let alloc = rt.alloc();
     let mut scene = Scene::empty(alloc)?;
-    let setting = RawPart::Set {
-        reach: None,
-        g: Some(50),
-        air: None,
-        c0: Some(1000),
-    };
-    assert_eq!(rt; put(&mut scene, alloc, setting), EditOutcome::New);
+    assert_eq!(rt; put(&mut scene, alloc, setting()), EditOutcome::New);
     let copy = scene.copy(alloc)?;
     assert_eq!(rt;
         (copy.globals().reach, copy.globals().g, copy.globals().c0),
@@ -223,22 +281,29 @@ fn settings_stay_in_copies(rt: HostRuntime) -> Result<(), Fail> {
 fn copies_keep_what_is_removed(rt: HostRuntime) -> Result<(), Fail> {
     let alloc = rt.alloc();
     let mut scene = Scene::empty(alloc)?;
-    let zone = RawPart::Zone {
-        name: name(alloc, b"z")?,
-        points: corners(alloc)?,
-        g: 100,
-    };
-    assert_eq!(rt; put(&mut scene, alloc, zone), EditOutcome::New);
+    let ground = zone(alloc)?;
+    assert_eq!(rt; put(&mut scene, alloc, ground), EditOutcome::New);
     let copy = scene.copy(alloc)?;
-    let gone = Name::from_vec(b"z".to_vec(alloc)?);
-    assert_eq!(rt;
-        applied(&mut scene, alloc, Edit::Remove(gone)),
-        EditOutcome::Replaced
-    );
+    let outcome = removed(&mut scene, alloc, b"z")?;
+    assert_eq!(rt; outcome, EditOutcome::Replaced);
     assert_eq!(rt; scene.zones().len(), 0);
-    let [zone] = copy.zones() else {
+    let [kept] = copy.zones() else {
         return Err("not one zone".into());
     };
-    assert_eq!(rt; zone.g, 100);
+    assert_eq!(rt; kept.g, 100);
+    Ok(())
+}
+
+#[test]
+fn copies_have_the_receivers(rt: HostRuntime) -> Result<(), Fail> {
+    let alloc = rt.alloc();
+    let mut scene = Scene::empty(alloc)?;
+    let first = receiver(alloc, b"a", 7)?;
+    assert_eq!(rt; put(&mut scene, alloc, first), EditOutcome::New);
+    let copy = scene.copy(alloc)?;
+    let [a] = copy.receivers() else {
+        return Err("not one receiver".into());
+    };
+    assert_eq!(rt; a.at.x, 7);
     Ok(())
 }
