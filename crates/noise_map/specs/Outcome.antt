@@ -35,8 +35,7 @@ pub record CoversLimit (before after : Option (List ℕ)) (done : List (List ℕ
   pub all : whole_lines read ≡ done
 
 -- Nothing was read after the last of these lines: behind them was read at most what the read that brought its end
--- brought
--- beside it, or the input is at its end, and these are all its lines.
+-- brought beside it, or the input is at its end, and these are all its lines.
 abbrev pub ReadsNoFurther : List ℕ → Option (List ℕ) → List (List ℕ) → Type 0
 ReadsNoFurther read after done =
     ((beyond : List ℕ) × (read ≡ ended done ++ beyond) × (length beyond ≤ read_size))

@@ -6,6 +6,7 @@ use Rattle.noise_map.specs.declared.stopped.Stopped.{Stopped}
 use Rattle.noise_map.specs.declared.stopped.Stopped.TheVariants.{WriteFault, NoMemory}
 use Rattle.noise_map.specs.declared.answer.Answer.{Answer}
 use Rattle.noise_map.specs.declared.project.Project.{Project}
+use Rattle.noise_map.specs.declared.rows.Rows.{Rows}
 use Rattle.noise_map.specs.Run.{Effect, Course}
 
 -- the sink has taken a front of the text, where it tells
@@ -25,6 +26,11 @@ pub record CausedByWriteFault {X : Type 0} (result : Result X Stopped) (before a
   pub done : OnOk result (after ≡ before)
   pub memory : IsErrOf result NoMemory → after ≡ before
   pub fault : IsErrOf result WriteFault → Rose before after
+
+-- rows that go to the same sink, and show the same version and line
+abbrev pub IsOfSameLine : {K : Type 0} → Rows K → Rows K → Type 0
+IsOfSameLine old new =
+    (new.version ≡ old.version) × (new.number ≡ old.number) × (new.out.ghost_name ≡ old.out.ghost_name)
 
 -- a line was done, or was broken off while its rows were written; the answer says whether it was refused
 abbrev pub HasCourse : Result Bool Stopped → Course → Project → Option (List ℕ) → Option (List ℕ) → Type 0

@@ -1,6 +1,6 @@
 //! The rows of a line on their way to the sink.
 ghost use Rattle.std.specs.Prelude.{◌≡◌, flat_map, length};
-ghost use Rattle.noise_map.specs.Taking.{Takes, CausedByWriteFault};
+ghost use Rattle.noise_map.specs.Taking.{Takes, CausedByWriteFault, IsOfSameLine};
 ghost use Rattle.noise_map.specs.Rows.{refused_row, settle_row};
 ghost use Rattle.noise_map.specs.Run.{band_row, band_rows, level_rows, receiver_rows, settle_rows};
 
@@ -30,8 +30,7 @@ impl<'a, K: Sink> Rows<'a, K> {
         ensures taken { Takes result (K.taken self.old.out.now) (K.taken self.new.out.now)
             (row.now) }
         ensures cause { CausedByWriteFault result (K.faults self.old.out.now) (K.faults self.new.out.now) }
-        ensures same { (self.new.version ≡ self.old.version) × (self.new.number ≡ self.old.number)
-            × (self.new.out.ghost_name ≡ self.old.out.ghost_name) }
+        ensures same { IsOfSameLine self.old self.new }
     {
         put_all(self.out, row)?;
         Ok(())
@@ -42,8 +41,7 @@ impl<'a, K: Sink> Rows<'a, K> {
         ensures taken { Takes result (K.taken self.old.out.now) (K.taken self.new.out.now)
             (refused_row self.old.version self.old.number fault.now) }
         ensures cause { CausedByWriteFault result (K.faults self.old.out.now) (K.faults self.new.out.now) }
-        ensures same { (self.new.version ≡ self.old.version) × (self.new.number ≡ self.old.number)
-            × (self.new.out.ghost_name ≡ self.old.out.ghost_name) }
+        ensures same { IsOfSameLine self.old self.new }
     {
         let row = refused_text(self.alloc, self.version, self.number, fault)?;
         self.put(row.as_slice())
@@ -55,8 +53,7 @@ impl<'a, K: Sink> Rows<'a, K> {
         ensures taken { Takes result (K.taken self.old.out.now) (K.taken self.new.out.now)
             (settle_rows bands self.old.version scene.now) }
         ensures cause { CausedByWriteFault result (K.faults self.old.out.now) (K.faults self.new.out.now) }
-        ensures same { (self.new.version ≡ self.old.version) × (self.new.number ≡ self.old.number)
-            × (self.new.out.ghost_name ≡ self.old.out.ghost_name) }
+        ensures same { IsOfSameLine self.old self.new }
     {
         let prepared = PreparedScene::of(self.alloc, scene)?;
         self.head(scene)?;
@@ -67,8 +64,7 @@ impl<'a, K: Sink> Rows<'a, K> {
         ensures taken { Takes result (K.taken self.old.out.now) (K.taken self.new.out.now)
             (settle_row self.old.version (length scene.now.receivers)) }
         ensures cause { CausedByWriteFault result (K.faults self.old.out.now) (K.faults self.new.out.now) }
-        ensures same { (self.new.version ≡ self.old.version) × (self.new.number ≡ self.old.number)
-            × (self.new.out.ghost_name ≡ self.old.out.ghost_name) }
+        ensures same { IsOfSameLine self.old self.new }
     {
         let head = settle_text(self.alloc, self.version, scene.receivers().len())?;
         self.put(head.as_slice())
@@ -79,8 +75,7 @@ impl<'a, K: Sink> Rows<'a, K> {
             (flat_map (receiver_rows bands self.old.version prepared.now.scene.now)
             prepared.now.scene.now.receivers) }
         ensures cause { CausedByWriteFault result (K.faults self.old.out.now) (K.faults self.new.out.now) }
-        ensures same { (self.new.version ≡ self.old.version) × (self.new.number ≡ self.old.number)
-            × (self.new.out.ghost_name ≡ self.old.out.ghost_name) }
+        ensures same { IsOfSameLine self.old self.new }
     {
         for receiver in prepared.scene.receivers() {
             self.receiver(bands, prepared, receiver)?;
@@ -99,8 +94,7 @@ impl<'a, K: Sink> Rows<'a, K> {
         ensures taken { Takes result (K.taken self.old.out.now) (K.taken self.new.out.now)
             (receiver_rows bands self.old.version prepared.now.scene.now receiver.now) }
         ensures cause { CausedByWriteFault result (K.faults self.old.out.now) (K.faults self.new.out.now) }
-        ensures same { (self.new.version ≡ self.old.version) × (self.new.number ≡ self.old.number)
-            × (self.new.out.ghost_name ≡ self.old.out.ghost_name) }
+        ensures same { IsOfSameLine self.old self.new }
     {
         let levels = prepared.levels_at(self.alloc, receiver)?;
         self.levels(bands, receiver.name.items(), &levels)
@@ -111,8 +105,7 @@ impl<'a, K: Sink> Rows<'a, K> {
         ensures taken { Takes result (K.taken self.old.out.now) (K.taken self.new.out.now)
             (level_rows bands self.old.version name.now levels.now) }
         ensures cause { CausedByWriteFault result (K.faults self.old.out.now) (K.faults self.new.out.now) }
-        ensures same { (self.new.version ≡ self.old.version) × (self.new.number ≡ self.old.number)
-            × (self.new.out.ghost_name ≡ self.old.out.ghost_name) }
+        ensures same { IsOfSameLine self.old self.new }
     {
         let row = level_text(self.alloc, self.version, name, levels)?;
         self.put(row.as_slice())?;
@@ -123,8 +116,7 @@ impl<'a, K: Sink> Rows<'a, K> {
         ensures taken { Takes result (K.taken self.old.out.now) (K.taken self.new.out.now)
             (band_rows bands self.old.version name.now levels.now) }
         ensures cause { CausedByWriteFault result (K.faults self.old.out.now) (K.faults self.new.out.now) }
-        ensures same { (self.new.version ≡ self.old.version) × (self.new.number ≡ self.old.number)
-            × (self.new.out.ghost_name ≡ self.old.out.ghost_name) }
+        ensures same { IsOfSameLine self.old self.new }
     {
         if bands {
             let all = Band::all();
@@ -138,8 +130,7 @@ impl<'a, K: Sink> Rows<'a, K> {
         ensures taken { Takes result (K.taken self.old.out.now) (K.taken self.new.out.now)
             (flat_map (band_row self.old.version name.now levels.now) bands.now) }
         ensures cause { CausedByWriteFault result (K.faults self.old.out.now) (K.faults self.new.out.now) }
-        ensures same { (self.new.version ≡ self.old.version) × (self.new.number ≡ self.old.number)
-            × (self.new.out.ghost_name ≡ self.old.out.ghost_name) }
+        ensures same { IsOfSameLine self.old self.new }
     {
         for band in bands {
             let row = band_text(self.alloc, self.version, name, levels, *band)?;

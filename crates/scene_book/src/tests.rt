@@ -6,6 +6,28 @@ use scene_parts::{Class, Name, PlainName, RawPart, RawPoints, RawPt, check};
 use std::alloc::{AllocError, Global};
 use std::test::Fail;
 
+/// The names of parts.
+#[derive(Clone, Copy)]
+enum Called {
+    A,
+    B,
+    Grid,
+    Wall,
+    Ground,
+}
+
+/// An edit.
+#[derive(Clone, Copy)]
+enum Step {
+    Receiver(Called, i64),
+    Barrier,
+    Building,
+    Zone,
+    Grid(i64, i64),
+    Set,
+    Remove(Called),
+}
+
 /// What an edit answered.
 #[derive(Clone, Copy, Debug, PartialEq, Eq)]
 enum EditOutcome {
@@ -18,40 +40,71 @@ enum EditOutcome {
     NoPart,
 }
 
-fn applied(scene: &mut Scene, alloc: Global, edit: Edit) -> EditOutcome {
-    match scene.apply(alloc, &edit) {
-        Ok(None) => EditOutcome::New,
-        Ok(Some(_)) => EditOutcome::Replaced,
-        Err(EditFault::NoSuchName { .. }) => EditOutcome::NoName,
-        Err(EditFault::OtherClass { class, .. }) => EditOutcome::Other(class),
-        Err(EditFault::Full { class, limit }) => EditOutcome::Full(class, limit),
-        Err(EditFault::NoMemory) => EditOutcome::NoMemory,
+/// An edit, what it answers, and how many receivers, obstacles and zones there are then.
+type Row = (Step, EditOutcome, (usize, usize, usize));
+
+const ROWS: [Row; 13] = [
+    (Step::Receiver(Called::A, 1), EditOutcome::New, (1, 0, 0)),
+    (Step::Receiver(Called::B, 2), EditOutcome::New, (2, 0, 0)),
+    (
+        Step::Receiver(Called::A, 3),
+        EditOutcome::Replaced,
+        (2, 0, 0),
+    ),
+    (Step::Barrier, EditOutcome::New, (2, 1, 0)),
+    // One name for parts of two classes.
+    (
+        Step::Building,
+        EditOutcome::Other(Class::Barrier),
+        (2, 1, 0),
+    ),
+    (
+        Step::Receiver(Called::Wall, 3),
+        EditOutcome::Other(Class::Barrier),
+        (2, 1, 0),
+    ),
+    // Grids that are too large, alone and beside what is there.
+    (
+        Step::Grid(4096, 4096),
+        EditOutcome::Full(Class::Receiver, 4096),
+        (2, 1, 0),
+    ),
+    (
+        Step::Grid(64, 64),
+        EditOutcome::Full(Class::Receiver, 4096),
+        (2, 1, 0),
+    ),
+    (Step::Grid(2, 2), EditOutcome::New, (6, 1, 0)),
+    (Step::Zone, EditOutcome::New, (6, 1, 1)),
+    (Step::Set, EditOutcome::New, (6, 1, 1)),
+    (Step::Remove(Called::A), EditOutcome::Replaced, (5, 1, 1)),
+    // A grid's name is no part's.
+    (Step::Remove(Called::Grid), EditOutcome::NoName, (5, 1, 1)),
+];
+
+/// The receivers that these edits leave: name and x in mm.
+const RECEIVERS: [(&[u8], i32); 5] = [
+    (b"b", 2),
+    (b"g/0/0", 0),
+    (b"g/1/0", 1),
+    (b"g/0/1", 0),
+    (b"g/1/1", 1),
+];
+
+fn text(called: Called) -> &'static [u8]
+    ensures { IsName result.now }
+{
+    match called {
+        Called::A => b"a",
+        Called::B => b"b",
+        Called::Grid => b"g",
+        Called::Wall => b"w",
+        Called::Ground => b"z",
     }
 }
 
-fn put(scene: &mut Scene, alloc: Global, raw: RawPart) -> EditOutcome {
-    match check(alloc, raw) {
-        Ok(checked) => applied(scene, alloc, Edit::from(checked)),
-        Err(_) => EditOutcome::NoPart,
-    }
-}
-
-fn name(alloc: Global, text: &[u8]) -> Result<PlainName, AllocError>
-    requires { IsName text.now }
-{
-    Ok(PlainName::from_vec(text.to_vec(alloc)?))
-}
-
-fn receiver(alloc: Global, text: &[u8], x: i64) -> Result<RawPart, AllocError>
-    requires { IsName text.now }
-{
-    let name = name(alloc, text)?;
-    Ok(RawPart::Receiver {
-        name,
-        x,
-        y: 0,
-        h: 4000,
-    })
+fn name(alloc: Global, called: Called) -> Result<PlainName, AllocError> {
+    Ok(PlainName::from_vec(text(called).to_vec(alloc)?))
 }
 
 fn corners(alloc: Global) -> Result<RawPoints, AllocError> {
@@ -62,21 +115,18 @@ fn corners(alloc: Global) -> Result<RawPoints, AllocError> {
     Ok(RawPoints::from_vec(points))
 }
 
-fn grid(alloc: Global, columns: i64, rows: i64) -> Result<RawPart, AllocError> {
-    let name = name(alloc, b"g")?;
-    Ok(RawPart::Grid {
+fn receiver(alloc: Global, called: Called, x: i64) -> Result<RawPart, AllocError> {
+    let name = name(alloc, called)?;
+    Ok(RawPart::Receiver {
         name,
-        x: 0,
+        x,
         y: 0,
-        step: 1,
-        columns,
-        rows,
-        h: 1,
+        h: 4000,
     })
 }
 
 fn barrier(alloc: Global) -> Result<RawPart, AllocError> {
-    let name = name(alloc, b"w")?;
+    let name = name(alloc, Called::Wall)?;
     let points = corners(alloc)?;
     Ok(RawPart::Barrier {
         name,
@@ -88,7 +138,7 @@ fn barrier(alloc: Global) -> Result<RawPart, AllocError> {
 }
 
 fn building(alloc: Global) -> Result<RawPart, AllocError> {
-    let name = name(alloc, b"w")?;
+    let name = name(alloc, Called::Wall)?;
     let points = corners(alloc)?;
     Ok(RawPart::Building {
         name,
@@ -99,12 +149,25 @@ fn building(alloc: Global) -> Result<RawPart, AllocError> {
 }
 
 fn zone(alloc: Global) -> Result<RawPart, AllocError> {
-    let name = name(alloc, b"z")?;
+    let name = name(alloc, Called::Ground)?;
     let points = corners(alloc)?;
     Ok(RawPart::Zone {
         name,
         points,
         g: 100,
+    })
+}
+
+fn grid(alloc: Global, columns: i64, rows: i64) -> Result<RawPart, AllocError> {
+    let name = name(alloc, Called::Grid)?;
+    Ok(RawPart::Grid {
+        name,
+        x: 0,
+        y: 0,
+        step: 1,
+        columns,
+        rows,
+        h: 1,
     })
 }
 
@@ -117,11 +180,55 @@ fn setting() -> RawPart {
     }
 }
 
-fn removed(scene: &mut Scene, alloc: Global, text: &[u8]) -> Result<EditOutcome, AllocError>
-    requires { IsName text.now }
-{
-    let gone = Name::from_vec(text.to_vec(alloc)?);
-    Ok(applied(scene, alloc, Edit::Remove(gone)))
+fn applied(scene: &mut Scene, alloc: Global, edit: &Edit) -> EditOutcome {
+    match scene.apply(alloc, edit) {
+        Ok(None) => EditOutcome::New,
+        Ok(Some(_)) => EditOutcome::Replaced,
+        Err(EditFault::NoSuchName { .. }) => EditOutcome::NoName,
+        Err(EditFault::OtherClass { class, .. }) => EditOutcome::Other(class),
+        Err(EditFault::Full { class, limit }) => EditOutcome::Full(class, limit),
+        Err(EditFault::NoMemory) => EditOutcome::NoMemory,
+    }
+}
+
+fn put(scene: &mut Scene, alloc: Global, raw: RawPart) -> EditOutcome {
+    match check(alloc, raw) {
+        Ok(checked) => applied(scene, alloc, &Edit::from(checked)),
+        Err(_) => EditOutcome::NoPart,
+    }
+}
+
+fn remove(scene: &mut Scene, alloc: Global, called: Called) -> Result<EditOutcome, AllocError> {
+    let gone = Name::from_vec(text(called).to_vec(alloc)?);
+    Ok(applied(scene, alloc, &Edit::Remove(gone)))
+}
+
+/// The part that a step puts, if it puts one.
+fn part(alloc: Global, step: Step) -> Result<RawPart, AllocError> {
+    match step {
+        Step::Receiver(called, x) => receiver(alloc, called, x),
+        Step::Barrier => barrier(alloc),
+        Step::Building => building(alloc),
+        Step::Zone => zone(alloc),
+        Step::Grid(columns, rows) => grid(alloc, columns, rows),
+        Step::Set | Step::Remove(_) => Ok(setting()),
+    }
+}
+
+fn take(scene: &mut Scene, alloc: Global, step: Step) -> Result<EditOutcome, AllocError> {
+    match step {
+        Step::Remove(called) => remove(scene, alloc, called),
+        _ => Ok(put(scene, alloc, part(alloc, step)?)),
+    }
+}
+
+/// The scene after all edits of the rows.
+fn edited(alloc: Global) -> Result<Scene, AllocError> {
+    let mut scene = Scene::empty(alloc).map_err(|_| AllocError)?;
+    for (step, _, _) in ROWS {
+        take(&mut scene, alloc, step)?;
+    }
+    Ok(scene)
 }
 
 #[test]
@@ -135,175 +242,44 @@ fn an_empty_scene_has_defaults(rt: HostRuntime) -> Result<(), Fail> {
 }
 
 #[test]
-fn a_part_is_replaced_in_its_place(rt: HostRuntime) -> Result<(), Fail> {
+fn edits_answer_in_a_row(rt: HostRuntime) -> Result<(), Fail> {
     let alloc = rt.alloc();
     let mut scene = Scene::empty(alloc)?;
-    let first = receiver(alloc, b"a", 1)?;
-    assert_eq!(rt; put(&mut scene, alloc, first), EditOutcome::New);
-    let second = receiver(alloc, b"b", 2)?;
-    assert_eq!(rt; put(&mut scene, alloc, second), EditOutcome::New);
-    let third = receiver(alloc, b"a", 3)?;
-    assert_eq!(rt; put(&mut scene, alloc, third), EditOutcome::Replaced);
-    let [a, b] = scene.receivers() else {
-        return Err("not two receivers".into());
-    };
-    assert_eq!(rt; (a.at.x, b.at.x), (3, 2));
+    for (step, outcome, counts) in ROWS {
+        let answer = take(&mut scene, alloc, step)?;
+        let found = (
+            scene.receivers().len(),
+            scene.obstacles().len(),
+            scene.zones().len(),
+        );
+        assert_eq!(rt; (answer, found), (outcome, counts));
+    }
     Ok(())
 }
 
 #[test]
-fn a_building_may_not_bear_the_name_of_a_barrier(rt: HostRuntime) -> Result<(), Fail> {
-    let alloc = rt.alloc();
-    let mut scene = Scene::empty(alloc)?;
-    let first = barrier(alloc)?;
-    assert_eq!(rt; put(&mut scene, alloc, first), EditOutcome::New);
-    let second = building(alloc)?;
-    assert_eq!(rt;
-        put(&mut scene, alloc, second),
-        EditOutcome::Other(Class::Barrier)
-    );
-    assert_eq!(rt; scene.obstacles().len(), 1);
-    Ok(())
-}
-
-#[test]
-fn a_receiver_may_not_bear_the_name_of_a_barrier(rt: HostRuntime) -> Result<(), Fail> {
-    let alloc = rt.alloc();
-    let mut scene = Scene::empty(alloc)?;
-    let first = barrier(alloc)?;
-    assert_eq!(rt; put(&mut scene, alloc, first), EditOutcome::New);
-    let second = receiver(alloc, b"w", 3)?;
-    assert_eq!(rt;
-        put(&mut scene, alloc, second),
-        EditOutcome::Other(Class::Barrier)
-    );
-    assert_eq!(rt; (scene.receivers().len(), scene.obstacles().len()), (0, 1));
-    Ok(())
-}
-
-#[test]
-fn a_large_grid_is_refused(rt: HostRuntime) -> Result<(), Fail> {
-    let alloc = rt.alloc();
-    let mut scene = Scene::empty(alloc)?;
-    let large = grid(alloc, 4096, 4096)?;
-    assert_eq!(rt;
-        put(&mut scene, alloc, large),
-        EditOutcome::Full(Class::Receiver, 4096)
-    );
-    Ok(())
-}
-
-#[test]
-fn a_grid_has_room_beside_receivers(rt: HostRuntime) -> Result<(), Fail> {
-    let alloc = rt.alloc();
-    let mut scene = Scene::empty(alloc)?;
-    let first = receiver(alloc, b"a", 1)?;
-    assert_eq!(rt; put(&mut scene, alloc, first), EditOutcome::New);
-    let full = grid(alloc, 64, 64)?;
-    assert_eq!(rt;
-        put(&mut scene, alloc, full),
-        EditOutcome::Full(Class::Receiver, 4096)
-    );
-    assert_eq!(rt; scene.receivers().len(), 1);
-    Ok(())
-}
-
-#[test]
-fn a_grid_names_its_receivers(rt: HostRuntime) -> Result<(), Fail> {
-    let alloc = rt.alloc();
-    let mut scene = Scene::empty(alloc)?;
-    let small = grid(alloc, 2, 2)?;
-    assert_eq!(rt; put(&mut scene, alloc, small), EditOutcome::New);
-    let [first, second, _, _] = scene.receivers() else {
-        return Err("not four receivers".into());
-    };
-    assert_eq!(rt; first.name.items(), b"g/0/0".as_slice());
-    assert_eq!(rt; second.name.items(), b"g/1/0".as_slice());
-    Ok(())
-}
-
-#[test]
-fn a_removal_leaves_the_others(rt: HostRuntime) -> Result<(), Fail> {
-    let alloc = rt.alloc();
-    let mut scene = Scene::empty(alloc)?;
-    let first = receiver(alloc, b"a", 1)?;
-    assert_eq!(rt; put(&mut scene, alloc, first), EditOutcome::New);
-    let second = receiver(alloc, b"b", 2)?;
-    assert_eq!(rt; put(&mut scene, alloc, second), EditOutcome::New);
-    let outcome = removed(&mut scene, alloc, b"a")?;
-    assert_eq!(rt; outcome, EditOutcome::Replaced);
-    let [b] = scene.receivers() else {
-        return Err("not one receiver".into());
-    };
-    assert_eq!(rt; b.at.x, 2);
-    Ok(())
-}
-
-#[test]
-fn the_name_of_a_grid_is_not_removed(rt: HostRuntime) -> Result<(), Fail> {
-    let alloc = rt.alloc();
-    let mut scene = Scene::empty(alloc)?;
-    let small = grid(alloc, 2, 2)?;
-    assert_eq!(rt; put(&mut scene, alloc, small), EditOutcome::New);
-    let outcome = removed(&mut scene, alloc, b"g")?;
-    assert_eq!(rt; outcome, EditOutcome::NoName);
-    assert_eq!(rt; scene.receivers().len(), 4);
-    Ok(())
-}
-
-#[test]
-fn each_class_has_its_list(rt: HostRuntime) -> Result<(), Fail> {
-    let alloc = rt.alloc();
-    let mut scene = Scene::empty(alloc)?;
-    let wall = barrier(alloc)?;
-    assert_eq!(rt; put(&mut scene, alloc, wall), EditOutcome::New);
-    let ground = zone(alloc)?;
-    assert_eq!(rt; put(&mut scene, alloc, ground), EditOutcome::New);
-    assert_eq!(rt; (scene.obstacles().len(), scene.zones().len()), (1, 1));
-    assert_eq!(rt; scene.sources().len() + scene.receivers().len(), 0);
-    Ok(())
-}
-
-#[test]
-fn settings_stay_in_copies(rt: HostRuntime) -> Result<(), Fail> {
-    let alloc = rt.alloc();
-    let mut scene = Scene::empty(alloc)?;
-    assert_eq!(rt; put(&mut scene, alloc, setting()), EditOutcome::New);
-    let copy = scene.copy(alloc)?;
-    assert_eq!(rt;
-        (copy.globals().reach, copy.globals().g, copy.globals().c0),
-        (4_000_000, 50, 1000)
-    );
+fn receivers_stand_in_order(rt: HostRuntime) -> Result<(), Fail> {
+    let scene = edited(rt.alloc())?;
+    for (receiver, (name, x)) in scene.receivers().iter().zip(RECEIVERS) {
+        assert_eq!(rt; (receiver.name.items(), receiver.at.x), (name, x));
+    }
     Ok(())
 }
 
 #[test]
 fn copies_keep_what_is_removed(rt: HostRuntime) -> Result<(), Fail> {
     let alloc = rt.alloc();
-    let mut scene = Scene::empty(alloc)?;
-    let ground = zone(alloc)?;
-    assert_eq!(rt; put(&mut scene, alloc, ground), EditOutcome::New);
+    let mut scene = edited(alloc)?;
     let copy = scene.copy(alloc)?;
-    let outcome = removed(&mut scene, alloc, b"z")?;
-    assert_eq!(rt; outcome, EditOutcome::Replaced);
-    assert_eq!(rt; scene.zones().len(), 0);
-    let [kept] = copy.zones() else {
+    remove(&mut scene, alloc, Called::Ground)?;
+    assert_eq!(rt; (scene.zones().len(), copy.receivers().len()), (0, 5));
+    let [ground] = copy.zones() else {
         return Err("not one zone".into());
     };
-    assert_eq!(rt; kept.g, 100);
-    Ok(())
-}
-
-#[test]
-fn copies_have_the_receivers(rt: HostRuntime) -> Result<(), Fail> {
-    let alloc = rt.alloc();
-    let mut scene = Scene::empty(alloc)?;
-    let first = receiver(alloc, b"a", 7)?;
-    assert_eq!(rt; put(&mut scene, alloc, first), EditOutcome::New);
-    let copy = scene.copy(alloc)?;
-    let [a] = copy.receivers() else {
-        return Err("not one receiver".into());
-    };
-    assert_eq!(rt; a.at.x, 7);
+    assert_eq!(rt; ground.g, 100);
+    assert_eq!(rt;
+        (copy.globals().reach, copy.globals().g, copy.globals().c0),
+        (4_000_000, 50, 1000)
+    );
     Ok(())
 }
