@@ -1,0 +1,15 @@
+pub mod Lists
+pub mod Greatest
+pub mod Screened
+pub mod Sound
+pub mod Marked
+pub mod Above
+pub mod Pairs
+pub mod Loops
+pub mod Bounds
+pub mod Joining
+pub mod Cornering
+pub mod Lengths
+pub mod LateralBounds
+pub mod Fitting
+pub mod Slants

@@ -1,0 +1,201 @@
+-- Scaffolding between the code and the definitions: what the bands of a path share, as the code keeps it, and the
+-- greatest of intervals that are found one after another.
+use Rattle.std.specs.Prelude.{◌≡◌, ℕ, suc, List, [], ◌∷◌, ◌++◌, map, filter, Bool, false, ◌&&◌, Option, Some, None, unwrap_or, slice_get}
+use Rattle.std.specs.List.{All}
+use Rattle.fix_interval.specs.Interval.{Interval}
+use Rattle.fix_interval.specs.Values.{max_of, pick_of}
+use Rattle.fix_interval.specs.declared.truth.Truth.{Truth}
+use Rattle.fix_interval.specs.declared.truth.Truth.TheVariants.{Sure, Never, Unsure}
+use Rattle.fix_interval.specs.Tree.{Known, Add, Mul, Div, enc}
+use Rattle.scene_geom.specs.declared.band.Band.{Band}
+use Rattle.path_shape.specs.declared.edge.Edge.{Edge}
+use Rattle.path_shape.specs.declared.path.Path.{Path}
+use Rattle.term_barrier.specs.declared.apart.Apart.{Apart}
+use Rattle.term_barrier.specs.declared.bend.Bend.{Bend}
+use Rattle.term_barrier.specs.declared.single.Single.{Single}
+use Rattle.term_barrier.specs.declared.pair.Pair.{Pair}
+use Rattle.term_barrier.specs.declared.joined.Joined.{Joined}
+use Rattle.term_barrier.specs.Diffraction.{whole, c_2_by_wavelength, five_wavelengths_squared, at_one_edge, three_and, attenuation, single_limit, double_limit}
+use Rattle.term_barrier.specs.Edges.{FitsEdge, across, beside, place, source_to_edge, single_difference, single_k, single_argument, where_convex, pair_attenuation}
+use Rattle.term_barrier.specs.Screening.{is_above, edges_above, pairs_of, less_ground, grazing}
+
+-- ---- edges
+
+-- how a path passes an edge
+abbrev pub bend_of : Path → Edge → Bend
+bend_of path edge = record {
+  edge = edge;
+  place = enc (place edge);
+  x = enc (across edge);
+  y = enc (beside edge);
+  d_ss = enc (source_to_edge path (across edge) edge);
+}
+
+-- and z and K_met of the edge alone
+abbrev pub single_of : Path → Interval → Edge → Single
+single_of path d edge = record {
+  bend = bend_of path edge;
+  z = enc (single_difference path edge (Known d));
+  k = enc (single_k path edge (Known d));
+}
+
+-- what stands under the logarithm of an edge whose z and K_met are known
+abbrev pub known_argument : Band → Single → Interval
+known_argument band single = enc (three_and (Mul (at_one_edge band (Known single.z)) (Known single.k)))
+
+-- and D_z of it
+abbrev pub known_single : Band → Single → Interval
+known_single band single = enc (attenuation single_limit (Known (known_argument band single)))
+
+abbrev pub single_is_above : Single → Bool
+single_is_above single = is_above single.bend.edge
+
+-- ---- two edges
+
+-- both statements hold
+abbrev pub both_of : Truth → Truth → Truth
+both_of Never b = Never
+both_of Sure b = b
+both_of Unsure Never = Never
+both_of Unsure Sure = Unsure
+both_of Unsure Unsure = Unsure
+
+-- whether sound bends over both edges, by what that picks
+abbrev pub IsConvexity : Path → Edge → Edge → Truth → Type 0
+IsConvexity path first second convex =
+    (quantity : Interval)
+    → pick_of convex quantity (enc (whole 0)) ≡ enc (where_convex path (Known path.dp) first second (Known quantity))
+
+-- what C_3 takes of the distance e between two edges, and C_3 and (C_2 / λ) C_3 z from it
+abbrev pub apart_of : Interval → Apart
+apart_of e = record {
+  square = enc (Mul (Known e) (Known e));
+  third = enc (Div (Mul (Known e) (Known e)) (whole 3));
+}
+
+abbrev pub known_c_3 : Band → Apart → Interval
+known_c_3 band apart =
+    enc
+    (Div
+    (Add (Known apart.square) (five_wavelengths_squared band))
+    (Add (Known apart.third) (five_wavelengths_squared band)))
+
+abbrev pub two_edges : Band → Apart → Interval → Interval
+two_edges band apart z = enc (Mul (Mul (c_2_by_wavelength band) (Known (known_c_3 band apart))) (Known z))
+
+-- D_z of two edges of which that, z and K_met are known
+abbrev pub known_pair : Pair → Band → Interval
+known_pair pair band =
+    enc (attenuation double_limit (three_and (Mul (Known (two_edges band pair.apart pair.z)) (Known pair.k))))
+
+-- the same where sound bends over both, and else 0
+abbrev pub pair_value : Pair → Band → Interval
+pair_value pair band = pick_of pair.convex (known_pair pair band) (enc (whole 0))
+
+-- it is that of these two edges in every band
+abbrev pub IsPair : Path → Interval → Edge → Edge → Pair → Type 0
+IsPair path d first second pair =
+    (band : Band) → pair_value pair band ≡ enc (pair_attenuation path (Known path.dp) first second (Known d) band)
+
+-- ---- the greatest
+
+-- the greatest so far, after one more
+abbrev pub greater_of : Option Interval → Interval → Option Interval
+greater_of None next = Some next
+greater_of (Some best) next = Some (max_of best next)
+
+-- the greatest so far and of some more
+abbrev pub greatest_from : Option Interval → List Interval → Option Interval
+greatest_from best [] = best
+greatest_from best (next ∷ others) = greatest_from (greater_of best next) others
+
+-- D_z of an edge alone, what stands under its logarithm, and D_z of two edges
+abbrev pub single_value : Path → Interval → Band → Edge → Interval
+single_value path d band edge = enc (attenuation single_limit (single_argument path edge (Known d) band))
+
+abbrev pub argument_value : Path → Interval → Band → Edge → Interval
+argument_value path d band edge = enc (single_argument path edge (Known d) band)
+
+abbrev pub both_value : Path → Interval → Band → Edge × Edge → Interval
+both_value path d band pair = enc (pair_attenuation path (Known path.dp) pair.0 pair.1 (Known d) band)
+
+-- the greatest attenuation over the top, where an edge rises above the line of sight
+abbrev pub best_over : Path → Interval → Band → List Edge → Option Interval
+best_over path d band edges =
+    greatest_from
+    (greatest_from None (map (single_value path d band) (edges_above edges)))
+    (map (both_value path d band) (pairs_of (edges_above edges)))
+
+-- the greatest that stands under the logarithm of an edge alone, where there is an edge
+abbrev pub best_argument : Path → Interval → Band → List Edge → Option Interval
+best_argument path d band edges = greatest_from None (map (argument_value path d band) edges)
+
+-- A_bar where no edge rises above the line of sight, and in all cases, from these
+abbrev pub below_line : Option Interval → Interval → Interval
+below_line None gr = enc (whole 0)
+below_line (Some b) gr = enc (grazing (Known b) (Known gr))
+
+abbrev pub screened_by : Option Interval → Option Interval → Interval → Interval
+screened_by None argument gr = below_line argument gr
+screened_by (Some best) argument gr = enc (less_ground (Known best) (Known gr))
+
+-- ---- edges by their numbers
+
+-- things with their numbers, from a first one on
+abbrev pub numbered : {A : Type 0} → ℕ → List A → List (ℕ × A)
+numbered n [] = []
+numbered n (thing ∷ others) = (n, thing) ∷ numbered (suc n) others
+
+abbrev pub rises : ℕ × Edge → Bool
+rises edge = is_above edge.1
+
+-- the edges that rise above the line of sight, with their numbers among all
+abbrev pub risen : ℕ → List Edge → List (ℕ × Edge)
+risen n edges = filter rises (numbered n edges)
+
+-- the edges of what was prepared
+abbrev pub edges_in : List Single → List Edge
+edges_in singles = map (λ single. single.bend.edge) singles
+
+-- a number is marked by true
+abbrev pub is_marked : List Bool → ℕ → Bool
+is_marked marks n = unwrap_or (slice_get marks n) false
+
+-- D_z of two edges with their numbers
+abbrev pub Numbered : Type 0
+Numbered = ℕ × ℕ × Interval
+
+abbrev pub joined_value : Band → Joined → Numbered
+joined_value band joined = (joined.first, joined.second, pair_value joined.pair band)
+
+abbrev pub numbered_value : Path → Interval → Band → (ℕ × Edge) × (ℕ × Edge) → Numbered
+numbered_value path d band pair = (pair.0.0, pair.1.0, both_value path d band (pair.0.1, pair.1.1))
+
+-- the values of those whose numbers are both marked
+abbrev pub are_marked : List Bool → Numbered → Bool
+are_marked marks pair = is_marked marks pair.0 && is_marked marks pair.1
+
+abbrev pub marked_values : List Bool → List Numbered → List Interval
+marked_values marks pairs = map (λ pair. pair.2) (filter (are_marked marks) pairs)
+
+-- what was prepared of some pairs stands behind the rest
+abbrev pub Adds : Path → Interval → List Joined → List Joined → List ((ℕ × Edge) × (ℕ × Edge)) → Type 0
+Adds path d before after pairs =
+    (band : Band)
+    → map (joined_value band) after ≡ map (joined_value band) before ++ map (numbered_value path d band) pairs
+
+-- an edge that was prepared
+pub record IsSingle (path : Path) (d : Interval) (single : Single) : Type 0 where
+  pub is : single ≡ single_of path d single.bend.edge
+  pub fits : FitsEdge single.bend.edge
+
+-- what was prepared of a path whose source and receiver are d apart
+pub record ArePrepared (path : Path) (d : Interval) (singles : List Single) (pairs : List Joined) : Type 0 where
+  pub singles_are : All (IsSingle path d) singles
+  pub pairs_are : Adds path d [] pairs (pairs_of (risen 0 (edges_in singles)))
+
+-- a path, the edges that it passes, and how far source and receiver are apart
+pub record Passing : Type 0 where
+  pub path : Path
+  pub edges : List Edge
+  pub d : Interval

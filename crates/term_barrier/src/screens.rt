@@ -1,0 +1,71 @@
+//! Screening over the top, with what the bands of a path share calculated once.
+
+ghost use Rattle.std.specs.Prelude.{◌≡◌, All, IfOk};
+ghost use Rattle.fix_interval.specs.Tree.{Known, enc};
+ghost use Rattle.term_barrier.specs.Edges.{FitsEdge};
+ghost use Rattle.term_barrier.specs.Limits.{IsGroundEffect, IsScreening};
+ghost use Rattle.term_barrier.specs.Screening.{marked, screening};
+
+use crate::formulas::{below_line, less_ground};
+use crate::gathering::{best_alone, best_pair, greatest_argument, prepare, prepare_pairs};
+use crate::joined::Joined;
+use crate::single::Single;
+use fix_interval::Iv;
+use path_shape::{Edge, Path};
+use scene_geom::Band;
+use scene_parts::NoMemory;
+use std::alloc::Global;
+use std::marker::Model;
+
+/// The edges that a path passes, and what its bands share of them: z and K_met of each edge, and of each two that rise
+/// above the line of sight e, z, K_met and whether sound bends over both. It is seen as the path, the edges, and how far
+/// source and receiver are apart.
+#[derive(Drop)]
+pub struct Screens {
+    path: Path,
+    d: Iv,
+    singles: Vec<Single>,
+    pairs: Vec<Joined>,
+}
+
+impl Model for Screens {
+    ghost use Rattle.term_barrier.specs.Prepared.{Passing, ArePrepared, edges_in};
+
+    ghost Value = { Passing };
+
+    ghost view = { λ s. record { path = s.path; edges = edges_in s.singles.items; d = s.d } };
+
+    ghost invariant = { λ s. ArePrepared s.path s.d s.singles.items s.pairs.items };
+}
+
+impl Screens {
+    /// What the bands share of a path that passes these edges, where source and receiver are `d` apart, in metres.
+    pub fn of(alloc: Global, path: &Path, edges: &[Edge], d: Iv) -> Result<Screens, NoMemory>
+        requires { All FitsEdge edges.now }
+        ensures { IfOk result (λ screens. screens ≡ record { path = path.now; edges = edges.now; d = d }) }
+    {
+        let singles = prepare(alloc, path, edges, d)?;
+        let pairs = prepare_pairs(alloc, path, singles.as_slice(), d)?;
+        Ok(Screens {
+            path: *path,
+            d,
+            singles,
+            pairs,
+        })
+    }
+
+    /// A_bar over the top in dB (ISO 9613-2, equation 12), in a band in which the obstacles of the marked edges are large
+    /// enough and the attenuation by the ground is `gr`; a mark for each edge, in their order. It is from 0 dB to 48 dB.
+    pub fn a_bar(&self, marks: &[bool], gr: Iv, band: Band) -> Iv
+        ensures value { let s = self.now in result
+            ≡ enc (screening s.path (Known s.path.dp) (marked marks.now s.edges) (Known s.d) (Known gr) band) }
+        ensures bounds { IsGroundEffect gr → IsScreening result }
+    {
+        let singles = self.singles.as_slice();
+        let alone = best_alone(singles, marks, band);
+        match best_pair(alone, self.pairs.as_slice(), marks, band) {
+            Some(best) => less_ground(best, gr),
+            None => below_line(greatest_argument(singles, marks, band), gr),
+        }
+    }
+}

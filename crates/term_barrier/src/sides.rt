@@ -1,0 +1,68 @@
+//! Screening round vertical edges.
+
+ghost use Rattle.std.specs.Prelude.{◌≡◌, ◌<◌, ◌≤◌, pos, length};
+ghost use Rattle.fix_interval.specs.Bounds.{AreBetween};
+ghost use Rattle.fix_interval.specs.Tree.{Known, enc};
+ghost use Rattle.path_shape.specs.Shape.{plan_length};
+ghost use Rattle.term_barrier.specs.Lateral.{between_corners, last_corner, side_attenuation};
+ghost use Rattle.term_barrier.specs.Lateral as form;
+ghost use Rattle.term_barrier.specs.Limits.{most_corners, most_top, IsDistance};
+
+use crate::apart::Apart;
+use crate::formulas::{
+    at_one_edge, at_two_edges, double_attenuation, path_difference, single_attenuation, three_and,
+};
+use fix_interval::{Iv, add, exact, ratio};
+use path_shape::Path;
+use scene_geom::{Band, Pt};
+
+/// D_z round vertical edges in dB (ISO 9613-2, equations 13 and 14), in a band: sound goes from the source round the
+/// corners, in their order, to the receiver. Heights are in mm; source and receiver are `d` apart, in metres. Round at most
+/// 2^16 corners, and where `d` is from 0 m to 2^28 m, it is from 0 dB to 25 dB.
+pub fn d_z_side(s: Pt, hs: u32, r: Pt, hr: u32, corners: &[Pt], d: Iv, band: Band) -> Iv
+    requires { 0 < length corners.now }
+    ensures value { result ≡ enc (side_attenuation s hs r hr corners.now (Known d) band) }
+    ensures bounds { length corners.now ≤ most_corners → IsDistance d
+        → AreBetween (pos 0) most_top result }
+{
+    let Some((first, others)) = corners.split_first() else {
+        return exact(0);
+    };
+    let (e, last) = way_round(*first, others);
+    let length = add(add(distance(s, *first), e), distance(last, r));
+    let z = path_difference(length, height_square(hs, hr), d);
+    if others.is_empty() {
+        single_attenuation(three_and(at_one_edge(band, z)))
+    } else {
+        double_attenuation(three_and(at_two_edges(band, &Apart::of(e), z)))
+    }
+}
+
+/// The length in plan from the first corner to the last, in metres, and the last corner.
+fn way_round(first: Pt, others: &[Pt]) -> (Iv, Pt)
+    ensures length { result.0 ≡ enc (between_corners first others.now) }
+    ensures last { result.1 ≡ last_corner first others.now }
+{
+    let mut e = exact(0);
+    let mut last = first;
+    for corner in others {
+        e = add(e, distance(last, *corner));
+        last = *corner;
+    }
+    (e, last)
+}
+
+/// The distance of two points in plan, in metres.
+fn distance(from: Pt, to: Pt) -> Iv
+    ensures { result ≡ enc (plan_length from to) }
+{
+    Path::direct(from, 0, to, 0).dp
+}
+
+/// The square of the difference of two heights in mm, in square metres.
+fn height_square(hs: u32, hr: u32) -> Iv
+    ensures { result ≡ enc (form.height_square hs hr) }
+{
+    let rise = u128::from(hs.abs_diff(hr));
+    ratio((rise * rise) as i128, 1_000_000)
+}
