@@ -1,0 +1,10 @@
+pub mod Signs
+pub mod Hands
+pub mod Tight
+pub mod Stretched
+pub mod Unique
+pub mod Bearings
+pub mod Strings
+pub mod Listed
+pub mod Chains
+pub mod Blocked

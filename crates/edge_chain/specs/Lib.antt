@@ -1,0 +1,4 @@
+pub mod Chain
+pub mod Bearing
+pub mod Winding
+pub mod Laws

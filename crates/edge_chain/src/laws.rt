@@ -1,0 +1,12 @@
+//! What holds of chains beyond their definition, as functions that do nothing but have a contract.
+ghost use Rattle.edge_chain.specs.Laws.{OneChain, EmptyWhereNone};
+
+/// Points have one chain on a hand of a line at most: two lists that meet the description are one.
+pub fn one_chain()
+    ensures { OneChain }
+{}
+
+/// A chain has no point exactly where no point lies strictly on the hand.
+pub fn empty_where_none()
+    ensures { EmptyWhereNone }
+{}
