@@ -19,9 +19,10 @@ use Rattle.fix_interval.proofs.RangedFormulas.{between, part-between}
 use Rattle.scene_parts.specs.Ranges.{is_power}
 use Rattle.term_div_atm.specs.Terms.{divergence, absorption}
 use Rattle.term_div_atm.proofs.Ends.{divergence-between, absorption-between}
+use Rattle.term_barrier.specs.Limits.{IsDistance, IsGroundEffect, IsScreening}
 use Rattle.path_calc.specs.Contributions.{level_over}
 use Rattle.path_calc.specs.Prepared.{IsEmission}
-use Rattle.path_calc.specs.Ranges.{IsPower, IsDirectivity, IsCorrection, IsGroundEffect, IsWeight, IsDistance, IsAtReceiver, IsHearable}
+use Rattle.path_calc.specs.Ranges.{IsPower, IsDirectivity, IsCorrection, IsWeight, IsAtReceiver, IsHearable}
 use Rattle.path_calc.specs.Levels.{IsLevel, IsLevelEnd}
 
 -- ---- constants
@@ -67,12 +68,12 @@ unfolding sum_range
 emission-within p directivity hp hd =
     between _ _ {t = Add (Const p 100) (Known directivity)} (sum (part-between _ _ {t = Const p 100} (power-within p hp)) (part-between _ _ hd)) refl
 
-pub level-within : (emission d : Interval) (alpha10 : ℕ) (ground : Interval) → IsEmission emission → IsDistance d → alpha10 < 4096 → IsGroundEffect ground
-    → IsAtReceiver (enc (level_over (Known emission) (Known d) alpha10 (Known ground)))
+pub level-within : (emission d : Interval) (alpha10 : ℕ) (ground bar : Interval) → IsEmission emission → IsDistance d → alpha10 < 4096 → IsGroundEffect ground → IsScreening bar
+    → IsAtReceiver (enc (level_over (Known emission) (Known d) alpha10 (Known ground) (Known bar)))
 unfolding sum_range neg_of
-level-within emission d alpha10 ground he hd few hg =
-    between _ _ {t = level_over (Known emission) (Known d) alpha10 (Known ground)}
-    (sum (sum (sum (part-between _ _ he) (negation (part-between _ _ {t = divergence (Known d)} (divergence-between d hd)))) (negation (part-between _ _ {t = absorption (Known d) alpha10} (absorption-between d alpha10 few hd)))) (negation (part-between _ _ hg))) refl
+level-within emission d alpha10 ground bar he hd few hg hb =
+    between _ _ {t = level_over (Known emission) (Known d) alpha10 (Known ground) (Known bar)}
+    (sum (sum (sum (sum (part-between _ _ he) (negation (part-between _ _ {t = divergence (Known d)} (divergence-between d hd)))) (negation (part-between _ _ {t = absorption (Known d) alpha10} (absorption-between d alpha10 few hd)))) (negation (part-between _ _ hg))) (negation (part-between _ _ hb))) refl
 
 -- a level with the A-weight has an energy
 pub weighted-level : (level weight : Interval) → IsAtReceiver level → IsWeight weight → IsHearable (add_of level weight)

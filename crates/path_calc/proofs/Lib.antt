@@ -6,3 +6,6 @@ pub mod Heard
 pub mod Adding
 pub mod Sound
 pub mod Showing
+pub mod SameScreening
+pub mod Screened
+pub mod Fitting

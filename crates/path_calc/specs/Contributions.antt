@@ -4,13 +4,15 @@ use Rattle.std.specs.Option.{option_map}
 use Rattle.fix_interval.specs.Tree.{Tree, Const, Add, Sub}
 use Rattle.scene_parts.specs.Views.{Source, Receiver, Zone, Globals}
 use Rattle.path_shape.specs.Shape.{plan_length}
+use Rattle.path_shape.specs.declared.edge.Edge.{Edge}
 use Rattle.term_div_atm.specs.Terms.{divergence, absorption}
 use Rattle.term_ground.specs.Ground.{ground}
+use Rattle.term_barrier.specs.Screening.{screening}
 use Rattle.scene_geom.specs.declared.band.Band.{Band}
 use Rattle.scene_geom.specs.Bands.{place_of}
 use Rattle.path_calc.specs.Absorption.{coefficient_in}
 use Rattle.path_calc.specs.Lengths.{distance}
-use Rattle.path_calc.specs.Surroundings.{Surroundings, path_of}
+use Rattle.path_calc.specs.Surroundings.{Surroundings, path_of, edges_at}
 
 -- when a sound counts: always, or where one quantity is greater than another (as in condition (19) of a reflection)
 pub data Counting : Type 0 where
@@ -44,17 +46,25 @@ abbrev pub ground_in : List Zone → ℕ → Source → Receiver → Band → Tr
 ground_in zones g0 s r band =
     slice_index_or (ground zones g0 (path_of s r) (plan_length s.at r.at)) (place_of band) (Const (pos 0) 1)
 
--- L_W + D_c - A_div - A_atm - A_gr (equations 3 and 4), over a distance d in metres and with the coefficient of the air
--- in 0.1 dB/km
-abbrev pub level_over : Tree → Tree → ℕ → Tree → Tree
-level_over emission d alpha10 gr = Sub (Sub (Sub emission (divergence d)) (absorption d alpha10)) gr
+-- A_bar of the direct path in a band, over the edges that it passes there, where A_gr is this
+abbrev pub screening_in : List Edge → Source → Receiver → Tree → Band → Tree
+screening_in edges s r gr band =
+    screening (path_of s r) (plan_length s.at r.at) edges (distance s.at s.h r.at r.h) gr band
 
--- the sound of the direct path
+-- L_W + D_c - A_div - A_atm - A_gr - A_bar (equations 3 and 4), over a distance d in metres and with the coefficient of
+-- the air in 0.1 dB/km
+abbrev pub level_over : Tree → Tree → ℕ → Tree → Tree → Tree
+level_over emission d alpha10 gr bar =
+    Sub (Sub (Sub (Sub emission (divergence d)) (absorption d alpha10)) gr) bar
+
+-- the sound of the direct path, which leads over the top of what screens it
 abbrev pub direct_sound : Globals → Surroundings → Source → Receiver → Band → Tree → Contribution
 direct_sound globals around s r band emission = record {
   level =
       let d = distance s.at s.h r.at r.h in
-      level_over emission d (coefficient_in globals.air band) (ground_in around.zones globals.g s r band);
+      let gr = ground_in around.zones globals.g s r band in
+      let bar = screening_in (edges_at band around) s r gr band in
+      level_over emission d (coefficient_in globals.air band) gr bar;
   dp = plan_length s.at r.at;
   counts = Always;
 }

@@ -1,24 +1,55 @@
 -- What stands between the code and the definitions: the energies of what a source emits, at the end of a path of which
 -- the quantities are known.
-use Rattle.std.specs.Prelude.{◌≡◌, [], ◌∷◌, Option, Some, None, slice_index_or}
+use Rattle.std.specs.Prelude.{◌≡◌, List, [], ◌∷◌, map, filter, Option, Some, None, slice_index_or}
 use Rattle.fix_interval.specs.Interval.{Interval}
 use Rattle.fix_interval.specs.Tree.{Tree, Known, enc}
 use Rattle.energy_sum.specs.Energies.{energy_form}
 use Rattle.scene_geom.specs.declared.band.Band.{Band}
-use Rattle.scene_geom.specs.Bands.{place_of}
+use Rattle.scene_geom.specs.Bands.{all_bands, place_of}
 use Rattle.scene_parts.specs.Views.{Source, Receiver}
 use Rattle.scene_book.specs.Book.{Book}
+use Rattle.path_shape.specs.declared.path.Path.{Path}
+use Rattle.path_shape.specs.declared.edge.Edge.{Edge}
+use Rattle.sight_cut.specs.declared.ends.Ends.{Ends}
+use Rattle.sight_cut.specs.declared.crossing.Crossing.{Crossing}
+use Rattle.sight_cut.specs.Cuts.{is_crossing_in}
+use Rattle.term_barrier.specs.Screening.{screening}
 use Rattle.path_calc.specs.declared.propagation.Propagation.{Propagation}
 use Rattle.path_calc.specs.Absorption.{coefficient_in}
 use Rattle.path_calc.specs.Lengths.{distance}
-use Rattle.path_calc.specs.Surroundings.{surroundings_of}
-use Rattle.path_calc.specs.Contributions.{ground_in, level_over}
+use Rattle.path_calc.specs.Surroundings.{surroundings_of, edges_at}
+use Rattle.path_calc.specs.Contributions.{ground_in, screening_in, level_over}
 use Rattle.path_calc.specs.Energies.{sum_form, weighted}
 use Rattle.path_calc.specs.Prepared.{PreparedSource, emission_at}
 
--- the attenuation by the ground in a band
+-- ---- screening
+
+-- the line of sight of a path
+abbrev pub sight_of : Path → Ends
+sight_of path = record { s = path.s; hs = path.hs; r = path.r; hr = path.hr }
+
+-- the edges of those crossings that count in a band
+abbrev pub edges_among : Band → List Crossing → List Edge
+edges_among band crossings = map (λ crossing. crossing.edge) (filter (is_crossing_in band) crossings)
+
+-- A_bar of a path in a band over some edges, where the length of the path is known, and A_gr in each band
+abbrev pub bar_over : Path → List Edge → Interval → List Interval → Band → Interval
+bar_over path edges d ground band =
+    let gr = slice_index_or ground (place_of band) d in
+    enc (screening path (Known path.dp) edges (Known d) (Known gr) band)
+
+-- that in each band, over the edges there
+abbrev pub bars_over : Path → (Band → List Edge) → Interval → List Interval → List Interval
+bars_over path edges d ground = map (λ band. bar_over path (edges band) d ground band) all_bands
+
+-- ---- paths
+
+-- the attenuation by the ground in a band, and that by screening
 abbrev pub ground_at : Propagation → Band → Interval
 ground_at propagation band = slice_index_or propagation.ground (place_of band) propagation.divergence
+
+abbrev pub screening_at : Propagation → Band → Interval
+screening_at propagation band = slice_index_or propagation.screening (place_of band) propagation.divergence
 
 -- the quantities of the direct path from a source to a receiver of a scene
 pub record IsDirect (propagation : Propagation) (book : Book) (s : Source) (r : Receiver) : Type 0 where
@@ -26,12 +57,18 @@ pub record IsDirect (propagation : Propagation) (book : Book) (s : Source) (r : 
   pub distance : propagation.distance ≡ enc (distance s.at s.h r.at r.h)
   pub ground : (band : Band)
       → ground_at propagation band ≡ enc (ground_in (surroundings_of book s r).zones book.globals.g s r band)
+  pub screening : (band : Band)
+      → let around = surroundings_of book s r in
+      let gr = ground_in around.zones book.globals.g s r band in
+      screening_at propagation band ≡ enc (screening_in (edges_at band around) s r gr band)
 
 -- the level of what is emitted
 abbrev pub level_after : Propagation → Band → Interval → Tree
 level_after propagation band emission =
     let d = Known propagation.distance in
-    level_over (Known emission) d (coefficient_in propagation.air band) (Known (ground_at propagation band))
+    let gr = Known (ground_at propagation band) in
+    let bar = Known (screening_at propagation band) in
+    level_over (Known emission) d (coefficient_in propagation.air band) gr bar
 
 -- what an energy of one sound makes of its level, or of none where nothing is emitted
 abbrev pub sum_after : (Tree → Tree) → Propagation → Band → Option Interval → Interval

@@ -1,12 +1,15 @@
 -- What holds of energies and levels beyond their definitions.
-use Rattle.std.specs.Prelude.{◌≡◌, map}
+use Rattle.std.specs.Prelude.{◌≡◌, List, map}
+use Rattle.std.specs.List.{list_any}
 use Rattle.fix_interval.specs.Encloses.{Encloses}
 use Rattle.fix_interval.specs.Tree.{enc}
 use Rattle.scene_parts.specs.Views.{Source, Receiver, Globals}
 use Rattle.scene_book.specs.Book.{Book}
 use Rattle.scene_geom.specs.declared.band.Band.{Band}
 use Rattle.scene_geom.specs.Bands.{all_bands}
-use Rattle.path_calc.specs.Surroundings.{Surroundings, surroundings_of}
+use Rattle.sight_cut.specs.declared.crossing.Crossing.{Crossing}
+use Rattle.sight_cut.specs.Cuts.{cut_of, cuts_of, screens_in}
+use Rattle.path_calc.specs.Surroundings.{Surroundings, ends_of, edges_at, surroundings_of}
 use Rattle.path_calc.specs.Energies.{band_energy, long_energy}
 use Rattle.path_calc.specs.Bundles.{bundle_of}
 use Rattle.path_calc.specs.Levels.{level_in}
@@ -33,3 +36,13 @@ pub record LevelsAreEnclosed (book : Book) (r : Receiver) : Type 0 where
 abbrev pub SameBetween : Type 0
 SameBetween = (a b : Book) (s : Source) (r : Receiver) → a.globals ≡ b.globals
     → surroundings_of a s r ≡ surroundings_of b s r → bundle_of a s r ≡ bundle_of b s r
+
+-- The edges that source and receiver read in a band are those of its cuts, and tell whether an obstacle screens there.
+pub record EdgesAreCuts (book : Book) (s : Source) (r : Receiver) (band : Band) : Type 0 where
+  -- sides that cross the line of sight, whose edges are the edges and whose cuts are the cuts, in the same order
+  pub crossings : List Crossing
+  pub edges : edges_at band (surroundings_of book s r) ≡ map (λ c. c.edge) crossings
+  pub cuts : cuts_of band (ends_of s r) book.obstacles ≡ map cut_of crossings
+  -- some obstacle screens exactly where one of the edges rises above the line of sight
+  pub screens : list_any (screens_in band (ends_of s r)) book.obstacles
+      ≡ list_any (λ edge. edge.above) (edges_at band (surroundings_of book s r))

@@ -4,6 +4,7 @@ use Rattle.fix_interval.specs.Interval.{Interval}
 use Rattle.fix_interval.specs.Bounds.{AreBetween}
 use Rattle.fix_interval.specs.Tree.{Known, enc}
 use Rattle.term_div_atm.specs.Terms.{divergence}
+use Rattle.term_barrier.specs.Limits.{IsDistance, IsGroundEffect, IsScreening}
 use Rattle.path_calc.specs.declared.propagation.Propagation.{Propagation}
 
 -- a sound power level and a directivity correction in range, in 0.01 dB
@@ -15,27 +16,21 @@ pub record IsDirectivity (z : ℤ) : Type 0 where
   pub low : neg_ℤ (pos 3000) ≤ℤ z
   pub high : z ≤ℤ pos 2000
 
--- a directivity correction from -30 dB to 20 dB, an attenuation by the ground from -16 dB to 2^26 dB, an A-weight from
--- -30 dB to 2 dB
+-- a directivity correction from -30 dB to 20 dB, an A-weight from -30 dB to 2 dB
 abbrev pub IsCorrection : Interval → Type 0
 IsCorrection correction = AreBetween (neg_ℤ (pos (30 * 2 ^ 32))) (pos (20 * 2 ^ 32)) correction
-
-abbrev pub IsGroundEffect : Interval → Type 0
-IsGroundEffect attenuation = AreBetween (neg_ℤ (pos (2 ^ 36))) (pos (2 ^ 58)) attenuation
 
 abbrev pub IsWeight : Interval → Type 0
 IsWeight weight = AreBetween (neg_ℤ (pos (30 * 2 ^ 32))) (pos (2 * 2 ^ 32)) weight
 
--- a distance of at most 2^28 m
-abbrev pub IsDistance : Interval → Type 0
-IsDistance distance = AreBetween (pos 0) (pos (2 ^ 60)) distance
-
--- the divergence at the distance, and the attenuation by the ground in each band
+-- the divergence at the distance, and the attenuations by the ground and by screening in each band
 pub record IsPropagation (propagation : Propagation) : Type 0 where
   pub distance : IsDistance propagation.distance
   pub divergence : propagation.divergence ≡ enc (divergence (Known propagation.distance))
   pub ground : All IsGroundEffect propagation.ground
   pub bands : length propagation.ground ≡ 8
+  pub screening : All IsScreening propagation.screening
+  pub screened_bands : length propagation.screening ≡ 8
 
 -- a level at a receiver, and one of which there is an energy, at most 185 dB and 189 dB
 abbrev pub IsAtReceiver : Interval → Type 0

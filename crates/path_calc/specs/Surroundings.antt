@@ -1,19 +1,29 @@
 -- What a source and a receiver read of the parts of a scene. Beside it they read only what holds of the whole scene.
 -- Parts stand in it by their values, none by its name or its place in a list: so an edit elsewhere leaves it as it is.
-use Rattle.std.specs.Prelude.{List, [], map}
-use Rattle.scene_parts.specs.Views.{Source, Receiver, Zone}
+use Rattle.std.specs.Prelude.{List, [], map, slice_index_or}
+use Rattle.scene_geom.specs.declared.band.Band.{Band}
+use Rattle.scene_geom.specs.Bands.{all_bands, place_of}
+use Rattle.scene_parts.specs.Views.{Source, Receiver, Obstacle, Zone}
 use Rattle.scene_book.specs.Book.{Book}
 use Rattle.path_shape.specs.Shape.{direct_path}
 use Rattle.path_shape.specs.declared.path.Path.{Path}
+use Rattle.path_shape.specs.declared.edge.Edge.{Edge}
+use Rattle.sight_cut.specs.declared.ends.Ends.{Ends}
+use Rattle.sight_cut.specs.Cuts.{edges_in}
 use Rattle.term_ground.specs.Zones.{met_zones}
 
 pub record Surroundings : Type 0 where
   -- the zones of ground that the direct path meets
   pub zones : List Zone
+  -- for each band the edges on the direct path, of the obstacles that are large enough in it
+  pub edges : List (List Edge)
 
--- the direct path from a source to a receiver
+-- the direct path from a source to a receiver, and the ends of the line of sight between them
 abbrev pub path_of : Source → Receiver → Path
 path_of s r = direct_path s.at s.h r.at r.h
+
+abbrev pub ends_of : Source → Receiver → Ends
+ends_of s r = record { s = s.at; hs = s.h; r = r.at; hr = r.h }
 
 -- a zone by its corners and its ground factor, whatever its name
 abbrev pub unnamed : Zone → Zone
@@ -23,6 +33,17 @@ unnamed zone = record { name = []; points = zone.points; g = zone.g }
 abbrev pub zones_on : Path → List Zone → List Zone
 zones_on path zones = map unnamed (met_zones path zones)
 
+-- the edges on a line of sight in each band (ISO 9613-2, 7.4), in the order of obstacles and sides
+abbrev pub edges_on : Ends → List Obstacle → List (List Edge)
+edges_on ends obstacles = map (λ band. edges_in band ends obstacles) all_bands
+
+-- those in a band
+abbrev pub edges_at : Band → Surroundings → List Edge
+edges_at band around = slice_index_or around.edges (place_of band) []
+
 -- what a source and a receiver read of the parts of a scene
 abbrev pub surroundings_of : Book → Source → Receiver → Surroundings
-surroundings_of book s r = record { zones = zones_on (path_of s r) book.zones }
+surroundings_of book s r = record {
+  zones = zones_on (path_of s r) book.zones;
+  edges = edges_on (ends_of s r) book.obstacles;
+}

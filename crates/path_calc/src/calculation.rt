@@ -12,8 +12,8 @@ use scene_parts::{Name, NoMemory, PointSource, Receiver};
 use std::alloc::Global;
 use std::sync::ledger::Ledger;
 
-/// All that a receiver has from a source of a scene. One step is counted, also where there is no memory for the
-/// name.
+/// All that a receiver has from a source of a scene. One step is counted, also where there is no memory for the name or
+/// for what screens the path.
 pub fn bundle<L: Ledger>(
     alloc: Global,
     scene: &Scene,
@@ -46,7 +46,7 @@ pub fn bundle_between<L: Ledger>(
 {
     steps.tick();
     let name = Name::from_vec(source.name.items().to_vec(alloc)?);
-    let energies = path_energies(scene, source, from, receiver, to);
+    let energies = path_energies(alloc, scene, source, from, receiver, to)?;
     Ok(Bundle {
         source: name,
         at: source.at,

@@ -1,5 +1,5 @@
 //! The energies that a receiver has from a source.
-ghost use Rattle.std.specs.Prelude.{◌≡◌, map, All};
+ghost use Rattle.std.specs.Prelude.{◌≡◌, map, All, IfOk};
 ghost use Rattle.fix_interval.specs.Tree.{Known, enc};
 ghost use Rattle.scene_geom.specs.Bands.{all_bands};
 ghost use Rattle.path_calc.specs.Energies.{sum_form};
@@ -14,7 +14,8 @@ use crate::propagation::{Propagation, direct};
 use fix_interval::{Iv, add, exact};
 use scene_book::Scene;
 use scene_geom::Band;
-use scene_parts::{PointSource, Receiver};
+use scene_parts::{NoMemory, PointSource, Receiver};
+use std::alloc::Global;
 
 /// The energies that a receiver has from a source: in each band, and the long-term energy over all.
 #[derive(Drop)]
@@ -25,24 +26,28 @@ pub(crate) struct Energies {
 
 /// The energies that a receiver has from a source. What the bands share is calculated once.
 pub(crate) fn path_energies(
+    alloc: Global,
     scene: &Scene,
     source: &PointSource,
     from: &PreparedSource,
     receiver: &Receiver,
     to: &PreparedReceiver,
-) -> Energies
+) -> Result<Energies, NoMemory>
     requires source { from.now ≡ prepared_of source.now }
     requires receiver { to.now ≡ receiver.now.h }
-    ensures bands { result.bands ≡ (bundle_of scene.now source.now receiver.now).energy }
-    ensures long { result.long ≡ (bundle_of scene.now source.now receiver.now).long }
-    ensures bands_bounds { All (IsSumOf 1) result.bands }
-    ensures long_bounds { IsSumOf 8 result.long }
+    ensures bands { IfOk result (λ energies. energies.bands
+        ≡ (bundle_of scene.now source.now receiver.now).energy) }
+    ensures long { IfOk result (λ energies. energies.long
+        ≡ (bundle_of scene.now source.now receiver.now).long) }
+    ensures bands_bounds { IfOk result (λ energies. All (IsSumOf 1) energies.bands) }
+    ensures long_bounds { IfOk result (λ energies. IsSumOf 8 energies.long) }
 {
-    let heard = heard(&direct(scene, source, from, receiver, to), from);
-    Energies {
+    let path = direct(alloc, scene, source, from, receiver, to)?;
+    let heard = heard(&path, from);
+    Ok(Energies {
         bands: bands_of(&heard),
         long: long_sum(&heard),
-    }
+    })
 }
 
 /// What is heard of a source at the end of a path, in each band.

@@ -47,8 +47,9 @@ fn level_in(propagation: &Propagation, band: Band, emission: Iv) -> Iv
     ensures range { IsAtReceiver result }
 {
     let absorption = a_atm(propagation.distance, coefficient(propagation.air, band));
-    let over_ground = sub(sub(emission, propagation.divergence), absorption);
-    sub(over_ground, propagation.ground_in(band))
+    let in_the_open = sub(sub(emission, propagation.divergence), absorption);
+    let over_ground = sub(in_the_open, propagation.ground_in(band));
+    sub(over_ground, propagation.screening_in(band))
 }
 
 /// The energies of a level in a band.

@@ -5,7 +5,7 @@ ghost use Rattle.scene_parts.specs.Ranges.{IsHeight};
 ghost use Rattle.fix_interval.specs.Tree.{enc};
 ghost use Rattle.path_shape.specs.Shape as shape;
 ghost use Rattle.path_calc.specs.Lengths as lengths;
-ghost use Rattle.path_calc.specs.Ranges.{IsDistance};
+ghost use Rattle.term_barrier.specs.Limits.{IsDistance};
 
 use fix_interval::{Iv, ratio, root};
 use scene_geom::Pt;

@@ -14,6 +14,7 @@ mod numbers;
 mod prepared;
 mod propagation;
 mod results;
+mod screening;
 mod steps;
 #[cfg(test)]
 mod tests;

@@ -1,50 +1,58 @@
 //! What all bands share of a path.
-ghost use Rattle.std.specs.Prelude.{◌≡◌};
-ghost use Rattle.path_calc.specs.Hearing.{IsDirect, ground_at};
-ghost use Rattle.path_calc.specs.Ranges.{IsPropagation, IsGroundEffect};
+ghost use Rattle.std.specs.Prelude.{◌≡◌, IfOk};
+ghost use Rattle.path_calc.specs.Hearing.{IsDirect, ground_at, screening_at};
+ghost use Rattle.path_calc.specs.Ranges.{IsPropagation};
+ghost use Rattle.term_barrier.specs.Limits.{IsGroundEffect, IsScreening};
 
 use crate::lengths::distance;
 use crate::prepared::{PreparedReceiver, PreparedSource};
+use crate::screening::screening;
 use fix_interval::Iv;
 use path_shape::Path;
 use scene_book::Scene;
 use scene_geom::Band;
-use scene_parts::{Air, PointSource, Receiver};
+use scene_parts::{Air, NoMemory, PointSource, Receiver};
+use std::alloc::Global;
 use term_div_atm::a_div;
 use term_ground::a_gr_between;
 
 /// What the bands share of a path: the air, the distance in metres, the divergence there in dB, and beside it the
-/// attenuation by the ground in each band in dB.
+/// attenuations by the ground and by screening in each band in dB.
 #[derive(Drop)]
 pub(crate) struct Propagation {
     pub(crate) air: Air,
     pub(crate) distance: Iv,
     pub(crate) divergence: Iv,
     pub(crate) ground: [Iv; 8],
+    pub(crate) screening: [Iv; 8],
 }
 
 /// The direct path from a source to a receiver.
 pub(crate) fn direct(
+    alloc: Global,
     scene: &Scene,
     source: &PointSource,
     from: &PreparedSource,
     receiver: &Receiver,
     to: &PreparedReceiver,
-) -> Propagation
+) -> Result<Propagation, NoMemory>
     requires source { from.now.h ≡ source.now.h }
     requires receiver { to.now ≡ receiver.now.h }
-    ensures value { IsDirect result scene.now source.now receiver.now }
-    ensures range { IsPropagation result }
+    ensures value { IfOk result (λ path. IsDirect path scene.now source.now receiver.now) }
+    ensures range { IfOk result IsPropagation }
 {
     let globals = scene.globals();
     let path = Path::direct(source.at, source.h, receiver.at, receiver.h);
     let distance = distance(source.at, source.h, receiver.at, receiver.h);
-    Propagation {
+    let ground = a_gr_between(scene.zones(), globals.g, &path, from.decays(), to.decays());
+    let screening = screening(alloc, scene.obstacles(), &path, distance, &ground)?;
+    Ok(Propagation {
         air: globals.air,
         distance,
         divergence: a_div(distance),
-        ground: a_gr_between(scene.zones(), globals.g, &path, from.decays(), to.decays()),
-    }
+        ground,
+        screening,
+    })
 }
 
 impl Propagation {
@@ -55,5 +63,13 @@ impl Propagation {
         ensures bounds { IsGroundEffect result }
     {
         self.ground[band.place()]
+    }
+    /// The attenuation by screening in a band.
+    pub(crate) fn screening_in(&self, band: Band) -> Iv
+        requires { IsPropagation self.now }
+        ensures value { result ≡ screening_at self.now band }
+        ensures bounds { IsScreening result }
+    {
+        self.screening[band.place()]
     }
 }

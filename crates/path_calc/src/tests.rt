@@ -63,25 +63,59 @@ fn receiver(alloc: Global) -> Option<Receiver> {
     })
 }
 
-fn yard(alloc: Global) -> Option<Part> {
+fn corners(alloc: Global, places: &[(i64, i64)]) -> Option<RawPoints> {
     let mut points = Vec::new(alloc);
-    for (x, y) in [
-        (-30_000, -20_000),
-        (50_000, -20_000),
-        (50_000, 40_000),
-        (-30_000, 40_000),
-    ] {
-        points.push(RawPt { x, y }).ok()?;
+    for (x, y) in places {
+        points.push(RawPt { x: *x, y: *y }).ok()?;
     }
-    let zone = RawPart::Zone {
-        name: PlainName::from_vec(b"yard".to_vec(alloc).ok()?),
-        points: RawPoints::from_vec(points),
-        g: 80,
-    };
-    match check(alloc, zone) {
+    Some(RawPoints::from_vec(points))
+}
+
+fn part(alloc: Global, raw: RawPart) -> Option<Part> {
+    match check(alloc, raw) {
         Ok(Checked::Part(part)) => Some(part),
         _ => None,
     }
+}
+
+fn yard(alloc: Global) -> Option<Part> {
+    let points = corners(
+        alloc,
+        &[
+            (-30_000, -20_000),
+            (50_000, -20_000),
+            (50_000, 40_000),
+            (-30_000, 40_000),
+        ],
+    )?;
+    let name = PlainName::from_vec(b"yard".to_vec(alloc).ok()?);
+    part(
+        alloc,
+        RawPart::Zone {
+            name,
+            points,
+            g: 80,
+        },
+    )
+}
+
+/// A barrier across the way from the fan to the receiver, by two sides, which is too small at 63 Hz.
+fn wall(alloc: Global) -> Option<Part> {
+    let points = corners(
+        alloc,
+        &[(40_000, 10_500), (41_000, 14_500), (42_000, 10_500)],
+    )?;
+    let name = PlainName::from_vec(b"wall".to_vec(alloc).ok()?);
+    part(
+        alloc,
+        RawPart::Barrier {
+            name,
+            points,
+            h: 5000,
+            density: 20,
+            rho: 0,
+        },
+    )
 }
 
 /// A scene with this air, and a zone of ground.
@@ -128,6 +162,22 @@ fn in_air(alloc: Global, air: Air, source: &PointSource) -> Option<Bundle> {
 fn fan_in(alloc: Global, air: Air) -> Option<Bundle> {
     let fan = fan(alloc)?;
     in_air(alloc, air, &fan)
+}
+
+/// The scene with the barrier.
+fn walled(alloc: Global) -> Option<Scene> {
+    let mut scene = scene(alloc, Air::Celsius10Humidity70)?;
+    let wall = wall(alloc)?;
+    scene.apply(alloc, &Edit::Put(wall)).ok()?;
+    Some(scene)
+}
+
+/// The bundle of the fan behind the barrier.
+fn fan_behind(alloc: Global) -> Option<Bundle> {
+    let scene = walled(alloc)?;
+    let fan = fan(alloc)?;
+    let receiver = receiver(alloc)?;
+    path(alloc, &scene, &fan, &receiver)
 }
 
 fn gate_in(alloc: Global, air: Air) -> Option<Bundle> {
@@ -183,6 +233,30 @@ fn energies_in_each_air(rt: HostRuntime) -> Result<(), Fail> {
         has_ends(&rt, bundle.energy_in(Band::Hz4000), energy);
         has_ends(&rt, bundle.long_energy(), long);
     }
+    Ok(())
+}
+
+/// The ends of the energies in each band behind the barrier.
+const BEHIND: [(i128, i128); 8] = [
+    (139420746404597, 139420746628834),
+    (40437448339892, 40437453477820),
+    (70616935080435, 70616951018914),
+    (70172556129469, 70172582200395),
+    (28701413890885, 28701430555210),
+    (5002755430917, 5002759563942),
+    (296992528594, 296992827135),
+    (0, 0),
+];
+
+#[test]
+fn energies_behind_a_barrier(rt: HostRuntime) -> Result<(), Fail> {
+    let Some(bundle) = fan_behind(rt.alloc()) else {
+        return Err("no memory".into());
+    };
+    for band in Band::all() {
+        has_ends(&rt, bundle.energy_in(band), BEHIND[band.place()]);
+    }
+    has_ends(&rt, bundle.long_energy(), (80331837729306, 80331875019639));
     Ok(())
 }
 

@@ -1,5 +1,5 @@
 use Rattle.std.proofs.Common.{subst, sym}
-use Rattle.path_calc.specs.Ranges.{IsDistance}
+use Rattle.term_barrier.specs.Limits.{IsDistance}
 use Rattle.path_calc.proofs.Bounds.{distance-bounded}
 use Rattle.path_calc.proofs.lengths.distance.Goals as goal
 
