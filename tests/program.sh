@@ -80,6 +80,25 @@ try_ends() {
     expect "67,108,865 bytes" 6 "$room/nothing" "input limit" "$program" < "$room/over"
 }
 
+# As many obstacles and sides as may be, out to the ends of the map, and one obstacle more. The levels are those of an
+# independent calculation.
+try_screens() {
+    {
+        echo "refused,4098,4099,Full,obstacle,4096,"
+        echo "settle,4098,1,,,,"
+        echo "row,4098,r,current,,75.05,75.06"
+        echo "band,4098,r,63,,87.57,87.58"
+        echo "band,4098,r,125,,84.31,84.32"
+        echo "band,4098,r,250,,79.44,79.45"
+        echo "band,4098,r,500,,73.13,73.14"
+        echo "band,4098,r,1000,,63.07,63.08"
+        echo "band,4098,r,2000,,38.14,38.15"
+        echo "band,4098,r,4000,,0.00,0.00"
+        echo "band,4098,r,8000,,0.00,0.00"
+    } > "$room/screened"
+    expect "16,384 sides" 1 "$room/screened" "" "$program" --bands < "$room/sides"
+}
+
 try_memory() {
     input=$room/zones
     with_room "$program"
@@ -90,13 +109,26 @@ try_memory() {
     judge "words without memory" $? 5 "$room/nothing" "no memory"
 }
 
-# Inputs: many rows; the limit, and one byte more; much memory.
+# Inputs: many rows; the limit, and one byte more; many sides; much memory.
 {
     echo '{"do":"grid","name":"g","x":0,"y":0,"step":1000,"columns":64,"rows":64,"h":4000}'
     yes '{"do":"settle"}' | head -n 20
 } > "$room/many"
 yes "$(printf '%65535s' '')" | head -n 1024 > "$room/full"
 { cat "$room/full"; printf ' '; } > "$room/over"
+{
+    echo '{"do":"source","name":"s","kind":"other","x":-2000000,"y":0,"h":1,"lw":[16000,16000,16000,16000,16000,16000,16000,16000],"dc":2000}'
+    echo '{"do":"receiver","name":"r","x":1999999,"y":3,"h":100000}'
+    awk 'BEGIN {
+        for (i = 0; i < 4096; i++) {
+            x = i % 64 * 125000 - 4000000
+            y = int(i / 64) * 125000 - 4000000 + i % 7
+            printf "{\"do\":\"barrier\",\"name\":\"w%d\",\"points\":[[%d,%d],[%d,%d],[%d,%d],[%d,%d],[%d,%d]],\"h\":%d,\"density\":10}\n", i, x, y, x + 90000, y + 100000, x + 120000, y, x + 100000, y + 124000, x + 60000, y + 124000, 100000 - i % 64 * 997
+        }
+    }'
+    echo '{"do":"barrier","name":"more","points":[[0,0],[1,0]],"h":1,"density":10}'
+    echo '{"do":"settle"}'
+} > "$room/sides"
 points=$(seq 1 1023 | sed 's/.*/[&,&],/' | tr -d '\n')
 for number in $(seq 1 100); do
     echo "{\"do\":\"zone\",\"name\":\"z$number\",\"points\":[${points}[0,1000]],\"g\":50}"
@@ -109,6 +141,7 @@ for program in "$@"; do
     try_examples
     try_words
     try_ends
+    try_screens
     try_memory
 done
 echo "program: $passed passed, $failed failed"

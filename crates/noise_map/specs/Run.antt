@@ -73,10 +73,10 @@ settle_rows bands version book =
 
 -- ---- edits
 
--- what the calculation doesn't have yet: barriers, buildings and the meteorological correction
+-- what the calculation doesn't have yet: barriers and buildings that reflect, and the meteorological correction
 abbrev pub is_unbuilt_part : Part → Bool
 is_unbuilt_part (parts.Source source) = false
-is_unbuilt_part (parts.Obstacle obstacle) = true
+is_unbuilt_part (parts.Obstacle obstacle) = nat_lt 0 obstacle.rho
 is_unbuilt_part (parts.Zone zone) = false
 is_unbuilt_part (parts.Receiver receiver) = false
 

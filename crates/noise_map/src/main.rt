@@ -16,6 +16,8 @@ mod stopped;
 #[cfg(test)]
 mod test_rows;
 #[cfg(test)]
+mod test_screens;
+#[cfg(test)]
 mod tests;
 mod texts;
 mod unbuilt;

@@ -5,8 +5,10 @@ use std::alloc::Global;
 use std::process::Abort;
 use std::test::Fail;
 
-/// Whole runs: what each shows, whether the rows of bands are asked for, the input, and the rows and the status expected.
-const RUNS: [(&str, bool, &str, &str, Status); 35] = [
+/// A whole run: what it shows, whether the rows of bands are asked for, the input, and the rows and the status expected.
+pub(crate) type Run = (&'static str, bool, &'static str, &'static str, Status);
+
+const RUNS: [Run; 35] = [
     ("nothing", false, "", "", Status::Done),
     (
         "one source",
@@ -214,7 +216,7 @@ const RUNS: [(&str, bool, &str, &str, Status); 35] = [
     (
         "not built",
         false,
-        "{\"do\":\"source\",\"name\":\"s\",\"kind\":\"industry\",\"x\":0,\"y\":0,\"h\":2000,\"lw\":[null,null,null,null,10000,null,null,null]}\n{\"do\":\"receiver\",\"name\":\"r\",\"x\":100000,\"y\":0,\"h\":2000}\n{\"do\":\"look\"}\n{\"do\":\"barrier\",\"name\":\"s\",\"points\":[[0,0],[1000,0]],\"h\":4000,\"density\":10}\n{\"do\":\"building\",\"name\":\"b\",\"points\":[[0,0],[1000,0],[1000,1000]],\"h\":4000,\"rho\":201}\n{\"do\":\"set\",\"c0\":1}\n{\"do\":\"set\",\"reach\":1,\"c0\":1}\n{\"do\":\"set\",\"c0\":0,\"reach\":100000}\n{\"do\":\"zone\",\"name\":\"s\",\"points\":[[-50000,-50000],[150000,-50000],[150000,50000],[-50000,50000]],\"g\":100}\n{\"do\":\"zone\",\"name\":\"z\",\"points\":[[-50000,-50000],[150000,-50000],[150000,50000],[-50000,50000]],\"g\":100}\n{\"do\":\"set\",\"g\":1}\n{\"do\":\"set\",\"g\":0}\n{\"do\":\"settle\"}\n",
+        "{\"do\":\"source\",\"name\":\"s\",\"kind\":\"industry\",\"x\":0,\"y\":0,\"h\":2000,\"lw\":[null,null,null,null,10000,null,null,null]}\n{\"do\":\"receiver\",\"name\":\"r\",\"x\":100000,\"y\":0,\"h\":2000}\n{\"do\":\"look\"}\n{\"do\":\"barrier\",\"name\":\"s\",\"points\":[[0,0],[1000,0]],\"h\":4000,\"density\":10,\"rho\":500}\n{\"do\":\"building\",\"name\":\"b\",\"points\":[[0,0],[1000,0],[1000,1000]],\"h\":4000,\"rho\":201}\n{\"do\":\"set\",\"c0\":1}\n{\"do\":\"set\",\"reach\":1,\"c0\":1}\n{\"do\":\"set\",\"c0\":0,\"reach\":100000}\n{\"do\":\"zone\",\"name\":\"s\",\"points\":[[-50000,-50000],[150000,-50000],[150000,50000],[-50000,50000]],\"g\":100}\n{\"do\":\"zone\",\"name\":\"z\",\"points\":[[-50000,-50000],[150000,-50000],[150000,50000],[-50000,50000]],\"g\":100}\n{\"do\":\"set\",\"g\":1}\n{\"do\":\"set\",\"g\":0}\n{\"do\":\"settle\"}\n",
         "refused,2,3,NotBuilt,,,\nrefused,2,4,NotBuilt,,,\nrefused,2,5,NotBuilt,,,\nrefused,2,6,NotBuilt,,,\nrefused,2,7,NotBuilt,,,\nrefused,3,9,OtherClass,s,source,\nsettle,6,1,,,,\nrow,6,r,current,,48.39,48.40\n",
         Status::SomeRefused,
     ),
@@ -249,11 +251,7 @@ const RUNS: [(&str, bool, &str, &str, Status); 35] = [
 ];
 
 /// Each of these runs writes its rows and ends with its status.
-fn write_their_rows(
-    rt: &impl Abort,
-    alloc: Global,
-    runs: &[(&str, bool, &str, &str, Status)],
-) -> Result<(), Fail> {
+pub(crate) fn write_their_rows(rt: &impl Abort, alloc: Global, runs: &[Run]) -> Result<(), Fail> {
     for (name, bands, input, rows, status) in runs {
         let (report, taken) = written(alloc, *bands, input.as_bytes(), 0, 0)?;
         assert_eq!(rt; report.status, *status, "{name}");

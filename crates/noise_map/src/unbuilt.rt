@@ -10,7 +10,7 @@ fn is_unbuilt_part(part: &Part) -> bool
 {
     match part {
         Part::Source(_) | Part::Zone(_) | Part::Receiver(_) => false,
-        Part::Obstacle(_) => true,
+        Part::Obstacle(obstacle) => obstacle.rho > 0,
     }
 }
 
@@ -20,7 +20,7 @@ fn is_unbuilt_setting(setting: &SetSpec) -> bool
     setting.c0.unwrap_or(0) > 0
 }
 
-/// Whether an edit asks for what the calculation doesn't have yet: barriers, buildings or the meteorological correction.
+/// Whether an edit asks for what the calculation doesn't have yet: reflecting walls or the meteorological correction.
 pub fn is_unbuilt(edit: &Edit) -> bool
     ensures { result ≡ is_unbuilt edit.now }
 {
