@@ -193,9 +193,3 @@ pub record IsSingle (path : Path) (d : Interval) (single : Single) : Type 0 wher
 pub record ArePrepared (path : Path) (d : Interval) (singles : List Single) (pairs : List Joined) : Type 0 where
   pub singles_are : All (IsSingle path d) singles
   pub pairs_are : Adds path d [] pairs (pairs_of (risen 0 (edges_in singles)))
-
--- a path, the edges that it passes, and how far source and receiver are apart
-pub record Passing : Type 0 where
-  pub path : Path
-  pub edges : List Edge
-  pub d : Interval

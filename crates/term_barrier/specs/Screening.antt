@@ -2,12 +2,19 @@
 -- passes.
 use Rattle.std.specs.Prelude.{List, [], ◌∷◌, ◌++◌, map, filter, flat_map, Bool, if◌then◌else◌, unwrap_or}
 use Rattle.std.specs.List.{reduce, list_any}
+use Rattle.fix_interval.specs.Interval.{Interval}
 use Rattle.fix_interval.specs.Tree.{Tree, Sub, Max, Pick}
 use Rattle.scene_geom.specs.declared.band.Band.{Band}
 use Rattle.path_shape.specs.declared.edge.Edge.{Edge}
 use Rattle.path_shape.specs.declared.path.Path.{Path}
 use Rattle.term_barrier.specs.Diffraction.{whole, attenuation, single_limit}
 use Rattle.term_barrier.specs.Edges.{single_argument, single_attenuation, pair_attenuation}
+
+-- a path, the edges that it passes, and how far source and receiver are apart
+pub record Passing : Type 0 where
+  pub path : Path
+  pub edges : List Edge
+  pub d : Interval
 
 -- ---- which edges count
 

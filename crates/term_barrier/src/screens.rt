@@ -29,7 +29,8 @@ pub struct Screens {
 }
 
 impl Model for Screens {
-    ghost use Rattle.term_barrier.specs.Prepared.{Passing, ArePrepared, edges_in};
+    ghost use Rattle.term_barrier.specs.Screening.{Passing};
+    ghost use Rattle.term_barrier.specs.Prepared.{ArePrepared, edges_in};
 
     ghost Value = { Passing };
 
@@ -55,7 +56,8 @@ impl Screens {
     }
 
     /// A_bar over the top in dB (ISO 9613-2, equation 12), in a band in which the obstacles of the marked edges are large
-    /// enough and the attenuation by the ground is `gr`; a mark for each edge, in their order. It is from 0 dB to 48 dB.
+    /// enough and the attenuation by the ground is `gr`; a mark for each edge, in their order. Where `gr` is from -16 dB to
+    /// 2^26 dB, it is from 0 dB to 48 dB.
     pub fn a_bar(&self, marks: &[bool], gr: Iv, band: Band) -> Iv
         ensures value { let s = self.now in result
             ≡ enc (screening s.path (Known s.path.dp) (marked marks.now s.edges) (Known s.d) (Known gr) band) }

@@ -35,8 +35,8 @@ pub fn d_z_top(path: &Path, edges: &[Edge], d: Iv, band: Band) -> Iv
 }
 
 /// A_bar over the top in dB (ISO 9613-2, equation 12), in a band in which the obstacles of all these edges are large
-/// enough and the attenuation by the ground is `gr`. Source and receiver are `d` apart, in metres. It is from 0 dB to
-/// 48 dB.
+/// enough and the attenuation by the ground is `gr`. Source and receiver are `d` apart, in metres. Where `gr` is from
+/// -16 dB to 2^26 dB, it is from 0 dB to 48 dB.
 pub fn a_bar(path: &Path, edges: &[Edge], d: Iv, gr: Iv, band: Band) -> Iv
     requires { All FitsEdge edges.now }
     ensures value { result
