@@ -8,3 +8,4 @@ pub mod Strings
 pub mod Listed
 pub mod Chains
 pub mod Blocked
+pub mod Length
