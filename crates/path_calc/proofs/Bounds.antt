@@ -20,15 +20,16 @@ use Rattle.scene_parts.specs.Ranges.{is_power}
 use Rattle.term_div_atm.specs.Terms.{divergence, absorption}
 use Rattle.term_div_atm.proofs.Ends.{divergence-between, absorption-between}
 use Rattle.term_barrier.specs.Limits.{IsDistance, IsGroundEffect, IsScreening}
-use Rattle.path_calc.specs.Contributions.{level_over}
+use Rattle.path_calc.specs.Contributions.{unscreened_level}
 use Rattle.path_calc.specs.Prepared.{IsEmission}
-use Rattle.path_calc.specs.Ranges.{IsPower, IsDirectivity, IsCorrection, IsWeight, IsAtReceiver, IsHearable}
+use Rattle.path_calc.specs.Ranges.{IsPower, IsDirectivity, IsCorrection, IsWeight, IsOnMap, IsUnscreened, IsAtReceiver, IsHearable}
+use Rattle.path_calc.specs.Hearing.{past}
 use Rattle.path_calc.specs.Levels.{IsLevel, IsLevelEnd}
 
 -- ---- constants
 
 -- a fraction lies between the ends of the bounds of its numerator
-ratio-between : (l h z lo hi : ℤ) (q : ℕ) → 0 < q → unsigned_abs z < 2 ^ 94 → l ≤ℤ z → z ≤ℤ h
+pub ratio-between : (l h z lo hi : ℤ) (q : ℕ) → 0 < q → unsigned_abs z < 2 ^ 94 → l ≤ℤ z → z ≤ℤ h
     → floor_of (l *ℤ pos unit) q ≡ lo → ceil_of (l *ℤ pos unit) q ≡ lo → floor_of (h *ℤ pos unit) q ≡ hi → ceil_of (h *ℤ pos unit) q ≡ hi
     → AreBetween lo hi (ratio_of z q)
 ratio-between l h z lo hi q positive small low high floor-low ceil-low floor-high ceil-high = rw (ratio_of-small z q small) (record {
@@ -68,12 +69,16 @@ unfolding sum_range
 emission-within p directivity hp hd =
     between _ _ {t = Add (Const p 100) (Known directivity)} (sum (part-between _ _ {t = Const p 100} (power-within p hp)) (part-between _ _ hd)) refl
 
-pub level-within : (emission d : Interval) (alpha10 : ℕ) (ground bar : Interval) → IsEmission emission → IsDistance d → alpha10 < 4096 → IsGroundEffect ground → IsScreening bar
-    → IsAtReceiver (enc (level_over (Known emission) (Known d) alpha10 (Known ground) (Known bar)))
+pub unscreened-within : (emission d : Interval) (alpha10 : ℕ) (ground : Interval) → IsEmission emission → IsDistance d → alpha10 < 4096 → IsGroundEffect ground
+    → IsUnscreened (enc (unscreened_level (Known emission) (Known d) alpha10 (Known ground)))
 unfolding sum_range neg_of
-level-within emission d alpha10 ground bar he hd few hg hb =
-    between _ _ {t = level_over (Known emission) (Known d) alpha10 (Known ground) (Known bar)}
-    (sum (sum (sum (sum (part-between _ _ he) (negation (part-between _ _ {t = divergence (Known d)} (divergence-between d hd)))) (negation (part-between _ _ {t = absorption (Known d) alpha10} (absorption-between d alpha10 few hd)))) (negation (part-between _ _ hg))) (negation (part-between _ _ hb))) refl
+unscreened-within emission d alpha10 ground he hd few hg =
+    between _ _ {t = unscreened_level (Known emission) (Known d) alpha10 (Known ground)}
+    (sum (sum (sum (part-between _ _ he) (negation (part-between _ _ {t = divergence (Known d)} (divergence-between d hd)))) (negation (part-between _ _ {t = absorption (Known d) alpha10} (absorption-between d alpha10 few hd)))) (negation (part-between _ _ hg))) refl
+
+pub past-within : (level screening : Interval) → IsUnscreened level → IsScreening screening → IsAtReceiver (enc (past level screening))
+unfolding sum_range neg_of
+past-within level screening h k = between _ _ {t = past level screening} (sum (part-between _ _ h) (negation (part-between _ _ k))) refl
 
 -- a level with the A-weight has an energy
 pub weighted-level : (level weight : Interval) → IsAtReceiver level → IsWeight weight → IsHearable (add_of level weight)
@@ -108,6 +113,16 @@ square-within : (n : ℕ) → n < 2 ^ 66 → AreBetween (pos 0) (pos (2 ^ 79)) (
 unfolding unit
 square-within n small =
     ratio-between (pos 0) (pos (2 ^ 47 * 1000000)) (pos n) _ _ 1000000 (lit< tt) (omega (arith, small)) (omega (arith, ints)) (omega (arith, ints, small)) refl refl refl refl
+
+near-square : (n : ℕ) → n < 2 ^ 48 → AreBetween (pos 0) (pos (2 ^ 61)) (ratio_of (pos n) 1000000)
+unfolding unit
+near-square n small =
+    ratio-between (pos 0) (pos (2 ^ 29 * 1000000)) (pos n) _ _ 1000000 (lit< tt) (omega (arith, small)) (omega (arith, ints)) (omega (arith, ints, small)) refl refl refl refl
+
+pub on-map : (n : ℕ) → n < 2 ^ 48 → IsOnMap (enc (Root (Const (pos n) 1000000)))
+unfolding unit root_limit root_range
+on-map n small =
+    between _ _ {t = Root (Const (pos n) 1000000)} (square_root (part-between _ _ {t = Const (pos n) 1000000} (near-square n small))) refl
 
 pub distance-bounded : (n : ℕ) → n < 2 ^ 66 → IsDistance (enc (Root (Const (pos n) 1000000)))
 unfolding unit root_limit root_range

@@ -47,6 +47,5 @@ from-fit ends i [] = All-nil Fits
 from-fit ends i (o ∷ obstacles) =
     All-append Fits (crossings_along ends i zero o (sides_of o)) (crossings_from ends (suc i) obstacles) (along-fit ends i zero o (sides_of o)) (from-fit ends (suc i) obstacles)
 
-pub edges-fit : (ends : Ends) (obstacles : List Obstacle) → All FitsEdge (map (λ (c : Crossing). c.edge) (crossings_of ends obstacles))
-edges-fit ends obstacles =
-    All-map FitsEdge (λ (c : Crossing). c.edge) (crossings_of ends obstacles) (from-fit ends zero obstacles)
+pub edges-fit : (ends : Ends) (obstacles : List Obstacle) → All Fits (crossings_of ends obstacles)
+edges-fit ends obstacles = from-fit ends zero obstacles

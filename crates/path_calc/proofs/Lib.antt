@@ -9,3 +9,6 @@ pub mod Showing
 pub mod SameScreening
 pub mod Screened
 pub mod Fitting
+pub mod Numbered
+pub mod Stretching
+pub mod Corners

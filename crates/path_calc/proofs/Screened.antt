@@ -1,6 +1,6 @@
 -- Edges on the direct path, and by how much it is screened.
-use Rattle.std.proofs.Common.{◌≡◌, ℕ, ◌<◌, Bool, true, false, List, [], ◌∷◌, ◌++◌, length, get_or, map, filter, Result, Ok, Err, refl, sym, ap, ◌∙◌}
-use Rattle.std.specs.Prelude.{◌||◌, IfOk}
+use Rattle.std.proofs.Common.{◌≡◌, ℕ, ◌<◌, Bool, true, false, List, [], ◌∷◌, ◌++◌, length, get_or, map, filter, refl, sym, ap, ◌∙◌}
+use Rattle.std.specs.Prelude.{◌||◌}
 use Rattle.std.specs.List.{list_any}
 use Rattle.std.proofs.lemmas.List.{get_or_default}
 use Rattle.fix_interval.specs.Interval.{Interval}
@@ -16,9 +16,8 @@ use Rattle.sight_cut.specs.declared.crossing.Crossing.{Crossing}
 use Rattle.sight_cut.specs.Cuts.{edges_of, edges_in, counts_in, screens_in, crossings_of, is_crossing_in}
 use Rattle.sight_cut.proofs.Edges.{crossings-are-edges}
 use Rattle.term_barrier.specs.Screening.{marked, screening}
-use Rattle.term_barrier.specs.Prepared.{Passing}
 use Rattle.path_calc.specs.Surroundings.{ends_of, edges_at, surroundings_of}
-use Rattle.path_calc.specs.Hearing.{sight_of, edges_among, bar_over, bars_over}
+use Rattle.path_calc.specs.Hearing.{edges_among, bar_over, bars_over}
 use Rattle.path_calc.specs.Laws.{EdgesAreCuts}
 use Rattle.path_calc.proofs.Eight.{at-place, map-same}
 
@@ -45,20 +44,13 @@ bar-is bar path marks edges d gr default ground i band crossings marks-are edges
     ∙ ap (λ (g : Interval). enc (screening path (Known path.dp) (edges_among band crossings) (Known d) (Known g) band)) known
 
 -- those of all crossings are those of the edges in the bands
-pub bars-are : {E : Type 0} (result : Result (List Interval) E) (screens : Passing) (path : Path) (d : Interval) (ground : List Interval) (crossings : List Crossing) (ends : Ends) (obstacles : List Obstacle)
-    → screens.path ≡ path → screens.d ≡ d → crossings ≡ crossings_of ends obstacles → ends ≡ sight_of path
-    → IfOk result (λ bars. bars ≡ bars_over screens.path (λ band. edges_among band crossings) screens.d ground)
-    → IfOk result (λ bars. bars ≡ bars_over path (λ band. edges_in band (sight_of path) obstacles) d ground)
-bars-are (Err fault) screens path d ground crossings ends obstacles path-is d-is crossings-are ends-are is = tt
-bars-are (Ok bars) screens path d ground crossings ends obstacles path-is d-is crossings-are ends-are is =
-    is
-    ∙ map-same (λ band. bar_over screens.path (edges_among band crossings) screens.d ground band) (λ band. bar_over path (edges_in band (sight_of path) obstacles) d ground band)
+pub bars-are : (path : Path) (d : Interval) (ground : List Interval) (crossings : List Crossing) (ends : Ends) (obstacles : List Obstacle) → crossings ≡ crossings_of ends obstacles
+    → bars_over path (λ band. edges_among band crossings) d ground ≡ bars_over path (λ band. edges_in band ends obstacles) d ground
+bars-are path d ground crossings ends obstacles crossings-are =
+    map-same (λ band. bar_over path (edges_among band crossings) d ground band) (λ band. bar_over path (edges_in band ends obstacles) d ground band)
     (λ band.
-    ap (λ (p : Path). bar_over p (edges_among band crossings) screens.d ground band) path-is
-    ∙ ap (λ (i : Interval). bar_over path (edges_among band crossings) i ground band) d-is
-    ∙ ap (λ (cs : List Crossing). bar_over path (edges_among band cs) d ground band) crossings-are
-    ∙ ap (λ (es : List Edge). bar_over path es d ground band) (crossings-are-edges band ends obstacles)
-    ∙ ap (λ (e : Ends). bar_over path (edges_in band e obstacles) d ground band) ends-are)
+    ap (λ (cs : List Crossing). bar_over path (edges_among band cs) d ground band) crossings-are
+    ∙ ap (λ (es : List Edge). bar_over path es d ground band) (crossings-are-edges band ends obstacles))
     all_bands
 
 -- ---- the edges that are read

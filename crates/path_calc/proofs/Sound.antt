@@ -8,11 +8,12 @@ use Rattle.scene_parts.specs.Views.{Source, Receiver, Zone, Globals}
 use Rattle.scene_book.specs.Book.{Book}
 use Rattle.path_shape.specs.Shape.{plan_length}
 use Rattle.term_ground.proofs.Sound.{ground-sound}
-use Rattle.term_barrier.specs.Laws.{ScreeningIsSound}
+use Rattle.term_barrier.specs.Laws.{ScreeningIsSound, SideAttenuationIsSound}
 use Rattle.scene_geom.specs.declared.band.Band.{Band}
 use Rattle.scene_geom.specs.Bands.{all_bands, place_of}
-use Rattle.path_calc.specs.Surroundings.{Surroundings, path_of, edges_at, surroundings_of}
-use Rattle.path_calc.specs.Contributions.{Counting, Always, WhereGreater, Contribution, power_in, emission, ground_in, screening_in, sounds_of, contributions}
+use Rattle.path_calc.specs.LateralPaths.{LateralPath}
+use Rattle.path_calc.specs.Surroundings.{Surroundings, path_of, edges_at, laterals_at, surroundings_of}
+use Rattle.path_calc.specs.Contributions.{Counting, Always, WhereGreater, Contribution, power_in, emission, ground_in, screening_in, sound_past, lateral_sound, leading, sounds_of, contributions}
 use Rattle.path_calc.specs.Lengths.{distance}
 use Rattle.path_calc.specs.Energies.{where_counting, weighted, energy_of, long_energy_of, band_energy, long_energy_in, long_energy, band_energy_between, long_energy_between}
 use Rattle.path_calc.specs.Show.{sources_within, total_form, band_form}
@@ -58,18 +59,37 @@ sound-screening_in sound globals around s r band =
     sound (path_of s r) (plan_length s.at r.at) (edges_at band around) (distance s.at s.h r.at r.h) (ground_in around.zones globals.g s r band) band
     (lit< tt) (lit< tt) (sound-ground around.zones globals.g s r band)
 
-sound-sounds : ScreeningIsSound → (globals : Globals) (around : Surroundings) (s : Source) (r : Receiver) (band : Band) (power : Option ℤ) → AllSound (sounds_of globals around s r band (option_map (λ power. emission power s.dc) power))
-unfolding AllSound CountsSoundly
-sound-sounds sound globals around s r band None = tt
-sound-sounds sound globals around s r band (Some power) = (
-  record {
-    level = (((((lit< tt, lit< tt), ((lit< tt, (lit< tt, lit< tt)), lit< tt)), (((lit< tt, lit< tt), lit< tt), lit< tt)), sound-ground around.zones globals.g s r band), sound-screening_in sound globals around s r band);
-    counts = tt;
-  },
-  tt,
+sound-one : (globals : Globals) (around : Surroundings) (s : Source) (r : Receiver) (band : Band) (power : ℤ) (screening : Tree) → IsSound screening
+    → IsSoundOne (sound_past globals around s r band (emission power s.dc) screening)
+unfolding CountsSoundly
+sound-one globals around s r band power screening h = record {
+  level = (((((lit< tt, lit< tt), ((lit< tt, (lit< tt, lit< tt)), lit< tt)), (((lit< tt, lit< tt), lit< tt), lit< tt)), sound-ground around.zones globals.g s r band), h);
+  counts = tt;
+}
+
+sound-laterals : SideAttenuationIsSound → (globals : Globals) (around : Surroundings) (s : Source) (r : Receiver) (band : Band) (power : ℤ) (paths : List LateralPath)
+    → AllSound (map (lateral_sound globals around s r band (emission power s.dc)) paths)
+unfolding AllSound
+sound-laterals round globals around s r band power [] = tt
+sound-laterals round globals around s r band power (path ∷ paths) = (
+  sound-one globals around s r band power _ (round s.at s.h r.at r.h path.corners (distance s.at s.h r.at r.h) band (lit< tt)),
+  sound-laterals round globals around s r band power paths,
 )
 
-sound-contributions : ScreeningIsSound → (globals : Globals) (around : Surroundings) (s : Source) (r : Receiver) (band : Band) → AllSound (contributions globals around s r band)
+-- screening is sound, over the top and round the sides
+pub record AreSound : Type 0 where
+  pub over : ScreeningIsSound
+  pub round : SideAttenuationIsSound
+
+sound-sounds : AreSound → (globals : Globals) (around : Surroundings) (s : Source) (r : Receiver) (band : Band) (power : Option ℤ) → AllSound (sounds_of globals around s r band (option_map (λ power. emission power s.dc) power))
+unfolding AllSound
+sound-sounds sound globals around s r band None = tt
+sound-sounds sound globals around s r band (Some power) = (
+  sound-one globals around s r band power _ (sound-screening_in sound.over globals around s r band),
+  sound-laterals sound.round globals around s r band power (leading (laterals_at band around)),
+)
+
+sound-contributions : AreSound → (globals : Globals) (around : Surroundings) (s : Source) (r : Receiver) (band : Band) → AllSound (contributions globals around s r band)
 sound-contributions sound globals around s r band = sound-sounds sound globals around s r band (power_in band s)
 
 -- ---- energies
@@ -78,28 +98,28 @@ sound-each : {X : Type 0} (f : X → Tree) → ((x : X) → IsSound (f x)) → (
 sound-each f each total h [] = h
 sound-each f each total h (x ∷ xs) = sound-each f each (Add total (f x)) (h, each x) xs
 
-pub sound-band : ScreeningIsSound → (globals : Globals) (around : Surroundings) (s : Source) (r : Receiver) (band : Band) → IsSound (band_energy globals around s r band)
+pub sound-band : AreSound → (globals : Globals) (around : Surroundings) (s : Source) (r : Receiver) (band : Band) → IsSound (band_energy globals around s r band)
 unfolding band_energy
 sound-band sound globals around s r band =
     sound-all energy_of sound-energy (Const (pos 0) 1) (lit< tt) (contributions globals around s r band) (sound-contributions sound globals around s r band)
 
-sound-long_in : ScreeningIsSound → (globals : Globals) (around : Surroundings) (s : Source) (r : Receiver) (band : Band) → IsSound (long_energy_in globals around s r band)
+sound-long_in : AreSound → (globals : Globals) (around : Surroundings) (s : Source) (r : Receiver) (band : Band) → IsSound (long_energy_in globals around s r band)
 sound-long_in sound globals around s r band =
     sound-all (long_energy_of band) (sound-long_energy band) (Const (pos 0) 1) (lit< tt) (contributions globals around s r band) (sound-contributions sound globals around s r band)
 
-pub sound-long : ScreeningIsSound → (globals : Globals) (around : Surroundings) (s : Source) (r : Receiver) → IsSound (long_energy globals around s r)
+pub sound-long : AreSound → (globals : Globals) (around : Surroundings) (s : Source) (r : Receiver) → IsSound (long_energy globals around s r)
 unfolding long_energy
 sound-long sound globals around s r =
     sound-each (long_energy_in globals around s r) (sound-long_in sound globals around s r) (Const (pos 0) 1) (lit< tt) all_bands
 
 -- ---- levels
 
-pub sound-total : ScreeningIsSound → (book : Book) (r : Receiver) → IsSound (total_form book r)
+pub sound-total : AreSound → (book : Book) (r : Receiver) → IsSound (total_form book r)
 unfolding total_form
 sound-total sound book r =
     (lit< tt, (lit< tt, sound-each (λ s. long_energy_between book s r) (λ s. sound-long sound book.globals (surroundings_of book s r) s r) (Const (pos 0) 1) (lit< tt) (sources_within book r)))
 
-pub sound-level : ScreeningIsSound → (book : Book) (r : Receiver) (band : Band) → IsSound (band_form book r band)
+pub sound-level : AreSound → (book : Book) (r : Receiver) (band : Band) → IsSound (band_form book r band)
 unfolding band_form
 sound-level sound book r band =
     (lit< tt, (lit< tt, sound-each (λ s. band_energy_between book s r band) (λ s. sound-band sound book.globals (surroundings_of book s r) s r band) (Const (pos 0) 1) (lit< tt) (sources_within book r)))

@@ -13,7 +13,10 @@ use Rattle.fix_interval.specs.Tree.{Tree, Known, Const, Add, enc}
 use Rattle.fix_interval.proofs.Ratios.{ratio_of-one, ratio_of-small}
 use Rattle.fix_interval.proofs.Multiplying.{end_of-small}
 use Rattle.energy_sum.specs.Sums.{units_of}
+use Rattle.std.specs.Option.{option_map}
 use Rattle.path_calc.specs.Energies.{sum_form}
+use Rattle.path_calc.specs.Strings.{listed}
+use Rattle.path_calc.specs.Hearing.{with_energy}
 use Rattle.path_calc.specs.Bundles.{IsEnergy, energy_limit, few_bundles}
 use Rattle.path_calc.specs.Ranges.{IsSumOf, sound_limit}
 
@@ -85,6 +88,14 @@ sum-bounded m n (Some x) (Some y) few p q =
 pub sums-added : (a b : Interval) (m n : ℕ) → m + n < 2 ^ 18 → IsSumOf m a → IsSumOf n b → IsSumOf (m + n) (add_of a b)
 unfolding add_of
 sums-added a b m n few p q = record { lo = sum-bounded m n a.lo b.lo few p.lo q.lo; hi = sum-bounded m n a.hi b.hi few p.hi q.hi }
+
+-- a sum of fewer is one of more
+more-end : (n : ℕ) (end : Option ℤ) → IsBetween (pos 0) (pos (n * sound_limit)) end → IsBetween (pos 0) (pos ((n + 1) * sound_limit)) end
+more-end n None h = absurd h
+more-end n (Some z) h = (h.0, omega (arith, ints, h.1))
+
+pub more-sounds : (n : ℕ) (e : Interval) → IsSumOf n e → IsSumOf (n + 1) e
+more-sounds n e h = record { lo = more-end n e.lo h.lo; hi = more-end n e.hi h.hi }
 
 -- ---- sums of lists
 
@@ -158,3 +169,25 @@ room f xs i x before e below item is e-is energy (inl few) = omega (arith, units
 room f xs i x before e below item is e-is energy (inr fits) =
     let value : units_of e.hi ≡ units_of (f (get_or xs i x)).hi = ap (λ (j : Interval). units_of j.hi) e-is ∙ ap (λ y. units_of (f y).hi) item in
     omega (arith, is.items, value, sum_by_more_le (λ x. units_of (f x).hi) xs i x below, fits)
+
+-- the interval of a sum is that of another whose items have the same intervals, as they come of the intervals of some
+-- formulas and of the formulas themselves
+sums-from : (f : Interval → Tree) (g : Tree → Tree) → ((t : Tree) → enc (f (enc t)) ≡ enc (g t)) → (x y : Tree) → enc x ≡ enc y → (ts : List Tree)
+    → enc (fold Add x (map f (map enc ts))) ≡ enc (fold Add y (map g ts))
+sums-from f g same x y e [] = e
+sums-from f g same x y e (t ∷ ts) =
+    sums-from f g same (Add x (f (enc t))) (Add y (g t)) (ap (λ (i : Interval). add_of i (enc (f (enc t)))) e ∙ ap (add_of (enc y)) (same t)) ts
+
+pub same-sums : (f : Interval → Tree) (g : Tree → Tree) → ((t : Tree) → enc (f (enc t)) ≡ enc (g t)) → (ts : List Tree)
+    → enc (sum_form (map f (map enc ts))) ≡ enc (sum_form (map g ts))
+same-sums f g same ts = sums-from f g same (Const (pos 0) 1) (Const (pos 0) 1) refl ts
+
+-- the sum of the energies of one sound, and of more where there are more
+pub sound-and-more : (f : Interval → Tree) (over : Interval) (left right : Option Interval) (e : Interval) → IsSumOf 1 (enc (f over))
+    → e ≡ with_energy (with_energy (enc (f over)) (option_map (λ i. enc (f i)) left)) (option_map (λ i. enc (f i)) right)
+    → e ≡ enc (sum_form (map f (over ∷ (listed left ++ listed right))))
+sound-and-more f over None None e h is = is ∙ sym (nothing-and-energy (enc (f over)) h)
+sound-and-more f over None (Some r) e h is = is ∙ ap (λ (i : Interval). add_of i (enc (f r))) (sym (nothing-and-energy (enc (f over)) h))
+sound-and-more f over (Some l) None e h is = is ∙ ap (λ (i : Interval). add_of i (enc (f l))) (sym (nothing-and-energy (enc (f over)) h))
+sound-and-more f over (Some l) (Some r) e h is =
+    is ∙ ap (λ (i : Interval). add_of (add_of i (enc (f l))) (enc (f r))) (sym (nothing-and-energy (enc (f over)) h))

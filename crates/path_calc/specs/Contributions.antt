@@ -1,5 +1,5 @@
 -- The sounds that come from a source to a receiver in a band, each with its level (ISO 9613-2, clause 6).
-use Rattle.std.specs.Prelude.{ℕ, ℤ, pos, List, [], ◌∷◌, Option, Some, None, slice_index_or}
+use Rattle.std.specs.Prelude.{ℕ, ℤ, pos, List, [], ◌∷◌, map, filter, Option, Some, None, slice_index_or}
 use Rattle.std.specs.Option.{option_map}
 use Rattle.fix_interval.specs.Tree.{Tree, Const, Add, Sub}
 use Rattle.scene_parts.specs.Views.{Source, Receiver, Zone, Globals}
@@ -8,11 +8,13 @@ use Rattle.path_shape.specs.declared.edge.Edge.{Edge}
 use Rattle.term_div_atm.specs.Terms.{divergence, absorption}
 use Rattle.term_ground.specs.Ground.{ground}
 use Rattle.term_barrier.specs.Screening.{screening}
+use Rattle.term_barrier.specs.Lateral.{side_attenuation}
 use Rattle.scene_geom.specs.declared.band.Band.{Band}
 use Rattle.scene_geom.specs.Bands.{place_of}
 use Rattle.path_calc.specs.Absorption.{coefficient_in}
 use Rattle.path_calc.specs.Lengths.{distance}
-use Rattle.path_calc.specs.Surroundings.{Surroundings, path_of, edges_at}
+use Rattle.path_calc.specs.LateralPaths.{LateralPath}
+use Rattle.path_calc.specs.Surroundings.{Surroundings, path_of, edges_at, laterals_at}
 
 -- when a sound counts: always, or where one quantity is greater than another (as in condition (19) of a reflection)
 pub data Counting : Type 0 where
@@ -51,28 +53,48 @@ abbrev pub screening_in : List Edge → Source → Receiver → Tree → Band �
 screening_in edges s r gr band =
     screening (path_of s r) (plan_length s.at r.at) edges (distance s.at s.h r.at r.h) gr band
 
--- L_W + D_c - A_div - A_atm - A_gr - A_bar (equations 3 and 4), over a distance d in metres and with the coefficient of
--- the air in 0.1 dB/km
-abbrev pub level_over : Tree → Tree → ℕ → Tree → Tree → Tree
-level_over emission d alpha10 gr bar =
-    Sub (Sub (Sub (Sub emission (divergence d)) (absorption d alpha10)) gr) bar
+-- D_z round the side along a lateral path in a band
+abbrev pub lateral_screening_in : LateralPath → Source → Receiver → Band → Tree
+lateral_screening_in path s r band =
+    side_attenuation s.at s.h r.at r.h path.corners (distance s.at s.h r.at r.h) band
 
--- the sound of the direct path, which leads over the top of what screens it
-abbrev pub direct_sound : Globals → Surroundings → Source → Receiver → Band → Tree → Contribution
-direct_sound globals around s r band emission = record {
+-- L_W + D_c - A_div - A_atm - A_gr (equations 3 and 4), over a distance d in metres and with the coefficient of the air
+-- in 0.1 dB/km: the level of a sound before what screens it is taken off
+abbrev pub unscreened_level : Tree → Tree → ℕ → Tree → Tree
+unscreened_level emission d alpha10 gr = Sub (Sub (Sub emission (divergence d)) (absorption d alpha10)) gr
+
+-- a sound with the divergence, the air and the ground of the direct path, less an attenuation by screening
+abbrev pub sound_past : Globals → Surroundings → Source → Receiver → Band → Tree → Tree → Contribution
+sound_past globals around s r band emission screening = record {
   level =
       let d = distance s.at s.h r.at r.h in
       let gr = ground_in around.zones globals.g s r band in
-      let bar = screening_in (edges_at band around) s r gr band in
-      level_over emission d (coefficient_in globals.air band) gr bar;
+      Sub (unscreened_level emission d (coefficient_in globals.air band) gr) screening;
   dp = plan_length s.at r.at;
   counts = Always;
 }
 
--- all sounds of what a source emits; none where it has no power
+-- the sound of the direct path, which leads over the top of what screens it: with A_bar (equation 12)
+abbrev pub direct_sound : Globals → Surroundings → Source → Receiver → Band → Tree → Contribution
+direct_sound globals around s r band emission =
+    let gr = ground_in around.zones globals.g s r band in
+    sound_past globals around s r band emission (screening_in (edges_at band around) s r gr band)
+
+-- the sound of a lateral path: with D_z in place of A_bar (equation 13)
+abbrev pub lateral_sound : Globals → Surroundings → Source → Receiver → Band → Tree → LateralPath → Contribution
+lateral_sound globals around s r band emission path =
+    sound_past globals around s r band emission (lateral_screening_in path s r band)
+
+-- the lateral paths along which sound goes
+abbrev pub leading : List LateralPath → List LateralPath
+leading paths = filter (λ path. path.leads) paths
+
+-- all sounds of what a source emits: the direct one, then those round the left and the right; none where no power is
 abbrev pub sounds_of : Globals → Surroundings → Source → Receiver → Band → Option Tree → List Contribution
 sounds_of globals around s r band None = []
-sounds_of globals around s r band (Some emission) = direct_sound globals around s r band emission ∷ []
+sounds_of globals around s r band (Some emission) =
+    direct_sound globals around s r band emission
+    ∷ map (lateral_sound globals around s r band emission) (leading (laterals_at band around))
 
 -- all sounds that come from a source to a receiver in a band
 abbrev pub contributions : Globals → Surroundings → Source → Receiver → Band → List Contribution

@@ -1,6 +1,7 @@
 pub mod Weights
 pub mod Absorption
 pub mod Lengths
+pub mod LateralPaths
 pub mod Surroundings
 pub mod Contributions
 pub mod Energies
@@ -9,5 +10,6 @@ pub mod Levels
 pub mod Show
 pub mod Laws
 pub mod Prepared
+pub mod Strings
 pub mod Ranges
 pub mod Hearing

@@ -1,10 +1,14 @@
 -- Between which bounds the quantities of a path lie.
-use Rattle.std.specs.Prelude.{◌≡◌, ℕ, ◌*◌, ◌^◌, ℤ, pos, neg_ℤ, ◌≤ℤ◌, All, length}
+use Rattle.std.specs.Prelude.{◌≡◌, ℕ, ◌-◌, ◌*◌, ◌^◌, ℤ, pos, neg_ℤ, ◌≤ℤ◌, ◌≤◌, List, All, IfSome, length}
 use Rattle.fix_interval.specs.Interval.{Interval}
 use Rattle.fix_interval.specs.Bounds.{AreBetween}
 use Rattle.fix_interval.specs.Tree.{Known, enc}
 use Rattle.term_div_atm.specs.Terms.{divergence}
 use Rattle.term_barrier.specs.Limits.{IsDistance, IsGroundEffect, IsScreening}
+use Rattle.scene_geom.specs.declared.plan.Pt.{Pt}
+use Rattle.edge_chain.specs.Laws.{way_along_axes}
+use Rattle.path_calc.specs.declared.lateral.LateralScreening.{LateralScreening}
+use Rattle.path_calc.specs.declared.lateral.LateralBands.{LateralBands}
 use Rattle.path_calc.specs.declared.propagation.Propagation.{Propagation}
 
 -- a sound power level and a directivity correction in range, in 0.01 dB
@@ -23,6 +27,25 @@ IsCorrection correction = AreBetween (neg_ℤ (pos (30 * 2 ^ 32))) (pos (20 * 2 
 abbrev pub IsWeight : Interval → Type 0
 IsWeight weight = AreBetween (neg_ℤ (pos (30 * 2 ^ 32))) (pos (2 * 2 ^ 32)) weight
 
+-- a distance of at most 2^15 m, which is more than between any two places of the map
+abbrev pub IsOnMap : Interval → Type 0
+IsOnMap distance = AreBetween (pos 0) (pos (2 ^ 47)) distance
+
+-- corners that lead no farther than a chain does, in mm
+abbrev pub IsShort : List Pt → Type 0
+IsShort corners = way_along_axes corners ≤ 48000000
+
+-- an attenuation by screening round each side, where sound goes there: in a band, and in all bands
+pub record IsLateralScreening (lateral : LateralScreening) : Type 0 where
+  pub left : IfSome lateral.left IsScreening
+  pub right : IfSome lateral.right IsScreening
+
+pub record AreLateralScreenings (lateral : LateralBands) : Type 0 where
+  pub left : All (λ i. IfSome i IsScreening) lateral.left
+  pub left_bands : length lateral.left ≡ 8
+  pub right : All (λ i. IfSome i IsScreening) lateral.right
+  pub right_bands : length lateral.right ≡ 8
+
 -- the divergence at the distance, and the attenuations by the ground and by screening in each band
 pub record IsPropagation (propagation : Propagation) : Type 0 where
   pub distance : IsDistance propagation.distance
@@ -31,8 +54,15 @@ pub record IsPropagation (propagation : Propagation) : Type 0 where
   pub bands : length propagation.ground ≡ 8
   pub screening : All IsScreening propagation.screening
   pub screened_bands : length propagation.screening ≡ 8
+  pub left : All (λ i. IfSome i IsScreening) propagation.left
+  pub left_bands : length propagation.left ≡ 8
+  pub right : All (λ i. IfSome i IsScreening) propagation.right
+  pub right_bands : length propagation.right ≡ 8
 
--- a level at a receiver, and one of which there is an energy, at most 185 dB and 189 dB
+-- a level before screening and one at a receiver, at most 185 dB, and one of which there is an energy, at most 189 dB
+abbrev pub IsUnscreened : Interval → Type 0
+IsUnscreened level = AreBetween (neg_ℤ (pos (2 ^ 60 - 48 * 2 ^ 32))) (pos (185 * 2 ^ 32)) level
+
 abbrev pub IsAtReceiver : Interval → Type 0
 IsAtReceiver level = AreBetween (neg_ℤ (pos (2 ^ 60))) (pos (185 * 2 ^ 32)) level
 

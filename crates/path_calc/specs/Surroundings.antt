@@ -11,12 +11,15 @@ use Rattle.path_shape.specs.declared.edge.Edge.{Edge}
 use Rattle.sight_cut.specs.declared.ends.Ends.{Ends}
 use Rattle.sight_cut.specs.Cuts.{edges_in}
 use Rattle.term_ground.specs.Zones.{met_zones}
+use Rattle.path_calc.specs.LateralPaths.{LateralPath, lateral_paths_round}
 
 pub record Surroundings : Type 0 where
   -- the zones of ground that the direct path meets
   pub zones : List Zone
   -- for each band the edges on the direct path, of the obstacles that are large enough in it
   pub edges : List (List Edge)
+  -- for each band the paths round the sides of the obstacles that screen in it
+  pub laterals : List (List LateralPath)
 
 -- the direct path from a source to a receiver, and the ends of the line of sight between them
 abbrev pub path_of : Source → Receiver → Path
@@ -41,9 +44,14 @@ edges_on ends obstacles = map (λ band. edges_in band ends obstacles) all_bands
 abbrev pub edges_at : Band → Surroundings → List Edge
 edges_at band around = slice_index_or around.edges (place_of band) []
 
+-- the lateral paths in a band
+abbrev pub laterals_at : Band → Surroundings → List LateralPath
+laterals_at band around = slice_index_or around.laterals (place_of band) []
+
 -- what a source and a receiver read of the parts of a scene
 abbrev pub surroundings_of : Book → Source → Receiver → Surroundings
 surroundings_of book s r = record {
   zones = zones_on (path_of s r) book.zones;
   edges = edges_on (ends_of s r) book.obstacles;
+  laterals = lateral_paths_round (ends_of s r) book.obstacles;
 }

@@ -39,8 +39,8 @@ pub(crate) fn path_energies(
         ≡ (bundle_of scene.now source.now receiver.now).energy) }
     ensures long { IfOk result (λ energies. energies.long
         ≡ (bundle_of scene.now source.now receiver.now).long) }
-    ensures bands_bounds { IfOk result (λ energies. All (IsSumOf 1) energies.bands) }
-    ensures long_bounds { IfOk result (λ energies. IsSumOf 8 energies.long) }
+    ensures bands_bounds { IfOk result (λ energies. All (IsSumOf 3) energies.bands) }
+    ensures long_bounds { IfOk result (λ energies. IsSumOf 24 energies.long) }
 {
     let path = direct(alloc, scene, source, from, receiver, to)?;
     let heard = heard(&path, from);
@@ -57,8 +57,8 @@ fn heard(propagation: &Propagation, source: &PreparedSource) -> [Heard; 8]
         ≡ map (energy_after propagation.now source.now) all_bands }
     ensures longs { map (λ h. h.long) result
         ≡ map (long_energy_after propagation.now source.now) all_bands }
-    ensures energy_bounds { All (λ h. IsSumOf 1 h.energy) result }
-    ensures long_bounds { All (λ h. IsSumOf 1 h.long) result }
+    ensures energy_bounds { All (λ h. IsSumOf 3 h.energy) result }
+    ensures long_bounds { All (λ h. IsSumOf 3 h.long) result }
 {
     [
         heard_in(propagation, source, Band::Hz63),
@@ -90,9 +90,9 @@ fn bands_of(heard: &[Heard; 8]) -> [Iv; 8]
 
 /// The sum of long-term energies.
 fn long_sum(bands: &[Heard; 8]) -> Iv
-    requires { All (λ h. IsSumOf 1 h.long) bands.now }
+    requires { All (λ h. IsSumOf 3 h.long) bands.now }
     ensures value { result ≡ enc (sum_form (map (λ h. Known h.long) bands.now)) }
-    ensures bounds { IsSumOf 8 result }
+    ensures bounds { IsSumOf 24 result }
 {
     let mut sum = exact(0);
     for heard in bands {

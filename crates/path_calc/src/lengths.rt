@@ -6,6 +6,7 @@ ghost use Rattle.fix_interval.specs.Tree.{enc};
 ghost use Rattle.path_shape.specs.Shape as shape;
 ghost use Rattle.path_calc.specs.Lengths as lengths;
 ghost use Rattle.term_barrier.specs.Limits.{IsDistance};
+ghost use Rattle.path_calc.specs.Ranges.{IsOnMap};
 
 use fix_interval::{Iv, ratio, root};
 use scene_geom::Pt;
@@ -41,7 +42,7 @@ fn space_square(s: Pt, hs: u32, r: Pt, hr: u32) -> u64
     requires source_height { IsHeight hs }
     requires receiver_height { IsHeight hr }
     ensures value { result ≡ lengths.space_square s hs r hr }
-    ensures bound { result < 2 ^ 66 }
+    ensures bound { result < 2 ^ 48 }
 {
     plan_square(s, r) + square(hs.abs_diff(hr))
 }
@@ -51,17 +52,18 @@ fn root_of_square(s: Pt, hs: u32, r: Pt, hr: u32) -> Iv
     requires source_height { IsHeight hs }
     requires receiver_height { IsHeight hr }
     ensures value { result ≡ enc (lengths.distance s hs r hr) }
-    ensures small { lengths.space_square s hs r hr < 2 ^ 66 }
+    ensures small { lengths.space_square s hs r hr < 2 ^ 48 }
 {
     root(ratio(space_square(s, hs, r, hr) as i128, 1_000_000))
 }
 
-/// The distance d in metres between two points at heights in mm, at most 2^28 m.
+/// The distance d in metres between two points at heights in mm, at most 2^15 m.
 pub(crate) fn distance(s: Pt, hs: u32, r: Pt, hr: u32) -> Iv
     requires source_height { IsHeight hs }
     requires receiver_height { IsHeight hr }
     ensures value { result ≡ enc (lengths.distance s hs r hr) }
     ensures bounds { IsDistance result }
+    ensures near { IsOnMap result }
 {
     root_of_square(s, hs, r, hr)
 }

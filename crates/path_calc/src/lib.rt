@@ -8,6 +8,7 @@ mod bundles;
 mod calculation;
 mod energies;
 mod hearing;
+mod lateral;
 pub mod laws;
 mod lengths;
 mod numbers;
@@ -15,7 +16,9 @@ mod prepared;
 mod propagation;
 mod results;
 mod screening;
+mod screening_obstacles;
 mod steps;
+mod strings;
 #[cfg(test)]
 mod tests;
 mod weights;

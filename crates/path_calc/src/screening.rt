@@ -1,36 +1,36 @@
-//! By how much the direct path is screened.
-ghost use Rattle.std.specs.Prelude.{◌≡◌, ◌<◌, ◌^◌, length, map, IfOk, All};
-ghost use Rattle.sight_cut.specs.Cuts.{edges_in, is_crossing_in};
-ghost use Rattle.path_calc.specs.Hearing.{sight_of, edges_among, bar_over, bars_over};
+//! By how much the direct path is screened over the top.
+ghost use Rattle.std.specs.Prelude.{◌≡◌, map, IfOk, All};
+ghost use Rattle.sight_cut.specs.Cuts.{is_crossing_in};
+ghost use Rattle.term_barrier.specs.Edges.{FitsEdge};
 ghost use Rattle.term_barrier.specs.Limits.{IsGroundEffect, IsScreening};
+ghost use Rattle.path_calc.specs.Hearing.{edges_among, bar_over, bars_over};
 
 use fix_interval::Iv;
 use path_shape::{Edge, Path};
 use scene_geom::Band;
-use scene_parts::{NoMemory, Obstacle};
-use sight_cut::{Crossing, Ends, crossings};
+use scene_parts::NoMemory;
+use sight_cut::Crossing;
 use std::alloc::Global;
 use term_barrier::Screens;
 
-/// A_bar of a direct path in each band, among the obstacles of a scene (ISO 9613-2, 7.4), where its length and A_gr in
-/// each band are known. One search finds the edges of all bands, and what these share of them is calculated once.
-pub(crate) fn screening(
+/// A_bar of a direct path in each band (ISO 9613-2, 7.4), of the crossings of its line of sight, where its length and A_gr
+/// in each band are known. What the bands share of the edges is calculated once.
+pub(crate) fn over_top(
     alloc: Global,
-    obstacles: &[Obstacle],
+    crossings: &[Crossing],
     path: &Path,
     distance: Iv,
     ground: &[Iv; 8],
 ) -> Result<[Iv; 8], NoMemory>
-    requires few { length obstacles.now < 2 ^ 32 }
+    requires edges { All (λ crossing. FitsEdge crossing.edge) crossings.now }
     requires ground { All IsGroundEffect ground.now }
     ensures value { IfOk result (λ bars. bars ≡ bars_over path.now
-        (λ band. edges_in band (sight_of path.now) obstacles.now) distance ground.now) }
+        (λ band. edges_among band crossings.now) distance ground.now) }
     ensures bounds { IfOk result (All IsScreening) }
 {
-    let crossings = crossings(alloc, obstacles, sight(path))?;
-    let edges = edges(alloc, crossings.as_slice())?;
+    let edges = edges(alloc, crossings)?;
     let screens = Screens::of(alloc, path, edges.as_slice(), distance)?;
-    bars(alloc, crossings.as_slice(), &screens, ground)
+    bars(alloc, crossings, &screens, ground)
 }
 
 /// A_bar in each band, of the crossings that count there.
@@ -75,18 +75,6 @@ fn bar(
 {
     let marks = marks(alloc, crossings, band)?;
     Ok(screens.a_bar(marks.as_slice(), ground[band.place()], band))
-}
-
-/// The line of sight of a path.
-fn sight(path: &Path) -> Ends
-    ensures { result ≡ sight_of path.now }
-{
-    Ends {
-        s: path.s,
-        hs: path.hs,
-        r: path.r,
-        hr: path.hr,
-    }
 }
 
 /// The edges of some crossings.

@@ -1,5 +1,5 @@
 -- The sum is that of the bands so far.
-use Rattle.std.proofs.Common.{◌≡◌, take}
+use Rattle.std.proofs.Common.{◌≡◌, ◌*◌, take}
 use Rattle.path_calc.specs.declared.hearing.Heard.{Heard}
 use Rattle.path_calc.specs.Ranges.{IsSumOf}
 use Rattle.path_calc.proofs.Sums.{summed}
@@ -8,5 +8,5 @@ use Rattle.path_calc.proofs.energies.long_sum.Given as goal
 abbrev pub invariant-loop-heard : goal.invariant-loop-heard
 invariant-loop-heard l = record {
   value : l.sum ≡ summed (λ (h : Heard). h.long) (take l.heard-index l.bands);
-  bounds : IsSumOf l.heard-index l.sum;
+  bounds : IsSumOf (l.heard-index * 3) l.sum;
 }

@@ -33,4 +33,4 @@ returns-clause-long c =
 
 pub returns-clause-bands_bounds : goal.returns-clause-bands_bounds
 returns-clause-bands_bounds c =
-    subst (λ (es : List Interval). All (IsSumOf 1) es) (sym c.bands_of.ensures) (All-map (IsSumOf 1) (λ (h : Heard). h.energy) c.heard-heard.result c.heard-heard.ensures.energy_bounds)
+    subst (λ (es : List Interval). All (IsSumOf 3) es) (sym c.bands_of.ensures) (All-map (IsSumOf 3) (λ (h : Heard). h.energy) c.heard-heard.result c.heard-heard.ensures.energy_bounds)

@@ -1,0 +1,125 @@
+//! By how much sound is screened that goes round the sides of what screens (ISO 9613-2, 7.4, equation 13).
+ghost use Rattle.std.specs.Prelude.{◌≡◌, length, IfOk, OnOk};
+ghost use Rattle.scene_parts.specs.Ranges.{IsHeight};
+ghost use Rattle.sight_cut.specs.Cuts.{crossings_of};
+ghost use Rattle.path_calc.specs.Ranges.{IsOnMap, IsLateralScreening, AreLateralScreenings};
+ghost use Rattle.path_calc.specs.Strings.{AreStretched, lateral_of, both_of, d_z_over};
+
+use crate::strings::Strings;
+use fix_interval::Iv;
+use scene_geom::Band;
+use scene_parts::{NoMemory, Obstacle};
+use sight_cut::{Crossing, Ends};
+use std::alloc::Global;
+
+/// By how much sound is screened in a band that goes round the left and the right, where it does: D_z in dB.
+#[derive(Clone, Copy, Drop)]
+pub(crate) struct LateralScreening {
+    pub(crate) left: Option<Iv>,
+    pub(crate) right: Option<Iv>,
+}
+
+/// The same in each band.
+#[derive(Drop)]
+pub(crate) struct LateralBands {
+    pub(crate) left: [Option<Iv>; 8],
+    pub(crate) right: [Option<Iv>; 8],
+}
+
+impl LateralBands {
+    /// D_z round the left in each band.
+    pub(crate) fn lefts(&self) -> [Option<Iv>; 8]
+        requires { length self.now.left ≡ 8 }
+        ensures { result ≡ self.now.left }
+    {
+        let all = &self.left;
+        [
+            all[0], all[1], all[2], all[3], all[4], all[5], all[6], all[7],
+        ]
+    }
+
+    /// D_z round the right in each band.
+    pub(crate) fn rights(&self) -> [Option<Iv>; 8]
+        requires { length self.now.right ≡ 8 }
+        ensures { result ≡ self.now.right }
+    {
+        let all = &self.right;
+        [
+            all[0], all[1], all[2], all[3], all[4], all[5], all[6], all[7],
+        ]
+    }
+}
+
+/// D_z round the sides in each band, of the obstacles that screen there, where source and receiver are `d` apart in
+/// metres. Bands in which the same obstacles screen share their strings.
+pub(crate) fn lateral_screening(
+    alloc: Global,
+    obstacles: &[Obstacle],
+    ends: Ends,
+    crossings: &[Crossing],
+    d: Iv,
+) -> Result<LateralBands, NoMemory>
+    requires source_height { IsHeight ends.hs }
+    requires receiver_height { IsHeight ends.hr }
+    requires distance { IsOnMap d }
+    requires crossings { crossings.now ≡ crossings_of ends obstacles.now }
+    ensures value { IfOk result (λ lateral. (band : Band)
+        → both_of (lateral_of lateral.left lateral.right band) ≡ d_z_over ends obstacles.now d band) }
+    ensures bounds { IfOk result AreLateralScreenings }
+{
+    let mut none = Strings::none(alloc);
+    let strings = &mut none;
+    let at_63 = d_z_in(strings, alloc, obstacles, ends, crossings, d, Band::Hz63)?;
+    let at_125 = d_z_in(strings, alloc, obstacles, ends, crossings, d, Band::Hz125)?;
+    let at_250 = d_z_in(strings, alloc, obstacles, ends, crossings, d, Band::Hz250)?;
+    let at_500 = d_z_in(strings, alloc, obstacles, ends, crossings, d, Band::Hz500)?;
+    let at_1000 = d_z_in(strings, alloc, obstacles, ends, crossings, d, Band::Hz1000)?;
+    let at_2000 = d_z_in(strings, alloc, obstacles, ends, crossings, d, Band::Hz2000)?;
+    let at_4000 = d_z_in(strings, alloc, obstacles, ends, crossings, d, Band::Hz4000)?;
+    let at_8000 = d_z_in(strings, alloc, obstacles, ends, crossings, d, Band::Hz8000)?;
+    Ok(LateralBands {
+        left: [
+            at_63.left,
+            at_125.left,
+            at_250.left,
+            at_500.left,
+            at_1000.left,
+            at_2000.left,
+            at_4000.left,
+            at_8000.left,
+        ],
+        right: [
+            at_63.right,
+            at_125.right,
+            at_250.right,
+            at_500.right,
+            at_1000.right,
+            at_2000.right,
+            at_4000.right,
+            at_8000.right,
+        ],
+    })
+}
+
+/// D_z round the sides in a band, with the strings of another band.
+fn d_z_in(
+    strings: &mut Strings,
+    alloc: Global,
+    obstacles: &[Obstacle],
+    ends: Ends,
+    crossings: &[Crossing],
+    d: Iv,
+    band: Band,
+) -> Result<LateralScreening, NoMemory>
+    requires source_height { IsHeight ends.hs }
+    requires receiver_height { IsHeight ends.hr }
+    requires distance { IsOnMap d }
+    requires strings { AreStretched strings.old ends obstacles.now }
+    requires crossings { crossings.now ≡ crossings_of ends obstacles.now }
+    ensures strings { OnOk result (AreStretched strings.new ends obstacles.now) }
+    ensures value { IfOk result (λ lateral. both_of lateral ≡ d_z_over ends obstacles.now d band) }
+    ensures bounds { IfOk result IsLateralScreening }
+{
+    strings.turn_to(alloc, obstacles, ends, crossings, band)?;
+    Ok(strings.d_z(ends, d, band))
+}
