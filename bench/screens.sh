@@ -1,7 +1,8 @@
 #!/bin/sh
 # Prints the time of one path (a source and a receiver, eight bands) among barriers and buildings by the proved program, and
 # how much of it is the search of their sides: what as many obstacles take that don't cross the path. A barrier here has one
-# side, crosses every path and rises above it; a building has four and lies beside them.
+# side, crosses every path and rises above it, so that sound goes over it and, in all bands along the same two strings, round
+# its ends; a building has four sides and lies beside them.
 set -e
 . "$(dirname "$0")/timing.sh"
 
@@ -41,7 +42,7 @@ open=$(path_time 0 0)
 printf '%9d  %8d  %5d  %9d  %15d\n' 0 0 0 "$open" 0
 for count in 16 128 1024; do
     passed=$(path_time "$count" 0)
-    for crossing in 0 4 16; do
+    for crossing in 0 1 4 16; do
         spent=$passed
         if [ "$crossing" -gt 0 ]; then spent=$(path_time "$count" "$crossing"); fi
         printf '%9d  %8d  %5d  %9d  %15d\n' "$count" "$crossing" $(((count - crossing) * 4 + crossing)) "$spent" $((passed - open))

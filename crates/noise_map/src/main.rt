@@ -18,6 +18,8 @@ mod test_rows;
 #[cfg(test)]
 mod test_screens;
 #[cfg(test)]
+mod test_sides;
+#[cfg(test)]
 mod tests;
 mod texts;
 mod unbuilt;
