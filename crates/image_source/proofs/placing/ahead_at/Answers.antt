@@ -1,0 +1,22 @@
+use Rattle.std.proofs.Common.{◌∙◌, arith}
+use Rattle.image_source.proofs.Even.{FitsEven, evens, rise-fits, whole-fits, whole-is, at_place_eq}
+use Rattle.scene_geom.proofs.Whole.{product_fits}
+use Rattle.image_source.proofs.placing.ahead_at.Goals as goal
+
+places : (c : goal.After-struct_told-2-1) → FitsEven c.ahead-start.result c.ahead-end.result c.args.p
+places c =
+    evens c.ahead-start.result c.ahead-end.result c.args.p 128000000000000 5940000000000 c.ahead-start.ensures.within c.ahead-end.ensures.within c.requires.above c.requires.below
+    (omega arith) (omega arith) (omega arith) (omega arith) (omega arith)
+
+pub overflow_mul-result : goal.overflow_mul-result
+overflow_mul-result c =
+    product_fits c.ahead-start.result c.args.p.d 128000000000000 5940000000000 c.ahead-start.ensures.within c.requires.below (omega arith) (omega arith) (omega arith)
+
+pub overflow_mul-result-2 : goal.overflow_mul-result-2
+overflow_mul-result-2 c = rise-fits _ _ _ (places c)
+
+pub overflow_add-result : goal.overflow_add-result
+overflow_add-result c = whole-fits _ _ _ (places c)
+
+pub returns : goal.returns
+returns c = whole-is _ _ _ (places c) ∙ at_place_eq _ _ _ _ c.args.p c.ahead-start.ensures.value c.ahead-end.ensures.value

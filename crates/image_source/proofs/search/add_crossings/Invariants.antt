@@ -1,0 +1,10 @@
+-- What is found, and what the sides behind give, is what all sides give.
+use Rattle.std.proofs.Common.{◌≡◌, ◌++◌, drop}
+use Rattle.scene_parts.specs.Sides.{sides_of}
+use Rattle.image_source.specs.LegCuts.{crossings_along}
+use Rattle.image_source.proofs.search.add_crossings.Given as goal
+
+abbrev pub invariant-loop-i : goal.invariant-loop-i
+invariant-loop-i l =
+    l.found.items ++ crossings_along l.leg l.m l.ends l.number l.i l.obstacle (drop l.i (sides_of l.obstacle))
+    ≡ l.initial.found.items ++ crossings_along l.leg l.m l.ends l.number 0 l.obstacle (sides_of l.obstacle)

@@ -1,0 +1,4 @@
+pub mod Mirrors
+pub mod LegCuts
+pub mod Dimensions
+pub mod Laws

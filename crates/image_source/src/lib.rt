@@ -1,0 +1,21 @@
+//! First-order reflections by way of the sides of barriers and buildings, by image sources (ISO 9613-2, 7.5).
+//!
+//! A side mirrors a source to a receiver where the specular point lies on it. The path by way of it has two legs, which
+//! obstacles may cross, and the surface has to be large enough against the wavelength.
+#![tactic(auto)]
+
+mod dimension;
+mod image;
+pub mod laws;
+mod leg;
+mod placing;
+mod reflecting;
+mod search;
+#[cfg(test)]
+mod tests;
+
+pub use dimension::{big_enough, dimension_squared, needed_squared};
+pub use image::Mirror;
+pub use leg::Leg;
+pub use reflecting::mirror;
+pub use search::{leg_crossings, leg_cuts};

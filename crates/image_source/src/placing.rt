@@ -1,0 +1,66 @@
+//! What changes evenly along a path, at a place of it.
+ghost use Rattle.std.specs.Prelude.{◌≡◌, ◌≤◌, ◌<◌, ◌^◌, ◌*ℤ◌, ◌-ℤ◌, pos, unsigned_abs};
+ghost use Rattle.scene_geom.specs.Plan.{InPlan};
+ghost use Rattle.image_source.specs.Mirrors.{at_place};
+ghost use Rattle.image_source.specs.Mirrors as form;
+
+use scene_geom::{Frac, Pt, Side};
+use sight_cut::Ends;
+
+/// The height of the line of sight at a place, in mm, times the divisor of the place.
+pub(crate) fn sight_height(ends: Ends, t: Frac) -> i128
+    requires above { unsigned_abs t.n ≤ 51660000000000000000000000 }
+    requires below { unsigned_abs t.d ≤ 51660000000000000000000000 }
+    ensures { result ≡ at_place (pos ends.hs) (pos ends.hr) t }
+{
+    between(ends.hs, ends.hr, t)
+}
+
+/// The height at a place of the way from one height to another, times the divisor of the place.
+fn between(hs: u32, hr: u32, t: Frac) -> i128
+    requires above { unsigned_abs t.n ≤ 51660000000000000000000000 }
+    requires below { unsigned_abs t.d ≤ 51660000000000000000000000 }
+    ensures { result ≡ at_place (pos hs) (pos hr) t }
+{
+    let start = i128::from(hs);
+    start * t.d + t.n * (i128::from(hr) - start)
+}
+
+/// A height in mm, times the divisor of a place.
+pub(crate) fn height_at(h: u32, t: Frac) -> i128
+    requires { unsigned_abs t.d ≤ 51660000000000000000000000 }
+    ensures { result ≡ pos h *ℤ t.d }
+{
+    i128::from(h) * t.d
+}
+
+/// How far along a side from its start the point lies that is at a place of the way between two points, times the square
+/// of the side's length and the divisor of the place, in mm.
+pub(crate) fn ahead_at(side: Side, from: Pt, to: Pt, p: Frac) -> i128
+    requires above { unsigned_abs p.n ≤ 5940000000000 }
+    requires below { unsigned_abs p.d ≤ 5940000000000 }
+    ensures { result ≡ at_place (form.ahead side from) (form.ahead side to) p }
+{
+    let start = ahead(side, from);
+    let end = ahead(side, to);
+    start * p.d + p.n * (end - start)
+}
+
+/// How far along a side from its start a point lies, times the side's length, in mm².
+pub(crate) fn ahead(side: Side, p: Pt) -> i128
+    ensures value { result ≡ form.ahead side p }
+    ensures within { unsigned_abs result ≤ 128000000000000 }
+{
+    way(side.from.x, p.x) * way(side.from.x, side.to.x)
+        + way(side.from.y, p.y) * way(side.from.y, side.to.y)
+}
+
+/// How far it is from one coordinate to another, in mm.
+fn way(from: i32, to: i32) -> i128
+    requires from_in_plan { InPlan from }
+    requires to_in_plan { InPlan to }
+    ensures value { result ≡ to -ℤ from }
+    ensures within { unsigned_abs result ≤ 8000000 }
+{
+    i128::from(to) - i128::from(from)
+}

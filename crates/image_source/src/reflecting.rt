@@ -1,0 +1,76 @@
+//! Where a side of an obstacle reflects.
+ghost use Rattle.std.specs.Prelude.{◌≡◌, ◌<◌, length, slice_get, IfSome};
+ghost use Rattle.scene_parts.specs.Sides.{sides_of};
+ghost use Rattle.scene_geom.specs.Crossing.{are_opposite};
+ghost use Rattle.scene_geom.specs.Fraction.{FitsEnd};
+ghost use Rattle.scene_geom.specs.Reflection.{CanReflect};
+ghost use Rattle.image_source.specs.Mirrors.{mirror_of};
+ghost use Rattle.image_source.specs.Mirrors as form;
+
+use crate::image::Mirror;
+use crate::placing::{ahead, ahead_at, height_at, sight_height};
+use scene_geom::{Frac, Pt, Side, area2, on_one_side, orient, unfold};
+use scene_parts::{Obstacle, Shape, side_of};
+use sight_cut::Ends;
+
+/// The reflection from a source to a receiver, whose heights are in mm, in side `i` of an obstacle. None where there is
+/// none: the obstacle doesn't reflect, source and receiver aren't both in front of the side and strictly on one side of
+/// its line, the specular point isn't strictly between the side's ends, or the path passes above the wall there.
+pub fn mirror(o: &Obstacle, i: u32, s: Pt, hs: u32, r: Pt, hr: u32) -> Option<Mirror>
+    requires { i < length (sides_of o.now) }
+    ensures value { IfSome (slice_get (sides_of o.now) i)
+        (λ side. result ≡ mirror_of o.now side (record { s = s; hs = hs; r = r; hr = hr })) }
+    ensures fits { IfSome (slice_get (sides_of o.now) i)
+        (λ side. IfSome result (λ m. CanReflect side s r)) }
+{
+    let side = side_of(o, i);
+    if o.rho == 0 || !on_one_side(side, s, r) {
+        return None;
+    }
+    let plan = unfold(side, s, r);
+    let ends = Ends { s, hs, r, hr };
+    if strikes(side, ends, plan.p) && stays_below(ends, o.h, plan.p) && faces(o, side, s) {
+        Some(Mirror {
+            p: plan.p,
+            first: plan.first,
+            second: plan.second,
+            plan2: plan.square,
+        })
+    } else {
+        None
+    }
+}
+
+/// Whether the specular point lies strictly between the ends of a side.
+fn strikes(side: Side, ends: Ends, p: Frac) -> bool
+    requires { FitsEnd p }
+    ensures { result ≡ form.strikes side ends p }
+{
+    let place = ahead_at(side, ends.s, ends.r, p);
+    0 < place && place < ahead(side, side.to) * p.d
+}
+
+/// Whether the path passes the specular point no higher than the wall is.
+fn stays_below(ends: Ends, h: u32, p: Frac) -> bool
+    requires { FitsEnd p }
+    ensures { result ≡ form.stays_below ends h p }
+{
+    sight_height(ends, p) <= height_at(h, p)
+}
+
+/// Whether an obstacle's side reflects on the side on which a point lies: a building's doesn't on its inside.
+fn faces(o: &Obstacle, side: Side, p: Pt) -> bool
+    ensures { result ≡ form.faces o.now.shape o.now.points side p }
+{
+    match o.shape {
+        Shape::Barrier => true,
+        Shape::Building => opposite(orient(side.from, side.to, p), area2(o.points.items())),
+    }
+}
+
+/// Whether one number is above 0 and the other below.
+fn opposite(a: i128, b: i128) -> bool
+    ensures { result ≡ are_opposite a b }
+{
+    a < 0 && 0 < b || b < 0 && 0 < a
+}
