@@ -187,14 +187,14 @@ fn strings_are_stretched(rt: HostRuntime) -> Result<(), Fail> {
 
 /// A point of an arch of which each point stands out.
 fn on_arch(i: u32) -> Spot {
-    let x = i % 1024;
-    (x.into(), (x * (1024 - x)).into())
+    let x = i % 1025;
+    (x.into(), (x * (1025 - x)).into())
 }
 
 /// The points of the arch, in no order of the plan.
 fn arch(alloc: Global) -> Result<Vec<Pt>, AllocError> {
     let mut points = Vec::new(alloc);
-    for i in 1..1024u32 {
+    for i in 1..1025u32 {
         points.push(at(on_arch(i * 389)))?;
     }
     Ok(points)
@@ -208,13 +208,13 @@ fn all_points_of_an_arch_stay(rt: HostRuntime) -> Result<(), Fail> {
         alloc,
         points.as_slice(),
         at((0, 0)),
-        at((1024, 0)),
+        at((1025, 0)),
         Hand::Left,
     ) else {
         return Err(AllocError.into());
     };
-    assert_eq!(rt; found.len(), 1023);
-    for (point, i) in found.as_slice().iter().zip(1..1024u32) {
+    assert_eq!(rt; found.len(), 1024);
+    for (point, i) in found.as_slice().iter().zip(1..1025u32) {
         assert_eq!(rt; spot(*point), on_arch(i));
     }
     Ok(())
