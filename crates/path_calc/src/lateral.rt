@@ -50,6 +50,35 @@ impl LateralBands {
     }
 }
 
+/// What all bands share of a line of sight: the obstacles, the ends, the crossings, and how far source and receiver are
+/// apart in metres.
+#[derive(Drop)]
+struct Sight<'a> {
+    alloc: Global,
+    obstacles: &'a [Obstacle],
+    ends: Ends,
+    crossings: &'a [Crossing],
+    d: Iv,
+}
+
+impl<'a> Sight<'a> {
+    /// D_z round the sides in a band, with the strings of another band.
+    fn d_z_in(&self, strings: &mut Strings, band: Band) -> Result<LateralScreening, NoMemory>
+        requires source_height { IsHeight self.now.ends.hs }
+        requires receiver_height { IsHeight self.now.ends.hr }
+        requires distance { IsOnMap self.now.d }
+        requires strings { AreStretched strings.old self.now.ends self.now.obstacles.now }
+        requires crossings { self.now.crossings.now ≡ crossings_of self.now.ends self.now.obstacles.now }
+        ensures strings { OnOk result (AreStretched strings.new self.now.ends self.now.obstacles.now) }
+        ensures value { IfOk result (λ lateral. both_of lateral
+            ≡ d_z_over self.now.ends self.now.obstacles.now self.now.d band) }
+        ensures bounds { IfOk result IsLateralScreening }
+    {
+        strings.turn_to(self.alloc, self.obstacles, self.ends, self.crossings, band)?;
+        Ok(strings.d_z(self.ends, self.d, band))
+    }
+}
+
 /// D_z round the sides in each band, of the obstacles that screen there, where source and receiver are `d` apart in
 /// metres. Bands in which the same obstacles screen share their strings.
 pub(crate) fn lateral_screening(
@@ -67,16 +96,22 @@ pub(crate) fn lateral_screening(
         → both_of (lateral_of lateral.left lateral.right band) ≡ d_z_over ends obstacles.now d band) }
     ensures bounds { IfOk result AreLateralScreenings }
 {
-    let mut none = Strings::none(alloc);
-    let strings = &mut none;
-    let at_63 = d_z_in(strings, alloc, obstacles, ends, crossings, d, Band::Hz63)?;
-    let at_125 = d_z_in(strings, alloc, obstacles, ends, crossings, d, Band::Hz125)?;
-    let at_250 = d_z_in(strings, alloc, obstacles, ends, crossings, d, Band::Hz250)?;
-    let at_500 = d_z_in(strings, alloc, obstacles, ends, crossings, d, Band::Hz500)?;
-    let at_1000 = d_z_in(strings, alloc, obstacles, ends, crossings, d, Band::Hz1000)?;
-    let at_2000 = d_z_in(strings, alloc, obstacles, ends, crossings, d, Band::Hz2000)?;
-    let at_4000 = d_z_in(strings, alloc, obstacles, ends, crossings, d, Band::Hz4000)?;
-    let at_8000 = d_z_in(strings, alloc, obstacles, ends, crossings, d, Band::Hz8000)?;
+    let sight = Sight {
+        alloc,
+        obstacles,
+        ends,
+        crossings,
+        d,
+    };
+    let mut strings = Strings::none(alloc);
+    let at_63 = sight.d_z_in(&mut strings, Band::Hz63)?;
+    let at_125 = sight.d_z_in(&mut strings, Band::Hz125)?;
+    let at_250 = sight.d_z_in(&mut strings, Band::Hz250)?;
+    let at_500 = sight.d_z_in(&mut strings, Band::Hz500)?;
+    let at_1000 = sight.d_z_in(&mut strings, Band::Hz1000)?;
+    let at_2000 = sight.d_z_in(&mut strings, Band::Hz2000)?;
+    let at_4000 = sight.d_z_in(&mut strings, Band::Hz4000)?;
+    let at_8000 = sight.d_z_in(&mut strings, Band::Hz8000)?;
     Ok(LateralBands {
         left: [
             at_63.left,
@@ -99,27 +134,4 @@ pub(crate) fn lateral_screening(
             at_8000.right,
         ],
     })
-}
-
-/// D_z round the sides in a band, with the strings of another band.
-fn d_z_in(
-    strings: &mut Strings,
-    alloc: Global,
-    obstacles: &[Obstacle],
-    ends: Ends,
-    crossings: &[Crossing],
-    d: Iv,
-    band: Band,
-) -> Result<LateralScreening, NoMemory>
-    requires source_height { IsHeight ends.hs }
-    requires receiver_height { IsHeight ends.hr }
-    requires distance { IsOnMap d }
-    requires strings { AreStretched strings.old ends obstacles.now }
-    requires crossings { crossings.now ≡ crossings_of ends obstacles.now }
-    ensures strings { OnOk result (AreStretched strings.new ends obstacles.now) }
-    ensures value { IfOk result (λ lateral. both_of lateral ≡ d_z_over ends obstacles.now d band) }
-    ensures bounds { IfOk result IsLateralScreening }
-{
-    strings.turn_to(alloc, obstacles, ends, crossings, band)?;
-    Ok(strings.d_z(ends, d, band))
 }

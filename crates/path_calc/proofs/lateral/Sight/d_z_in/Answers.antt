@@ -3,10 +3,10 @@ use Rattle.sight_cut.specs.declared.crossing.Crossing.{Crossing}
 use Rattle.path_calc.specs.declared.lateral.LateralScreening.{LateralScreening}
 use Rattle.path_calc.specs.Strings.{both_of, numbers_in}
 use Rattle.path_calc.proofs.Stretching.{both-are}
-use Rattle.path_calc.proofs.lateral.d_z_in.Goals as goal
+use Rattle.path_calc.proofs.lateral.Sight.d_z_in.Goals as goal
 
 pub returns-clause-value : goal.returns-clause-value
 returns-clause-value c =
     ap both_of c.d_z.ensures.value
-    ∙ both-are _ c.args.ends c.args.obstacles.now c.args.d c.args.band c.in_ok-turn_to.ensures.stretched
+    ∙ both-are _ c.args.self.now.ends c.args.self.now.obstacles.now c.args.self.now.d c.args.band c.in_ok-turn_to.ensures.stretched
     (c.in_ok-turn_to.ensures.numbers ∙ ap (λ (cs : List Crossing). numbers_in c.args.band cs) c.requires.crossings)
