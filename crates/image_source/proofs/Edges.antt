@@ -31,17 +31,6 @@ entry test Hz2000 = refl
 entry test Hz4000 = refl
 entry test Hz8000 = refl
 
--- an edge before others, if there is one
-abbrev joined : Option Edge → List Edge → List Edge
-joined None edges = edges
-joined (Some edge) edges = edge ∷ edges
-
-joined-is : (f : Side → Option Edge) (side : Side) (sides : List Side) → joined (f side) (filter_map f sides) ≡ filter_map f (side ∷ sides)
-joined-is f side sides = by_edge (f side) refl where
-  by_edge : (edge : Option Edge) → f side ≡ edge → joined (f side) (filter_map f sides) ≡ filter_map f (side ∷ sides)
-  by_edge None e = rw e refl
-  by_edge (Some edge) e = rw e refl
-
 -- the edges of the crossings that count in a band: of one obstacle all count, or none
 abbrev counted : Band → List (Leg × Crossing) → List Edge
 counted band crossings = map (λ c. c.1.edge) (filter (is_leg_crossing_in band) crossings)
@@ -60,20 +49,18 @@ more-edges : (test : Bool) (band : Band) (c : Leg × Crossing) (others : List (L
 more-edges true band c others edges e h = rw e (ap (λ (edges : List Edge). c.1.edge ∷ edges) h)
 more-edges false band c others edges e h = rw e h
 
-next-edges : (band : Band) (leg : Leg) (path : Reflection) (ends : Ends) (i k : ℕ) (o : Obstacle) (side : Side) (others : List (Leg × Crossing)) (edge : Option Edge) (edges : List Edge)
-    → edge_on leg path ends o.h side ≡ edge → counted band others ≡ where_true (counts_in band ends o) edges
-    → counted band (before_all (crossing_on leg path ends i k o side) others) ≡ where_true (counts_in band ends o) (joined edge edges)
-next-edges band leg path ends i k o side others None edges e h = rw e h
-next-edges band leg path ends i k o side others (Some edge) edges e h =
-    rw e (more-edges (counts_in band ends o) band (leg, record { obstacle = i; side = k; edge = edge; bands = map (λ band. counts_in band ends o) all_bands }) others edges
-    (entry (λ band. counts_in band ends o) band) h)
-
 edges-along : (band : Band) (leg : Leg) (path : Reflection) (ends : Ends) (i k : ℕ) (o : Obstacle) (sides : List Side)
     → counted band (crossings_along leg path ends i k o sides) ≡ where_true (counts_in band ends o) (filter_map (edge_on leg path ends o.h) sides)
 edges-along band leg path ends i k o [] = no-edges (counts_in band ends o) [] refl
-edges-along band leg path ends i k o (side ∷ sides) =
-    next-edges band leg path ends i k o side _ (edge_on leg path ends o.h side) (filter_map (edge_on leg path ends o.h) sides) refl (edges-along band leg path ends i (suc k) o sides)
-    ∙ ap (where_true (counts_in band ends o)) (joined-is (edge_on leg path ends o.h) side sides)
+edges-along band leg path ends i k o (side ∷ sides) = by_edge (edge_on leg path ends o.h side) refl (edges-along band leg path ends i (suc k) o sides) where
+  by_edge : (edge : Option Edge) → edge_on leg path ends o.h side ≡ edge
+      → counted band (crossings_along leg path ends i (suc k) o sides) ≡ where_true (counts_in band ends o) (filter_map (edge_on leg path ends o.h) sides)
+      → counted band (crossings_along leg path ends i k o (side ∷ sides)) ≡ where_true (counts_in band ends o) (filter_map (edge_on leg path ends o.h) (side ∷ sides))
+  by_edge None e h = rw e h
+  by_edge (Some edge) e h =
+      rw e (more-edges (counts_in band ends o) band (leg, record { obstacle = i; side = k; edge = edge; bands = map (λ band. counts_in band ends o) all_bands })
+      (crossings_along leg path ends i (suc k) o sides) (filter_map (edge_on leg path ends o.h) sides)
+      (entry (λ band. counts_in band ends o) band) h)
 
 counted-append : (band : Band) (xs ys : List (Leg × Crossing)) → counted band (xs ++ ys) ≡ counted band xs ++ counted band ys
 counted-append band xs ys =

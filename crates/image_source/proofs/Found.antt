@@ -1,7 +1,8 @@
 -- Crossings with legs that are found one after another.
-use Rattle.std.proofs.Common.{◌≡◌, ℕ, zero, suc, ◌+◌, ◌<◌, List, [], ◌∷◌, ◌++◌, length, drop, map, ap, sym, ◌∙◌, refl, add-one, append_assoc, append-nil, get_or}
+use Rattle.std.proofs.Common.{◌≡◌, ℕ, ◌+◌, ◌<◌, List, [], ◌∷◌, ◌++◌, length, drop, map, ap, sym, ◌∙◌, refl, add-one, append_assoc, append-nil, get_or}
 use Rattle.std.specs.Prelude.{Option, Some, None, Bool, slice_get}
 use Rattle.std.proofs.lemmas.List.{drop_more}
+use Rattle.std.proofs.lemmas.Option.{slice_get_within, get_or_from_slice_get}
 use Rattle.scene_geom.specs.declared.plan.Side.{Side}
 use Rattle.scene_geom.specs.declared.reflection.Reflection.{Reflection}
 use Rattle.scene_geom.specs.Bands.{all_bands}
@@ -13,15 +14,6 @@ use Rattle.sight_cut.specs.declared.crossing.Crossing.{Crossing}
 use Rattle.sight_cut.specs.Cuts.{counts_in}
 use Rattle.image_source.specs.declared.leg.Leg.{Leg}
 use Rattle.image_source.specs.LegCuts.{edge_on, crossing_on, before_all, crossings_along, crossings_from}
-
-drop-get : {A : Type 0} (xs : List A) (i : ℕ) (x : A) → slice_get xs i ≡ Some x → drop i xs ≡ x ∷ drop (i + 1) xs
-drop-get [] i x e = cc
-drop-get (y ∷ xs) zero x e = cc
-drop-get (y ∷ xs) (suc i) x e = rw add-one (drop-get-next xs i x e) where
-  drop-get-next : {A : Type 0} (xs : List A) (i : ℕ) (x : A) → slice_get xs i ≡ Some x → drop i xs ≡ x ∷ drop (suc i) xs
-  drop-get-next [] i x e = cc
-  drop-get-next (y ∷ xs) zero x e = cc
-  drop-get-next (y ∷ xs) (suc i) x e = drop-get-next xs i x e
 
 -- a crossing before others
 before-others : (first : Option (Leg × Crossing)) (others : List (Leg × Crossing)) → before_all first others ≡ before_all first [] ++ others
@@ -45,8 +37,10 @@ pub side-added : (leg : Leg) (path : Reflection) (ends : Ends) (n : ℕ) (o : Ob
     → new ++ crossings_along leg path ends n (i + 1) o (drop (i + 1) sides) ≡ total
 side-added leg path ends n o sides i side found new total e added h =
     let rest = crossings_along leg path ends n (i + 1) o (drop (i + 1) sides) in
+    let here : drop i sides ≡ side ∷ drop (i + 1) sides =
+    drop_more sides i side (slice_get_within sides i side e) ∙ ap (λ x. x ∷ drop (i + 1) sides) (get_or_from_slice_get sides i side side e) in
     let next : crossings_along leg path ends n i o (drop i sides) ≡ before_all (crossing_on leg path ends n i o side) rest =
-    ap (crossings_along leg path ends n i o) (drop-get sides i side e) ∙ rw add-one refl in
+    ap (crossings_along leg path ends n i o) here ∙ rw add-one refl in
     ap (λ xs. xs ++ rest) added ∙ append_assoc found (before_all (crossing_on leg path ends n i o side) []) rest
     ∙ ap (λ xs. found ++ xs) (sym (before-others (crossing_on leg path ends n i o side) rest) ∙ sym next) ∙ h
 
