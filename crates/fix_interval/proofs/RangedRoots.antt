@@ -3,8 +3,6 @@ use Rattle.std.proofs.Common.{◌≡◌, ℕ, zero, suc, ◌*◌, ◌<◌, ◌�
 use Rattle.std.specs.Prelude.{Bool, true, false, ◌⊎◌, Some, None, IfSome, int_lt, nat_le, nat_lt, if◌then◌else◌}
 use Rattle.std.specs.Option.{option_and_then}
 use Rattle.std.proofs.lemmas.Int.{ints}
-use Rattle.std.proofs.lemmas.Bool.{cases_lt}
-use Rattle.std.proofs.lemmas.Nat.{mul-le}
 use Rattle.std.proofs.Math.Nat.{pow-suc}
 use Rattle.fix_interval.specs.Units.{unit, unit-is}
 use Rattle.fix_interval.specs.Interval.{Interval, All}
@@ -14,7 +12,7 @@ use Rattle.fix_interval.specs.Lg.{is_at_least}
 use Rattle.fix_interval.specs.Ranges.{IsFrom, IsUpTo, LiesIn, root_limit, root_limit_of, root_range}
 use Rattle.std.proofs.lemmas.Bool.{false≢true}
 use Rattle.std.proofs.Math.Nat.{le_trans}
-use Rattle.fix_interval.proofs.Rooting.{floor_root-below, ceil_root-le, ceil_root-square, floor_root-le-ceil_root, high_root_is, root_of-roots}
+use Rattle.fix_interval.proofs.Rooting.{ceil_root-within, floor_root-le-ceil_root, high_root_is, root_of-roots}
 use Rattle.fix_interval.proofs.Ranging.{LiesIn-All}
 
 -- ---- the limit of a root
@@ -36,20 +34,9 @@ limit-above n small = by_cases (squares n 64) where
   by_cases (inl h) = h
   by_cases (inr h) = rw h (omega (arith, small))
 
--- a root rounded up is at most what has a square that isn't below
-root-below : (n r : ℕ) → n ≤ r * r → ceil_root n ≤ r
-root-below n r h = by_cases (cases_lt r (ceil_root n)) where
-  by_cases : (r < ceil_root n) ⊎ (ceil_root n ≤ r) → ceil_root n ≤ r
-  by_cases (inr is) = is
-  by_cases (inl is) =
-      let root = floor_root n in
-      let at_least : r ≤ root = omega (arith, is, ceil_root-le n) in
-      let square = mul-le r r root root at_least at_least in
-      omega (arith, ceil_root-square n r (omega (arith, h, square, floor_root-below n)))
-
 root-within : (y h : ℕ) → y ≤ h → h < 2 ^ 95 → ceil_root (y * unit) ≤ root_limit (h * unit) 64
 root-within y h below small =
-    root-below (y * unit) (root_limit (h * unit) 64)
+    ceil_root-within (y * unit) (root_limit (h * unit) 64)
     (omega (arith, limit-above (h * unit) (rw unit-is (omega (arith, small))), scaled)) where
       scaled : y * unit ≤ h * unit
       scaled = rw unit-is (omega (arith, below))

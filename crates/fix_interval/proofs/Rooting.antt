@@ -3,6 +3,7 @@ use Rattle.std.proofs.Common.{◌≡◌, ℕ, zero, suc, ◌+◌, ◌-◌, ◌*�
 use Rattle.std.specs.Prelude.{unsigned_abs, nat_le, Some, None, Option, Bool, if◌then◌else◌, ◌⊎◌}
 use Rattle.std.proofs.Common.{inl, inr}
 use Rattle.std.proofs.lemmas.Bool.{cases_lt}
+use Rattle.std.proofs.lemmas.Nat.{mul-le}
 use Rattle.std.proofs.Math.Nat.{mul-le-mul, mul-le-mul_right, le_trans}
 use Rattle.std.proofs.lemmas.Int.{ints, to_z_pos}
 use Rattle.std.specs.Int.{w128}
@@ -91,6 +92,17 @@ ceil_root-next n r h k = next_by (cases_lt n ((r + 1) * (r + 1))) where
 
 pub ceil_root-square : (n r : ℕ) → n ≡ r * r → ceil_root n ≡ r
 ceil_root-square n r e = ceil_root-exact n r (floor_root-unique n r (omega arith) (omega arith)) (omega arith)
+
+-- the root of what isn't above a square isn't above that square's side
+pub ceil_root-within : (n r : ℕ) → n ≤ r * r → ceil_root n ≤ r
+ceil_root-within n r h = by_cases (cases_lt r (ceil_root n)) where
+  by_cases : (r < ceil_root n) ⊎ (ceil_root n ≤ r) → ceil_root n ≤ r
+  by_cases (inr is) = is
+  by_cases (inl is) =
+      let root = floor_root n in
+      let at_least : r ≤ root = omega (arith, is, ceil_root-le n) in
+      let square = mul-le r r root root at_least at_least in
+      omega (arith, ceil_root-square n r (omega (arith, h, square, floor_root-below n)))
 
 -- ---- ends
 

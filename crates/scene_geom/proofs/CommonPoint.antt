@@ -42,7 +42,7 @@ left_comm a b c = sym (mul_assoc a b c) ∙ ap (λ (z : ℤ). z *ℤ c) (*ℤ_co
 mul-zero : (a : ℤ) → a *ℤ pos 0 ≡ pos 0
 mul-zero a = omega (arith, ints)
 
--- ---- cross products of sums and multiples
+-- ---- products of sums and multiples
 regroup : (l k r q m1 m2 m3 m4 n1 n2 n3 n4 : ℤ) → l ≡ m1 +ℤ m2 → k ≡ m3 +ℤ m4 → m1 ≡ n1 → m2 ≡ n2 → m3 ≡ n3 → m4 ≡ n4 → r ≡ n1 -ℤ n3 → q ≡ n2 -ℤ n4 → l -ℤ k ≡ r +ℤ q
 regroup l k r q m1 m2 m3 m4 n1 n2 n3 n4 a b e1 e2 e3 e4 c d = omega (arith, ints)
 
@@ -60,6 +60,15 @@ cross-difference sx sy d n ax ay bx by =
     regroup_less _ _ _ _ _ _ _ _ _ _ _ _ (mul_sub (d *ℤ ay) (n *ℤ by) sx) (mul_sub (d *ℤ ax) (n *ℤ bx) sy)
     (left_comm sx d ay) (left_comm sx n by) (left_comm sy d ax) (left_comm sy n bx)
     (mul_sub (sx *ℤ ay) (sy *ℤ ax) d) (mul_sub (sx *ℤ by) (sy *ℤ bx) n)
+
+pub dot-difference : (sx sy d n ax ay bx by : ℤ) → sx *ℤ (d *ℤ ax -ℤ n *ℤ bx) +ℤ sy *ℤ (d *ℤ ay -ℤ n *ℤ by) ≡ d *ℤ (sx *ℤ ax +ℤ sy *ℤ ay) -ℤ n *ℤ (sx *ℤ bx +ℤ sy *ℤ by)
+dot-difference sx sy d n ax ay bx by =
+    ready _ _ _ _ _ _ _ _ _ _ _ _ (mul_sub (d *ℤ ax) (n *ℤ bx) sx) (mul_sub (d *ℤ ay) (n *ℤ by) sy)
+    (left_comm sx d ax) (left_comm sx n bx) (left_comm sy d ay) (left_comm sy n by)
+    (mul_add (sx *ℤ ax) (sy *ℤ ay) d) (mul_add (sx *ℤ bx) (sy *ℤ by) n)
+  where
+    ready : (l k r q m1 m2 m3 m4 n1 n2 n3 n4 : ℤ) → l ≡ m1 -ℤ m2 → k ≡ m3 -ℤ m4 → m1 ≡ n1 → m2 ≡ n2 → m3 ≡ n3 → m4 ≡ n4 → r ≡ n1 +ℤ n3 → q ≡ n2 +ℤ n4 → l +ℤ k ≡ r -ℤ q
+    ready l k r q m1 m2 m3 m4 n1 n2 n3 n4 a b e1 e2 e3 e4 c d = omega (arith, ints)
 
 -- ---- two lines that aren't parallel have one point at most
 scaled_difference : (x d x' d' f : ℤ) → x' *ℤ d -ℤ x *ℤ d' ≡ d *ℤ (x' -ℤ d' *ℤ f) -ℤ d' *ℤ (x -ℤ d *ℤ f)

@@ -12,7 +12,7 @@ use Rattle.scene_geom.specs.Reflection.{squared_length}
 use Rattle.scene_geom.specs.Laws.{LegsLeadToImages}
 use Rattle.scene_geom.proofs.Whole.{mul_add, mul_sub}
 use Rattle.scene_geom.proofs.Vectors.{cross-between, vector_eq}
-use Rattle.scene_geom.proofs.CommonPoint.{left_comm, mul_assoc, cross-difference}
+use Rattle.scene_geom.proofs.CommonPoint.{mul_assoc, cross-difference, dot-difference}
 use Rattle.scene_geom.proofs.Walls.{dot-abs, mul-neg, dir_over-x, dir_over-y}
 
 way-is : (v : Vector) (w : ℤ) → way (dir_over v w) ≡ v
@@ -25,15 +25,6 @@ cross-turned w = omega (arith, ints, mul-neg w.y w.y)
 
 dot-turned : (w : Vector) → dot w (turned_left w) ≡ pos 0
 dot-turned w = omega (arith, ints, mul-neg w.x w.y, *ℤ_comm w.x w.y)
-
-dot-difference : (sx sy d n ax ay bx by : ℤ) → sx *ℤ (d *ℤ ax -ℤ n *ℤ bx) +ℤ sy *ℤ (d *ℤ ay -ℤ n *ℤ by) ≡ d *ℤ (sx *ℤ ax +ℤ sy *ℤ ay) -ℤ n *ℤ (sx *ℤ bx +ℤ sy *ℤ by)
-dot-difference sx sy d n ax ay bx by =
-    ready _ _ _ _ _ _ _ _ _ _ _ _ (mul_sub (d *ℤ ax) (n *ℤ bx) sx) (mul_sub (d *ℤ ay) (n *ℤ by) sy)
-    (left_comm sx d ax) (left_comm sx n bx) (left_comm sy d ay) (left_comm sy n by)
-    (mul_add (sx *ℤ ax) (sy *ℤ ay) d) (mul_add (sx *ℤ bx) (sy *ℤ by) n)
-  where
-    ready : (l k r q m1 m2 m3 m4 n1 n2 n3 n4 : ℤ) → l ≡ m1 -ℤ m2 → k ≡ m3 -ℤ m4 → m1 ≡ n1 → m2 ≡ n2 → m3 ≡ n3 → m4 ≡ n4 → r ≡ n1 +ℤ n3 → q ≡ n2 +ℤ n4 → l +ℤ k ≡ r -ℤ q
-    ready l k r q m1 m2 m3 m4 n1 n2 n3 n4 a b e1 e2 e3 e4 c d = omega (arith, ints)
 
 -- w times the difference of b and a, less 2 b times w, is less than 0 by w times their sum
 both : (w a b : ℤ) → w *ℤ (b -ℤ a) -ℤ pos 2 *ℤ b *ℤ w ≡ neg_ℤ (w *ℤ (a +ℤ b))

@@ -10,3 +10,4 @@ pub mod CommonPoint
 pub mod Walls
 pub mod Uncrossed
 pub mod Imaging
+pub mod BandLemmas
