@@ -1,13 +1,14 @@
 -- Crossings without their numbers are edges, and cuts tell which obstacles screen.
 use Rattle.std.proofs.Common.{◌≡◌, ℕ, suc, ◌+◌, ◌<◌, ◌≤◌, List, [], ◌∷◌, ◌++◌, length, map, filter, ap, sym, ◌∙◌, refl, arith, add-zero, zero-add, append_assoc}
-use Rattle.std.specs.Prelude.{Option, Some, None, Bool, true, false, ◌&&◌, ◌||◌, ◌==◌, slice_index_or, if◌then◌else◌}
+use Rattle.std.specs.Prelude.{Option, Some, None, Bool, true, false, ◌&&◌, ◌||◌, ◌==◌, if◌then◌else◌}
 use Rattle.std.specs.List.{filter_map, list_any}
 use Rattle.std.proofs.lemmas.List.{map-append}
 use Rattle.std.proofs.lemmas.List.Elements.{filter-append}
+use Rattle.std.proofs.lemmas.List.Folds.{list_any-append}
 use Rattle.scene_geom.specs.declared.plan.Side.{Side}
 use Rattle.scene_geom.specs.declared.band.Band.{Band}
-use Rattle.scene_geom.specs.declared.band.Band.TheVariants.{Hz63, Hz125, Hz250, Hz500, Hz1000, Hz2000, Hz4000, Hz8000}
-use Rattle.scene_geom.specs.Bands.{all_bands, place_of}
+use Rattle.scene_geom.specs.Bands.{all_bands}
+use Rattle.scene_geom.proofs.BandLemmas.{at-place}
 use Rattle.scene_parts.specs.Views.{Obstacle}
 use Rattle.scene_parts.specs.Sides.{sides_of}
 use Rattle.path_shape.specs.declared.edge.Edge.{Edge}
@@ -17,61 +18,36 @@ use Rattle.sight_cut.specs.declared.crossing.Crossing.{Crossing}
 use Rattle.sight_cut.specs.Cuts.{edge_of, edges_of, counts_in, edges_in, screens_in, crossing_of, before_all, crossings_along, crossings_from, is_crossing_in, cut_of}
 use Rattle.sight_cut.specs.Laws.{CrossingsAreEdges, CutsTellScreens}
 
--- the entry of a band among what a test gives for all bands
-entry : (test : Band → Bool) (band : Band) → slice_index_or (map test all_bands) (place_of band) false ≡ test band
-entry test Hz63 = refl
-entry test Hz125 = refl
-entry test Hz250 = refl
-entry test Hz500 = refl
-entry test Hz1000 = refl
-entry test Hz2000 = refl
-entry test Hz4000 = refl
-entry test Hz8000 = refl
-
--- an edge before others, if there is one
-abbrev joined : Option Edge → List Edge → List Edge
-joined None edges = edges
-joined (Some edge) edges = edge ∷ edges
-
-joined-is : (f : Side → Option Edge) (side : Side) (sides : List Side) → joined (f side) (filter_map f sides) ≡ filter_map f (side ∷ sides)
-joined-is f side sides = by_edge (f side) refl where
-  by_edge : (edge : Option Edge) → f side ≡ edge → joined (f side) (filter_map f sides) ≡ filter_map f (side ∷ sides)
-  by_edge None e = rw e refl
-  by_edge (Some edge) e = rw e refl
-
 -- of the crossings of one obstacle all count in a band, or none
 abbrev in_band_of : Band → List Crossing → List Crossing
 in_band_of band crossings = filter (is_crossing_in band) crossings
 
 -- a list, or none
-abbrev where_true : {A : Type 0} → Bool → List A → List A
+abbrev pub where_true : {A : Type 0} → Bool → List A → List A
 where_true test xs = if test then xs else []
 
-no-edges : (test : Bool) (none : List Edge) → none ≡ [] → none ≡ where_true test []
-no-edges true none e = e
-no-edges false none e = e
+pub none-counted : {A : Type 0} (test : Bool) (none : List A) → none ≡ [] → none ≡ where_true test []
+none-counted true none e = e
+none-counted false none e = e
 
 -- a crossing before others, which counts as its obstacle does
-more-edges : (test : Bool) (band : Band) (c : Crossing) (others : List Crossing) (edges : List Edge) → is_crossing_in band c ≡ test
-    → map (λ c. c.edge) (in_band_of band others) ≡ where_true test edges
-    → map (λ c. c.edge) (in_band_of band (c ∷ others)) ≡ where_true test (c.edge ∷ edges)
-more-edges true band c others edges e h = rw e (ap (λ (edges : List Edge). c.edge ∷ edges) h)
-more-edges false band c others edges e h = rw e h
-
-next-edges : (band : Band) (ends : Ends) (i k : ℕ) (o : Obstacle) (side : Side) (others : List Crossing) (edge : Option Edge) (edges : List Edge) → edge_of ends o.h side ≡ edge
-    → map (λ c. c.edge) (in_band_of band others) ≡ where_true (counts_in band ends o) edges
-    → map (λ c. c.edge) (in_band_of band (before_all (crossing_of ends i k o side) others)) ≡ where_true (counts_in band ends o) (joined edge edges)
-next-edges band ends i k o side others None edges e h = rw e h
-next-edges band ends i k o side others (Some edge) edges e h =
-    rw e (more-edges (counts_in band ends o) band (record { obstacle = i; side = k; edge = edge; bands = map (λ band. counts_in band ends o) all_bands }) others edges
-    (entry (λ band. counts_in band ends o) band) h)
+pub more-counted : {X A : Type 0} (counts : X → Bool) (edge : X → A) (test : Bool) (x : X) (others : List X) (edges : List A) → counts x ≡ test
+    → map edge (filter counts others) ≡ where_true test edges → map edge (filter counts (x ∷ others)) ≡ where_true test (edge x ∷ edges)
+more-counted counts edge true x others edges e h = rw e (ap (λ ys. edge x ∷ ys) h)
+more-counted counts edge false x others edges e h = rw e h
 
 edges-along : (band : Band) (ends : Ends) (i k : ℕ) (o : Obstacle) (sides : List Side)
     → map (λ c. c.edge) (in_band_of band (crossings_along ends i k o sides)) ≡ where_true (counts_in band ends o) (filter_map (edge_of ends o.h) sides)
-edges-along band ends i k o [] = no-edges (counts_in band ends o) [] refl
-edges-along band ends i k o (side ∷ sides) =
-    next-edges band ends i k o side _ (edge_of ends o.h side) (filter_map (edge_of ends o.h) sides) refl (edges-along band ends i (suc k) o sides)
-    ∙ ap (where_true (counts_in band ends o)) (joined-is (edge_of ends o.h) side sides)
+edges-along band ends i k o [] = none-counted (counts_in band ends o) [] refl
+edges-along band ends i k o (side ∷ sides) = by_edge (edge_of ends o.h side) refl (edges-along band ends i (suc k) o sides) where
+  by_edge : (edge : Option Edge) → edge_of ends o.h side ≡ edge
+      → map (λ c. c.edge) (in_band_of band (crossings_along ends i (suc k) o sides)) ≡ where_true (counts_in band ends o) (filter_map (edge_of ends o.h) sides)
+      → map (λ c. c.edge) (in_band_of band (crossings_along ends i k o (side ∷ sides))) ≡ where_true (counts_in band ends o) (filter_map (edge_of ends o.h) (side ∷ sides))
+  by_edge None e h = rw e h
+  by_edge (Some edge) e h =
+      rw e (more-counted (is_crossing_in band) (λ (c : Crossing). c.edge) (counts_in band ends o) (record { obstacle = i; side = k; edge = edge; bands = map (λ band. counts_in band ends o) all_bands })
+      (crossings_along ends i (suc k) o sides) (filter_map (edge_of ends o.h) sides)
+      (at-place (λ band. counts_in band ends o) false band) h)
 
 edges-from : (band : Band) (ends : Ends) (i : ℕ) (obstacles : List Obstacle)
     → map (λ c. c.edge) (in_band_of band (crossings_from ends i obstacles)) ≡ edges_in band ends obstacles
@@ -99,18 +75,11 @@ shows n cut = cut.obstacle == n && cut.above
 abbrev any_cut : Band → ℕ → List Crossing → Bool
 any_cut band n crossings = list_any (shows n) (map cut_of (in_band_of band crossings))
 
-any-append : {A : Type 0} (p : A → Bool) (xs ys : List A) → list_any p (xs ++ ys) ≡ (list_any p xs || list_any p ys)
-any-append p [] ys = refl
-any-append p (x ∷ xs) ys = by_test (p x) (any-append p xs ys) where
-  by_test : (test : Bool) → list_any p (xs ++ ys) ≡ (list_any p xs || list_any p ys) → (test || list_any p (xs ++ ys)) ≡ ((test || list_any p xs) || list_any p ys)
-  by_test true h = refl
-  by_test false h = h
-
 cuts-append : (band : Band) (n : ℕ) (xs ys : List Crossing) → any_cut band n (xs ++ ys) ≡ (any_cut band n xs || any_cut band n ys)
 cuts-append band n xs ys =
     ap (λ cs. list_any (shows n) (map cut_of cs)) (filter-append (is_crossing_in band) xs ys)
     ∙ ap (list_any (shows n)) (map-append cut_of (in_band_of band xs) (in_band_of band ys))
-    ∙ any-append (shows n) (map cut_of (in_band_of band xs)) (map cut_of (in_band_of band ys))
+    ∙ list_any-append (shows n) (map cut_of (in_band_of band xs)) (map cut_of (in_band_of band ys))
 
 -- a crossing before others, in the band or not
 more-cuts : (test : Bool) (band : Band) (n : ℕ) (c : Crossing) (others : List Crossing) → is_crossing_in band c ≡ test
@@ -131,7 +100,7 @@ other-along band n ends i k o (side ∷ sides) other = by_edge (edge_of ends o.h
   by_edge None e h = rw e h
   by_edge (Some edge) e h =
       let c : Crossing = record { obstacle = i; side = k; edge = edge; bands = map (λ band. counts_in band ends o) all_bands } in
-      rw e (more-cuts (counts_in band ends o) band n c (crossings_along ends i (suc k) o sides) (entry (λ band. counts_in band ends o) band) ∙ rw (h, other) (none-shown (counts_in band ends o)))
+      rw e (more-cuts (counts_in band ends o) band n c (crossings_along ends i (suc k) o sides) (at-place (λ band. counts_in band ends o) false band) ∙ rw (h, other) (none-shown (counts_in band ends o)))
 
 later : (n i : ℕ) → n < i → (i == n) ≡ false
 later n i h = grind arith
@@ -166,26 +135,23 @@ own-along band ends i k o [] = nothing (counts_in band ends o) where
   nothing : (test : Bool) → false ≡ (test && false)
   nothing true = refl
   nothing false = refl
-own-along band ends i k o (side ∷ sides) =
-    by_edge (edge_of ends o.h side) refl (own-along band ends i (suc k) o sides)
-    ∙ ap (λ edges. counts_in band ends o && list_any (λ (edge : Edge). edge.above) edges) (joined-is (edge_of ends o.h) side sides)
-  where
-    same : (i : ℕ) → (i == i) ≡ true
-    same i = grind arith
+own-along band ends i k o (side ∷ sides) = by_edge (edge_of ends o.h side) refl (own-along band ends i (suc k) o sides) where
+  same : (i : ℕ) → (i == i) ≡ true
+  same i = grind arith
 
-    parts : (test above rest : Bool) → ((test && (true && above)) || (test && rest)) ≡ (test && (above || rest))
-    parts true above rest = refl
-    parts false above rest = refl
+  parts : (test above rest : Bool) → ((test && (true && above)) || (test && rest)) ≡ (test && (above || rest))
+  parts true above rest = refl
+  parts false above rest = refl
 
-    by_edge : (edge : Option Edge) → edge_of ends o.h side ≡ edge
-        → any_cut band i (crossings_along ends i (suc k) o sides) ≡ (counts_in band ends o && list_any (λ edge. edge.above) (filter_map (edge_of ends o.h) sides))
-        → any_cut band i (before_all (crossing_of ends i k o side) (crossings_along ends i (suc k) o sides))
-        ≡ (counts_in band ends o && list_any (λ edge. edge.above) (joined (edge_of ends o.h side) (filter_map (edge_of ends o.h) sides)))
-    by_edge None e h = rw e h
-    by_edge (Some edge) e h =
-        let c : Crossing = record { obstacle = i; side = k; edge = edge; bands = map (λ band. counts_in band ends o) all_bands } in
-        rw e (more-cuts (counts_in band ends o) band i c (crossings_along ends i (suc k) o sides) (entry (λ band. counts_in band ends o) band)
-        ∙ rw (h, same i) (parts (counts_in band ends o) edge.above (list_any (λ (edge : Edge). edge.above) (filter_map (edge_of ends o.h) sides))))
+  by_edge : (edge : Option Edge) → edge_of ends o.h side ≡ edge
+      → any_cut band i (crossings_along ends i (suc k) o sides) ≡ (counts_in band ends o && list_any (λ edge. edge.above) (filter_map (edge_of ends o.h) sides))
+      → any_cut band i (before_all (crossing_of ends i k o side) (crossings_along ends i (suc k) o sides))
+      ≡ (counts_in band ends o && list_any (λ edge. edge.above) (filter_map (edge_of ends o.h) (side ∷ sides)))
+  by_edge None e h = rw e h
+  by_edge (Some edge) e h =
+      let c : Crossing = record { obstacle = i; side = k; edge = edge; bands = map (λ band. counts_in band ends o) all_bands } in
+      rw e (more-cuts (counts_in band ends o) band i c (crossings_along ends i (suc k) o sides) (at-place (λ band. counts_in band ends o) false band)
+      ∙ rw (h, same i) (parts (counts_in band ends o) edge.above (list_any (λ (edge : Edge). edge.above) (filter_map (edge_of ends o.h) sides))))
 
 pub cuts-tell-screens : CutsTellScreens
 cuts-tell-screens band ends before after o =

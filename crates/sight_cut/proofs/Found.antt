@@ -1,7 +1,9 @@
 -- Crossings that are found one after another.
-use Rattle.std.proofs.Common.{◌≡◌, ℕ, zero, suc, ◌+◌, ◌*◌, ◌<◌, ◌≤◌, ℤ, pos, negsuc, ◌+ℤ◌, ◌-ℤ◌, ◌*ℤ◌, ◌<ℤ◌, unsigned_abs, List, [], ◌∷◌, ◌++◌, length, drop, map, ap, sym, ◌∙◌, refl, arith, add-one, mul_comm, append_assoc, append-nil, get_or}
+use Rattle.std.proofs.Common.{◌≡◌, ℕ, ◌+◌, ◌*◌, ◌<◌, ◌≤◌, ℤ, pos, negsuc, ◌+ℤ◌, ◌-ℤ◌, ◌*ℤ◌, ◌<ℤ◌, unsigned_abs, List, [], ◌∷◌, ◌++◌, length, drop, map, ap, sym, ◌∙◌, refl, arith, add-one, mul_comm, append_assoc, append-nil, get_or}
 use Rattle.std.specs.Prelude.{Option, Some, None, slice_get, Bool, int_lt, nat_lt}
 use Rattle.std.proofs.lemmas.Int.{ints}
+use Rattle.std.proofs.lemmas.List.{drop_more}
+use Rattle.std.proofs.lemmas.Option.{slice_get_within, get_or_from_slice_get}
 use Rattle.scene_geom.specs.declared.plan.Side.{Side}
 use Rattle.scene_geom.specs.Bands.{all_bands}
 use Rattle.scene_geom.proofs.Whole.{mul_sub}
@@ -9,18 +11,8 @@ use Rattle.scene_parts.specs.Views.{Obstacle}
 use Rattle.path_shape.specs.declared.edge.Edge.{Edge}
 use Rattle.sight_cut.specs.declared.ends.Ends.{Ends}
 use Rattle.sight_cut.specs.declared.crossing.Crossing.{Crossing}
-use Rattle.std.proofs.lemmas.List.{drop_more}
 use Rattle.scene_parts.specs.Sides.{sides_of}
 use Rattle.sight_cut.specs.Cuts.{edge_of, counts_in, crossing_of, before_all, crossings_along, crossings_from}
-
-drop-get : {A : Type 0} (xs : List A) (i : ℕ) (x : A) → slice_get xs i ≡ Some x → drop i xs ≡ x ∷ drop (i + 1) xs
-drop-get [] i x e = cc
-drop-get (y ∷ xs) zero x e = cc
-drop-get (y ∷ xs) (suc i) x e = rw add-one (drop-get-next xs i x e) where
-  drop-get-next : {A : Type 0} (xs : List A) (i : ℕ) (x : A) → slice_get xs i ≡ Some x → drop i xs ≡ x ∷ drop (suc i) xs
-  drop-get-next [] i x e = cc
-  drop-get-next (y ∷ xs) zero x e = cc
-  drop-get-next (y ∷ xs) (suc i) x e = drop-get-next xs i x e
 
 -- a crossing before others
 before-others : (first : Option Crossing) (others : List Crossing) → before_all first others ≡ before_all first [] ++ others
@@ -43,7 +35,9 @@ pub side-added : (ends : Ends) (n : ℕ) (o : Obstacle) (sides : List Side) (i :
     → new ++ crossings_along ends n (i + 1) o (drop (i + 1) sides) ≡ total
 side-added ends n o sides i side found new total e added h =
     let rest = crossings_along ends n (i + 1) o (drop (i + 1) sides) in
-    let next : crossings_along ends n i o (drop i sides) ≡ before_all (crossing_of ends n i o side) rest = ap (crossings_along ends n i o) (drop-get sides i side e) ∙ rw add-one refl in
+    let here : drop i sides ≡ side ∷ drop (i + 1) sides =
+    drop_more sides i side (slice_get_within sides i side e) ∙ ap (λ x. x ∷ drop (i + 1) sides) (get_or_from_slice_get sides i side side e) in
+    let next : crossings_along ends n i o (drop i sides) ≡ before_all (crossing_of ends n i o side) rest = ap (crossings_along ends n i o) here ∙ rw add-one refl in
     ap (λ xs. xs ++ rest) added ∙ append_assoc found (before_all (crossing_of ends n i o side) []) rest
     ∙ ap (λ xs. found ++ xs) (sym (before-others (crossing_of ends n i o side) rest) ∙ sym next) ∙ h
 

@@ -98,8 +98,8 @@ fn add_crossing(
     }
 }
 
-/// In which bands an obstacle is large enough.
-fn bands_of(obstacle: &Obstacle, ends: Ends) -> [bool; 8]
+/// In which bands an obstacle is large enough to screen, from 63 Hz on (7.4).
+pub fn bands_of(obstacle: &Obstacle, ends: Ends) -> [bool; 8]
     ensures { result ≡ map (λ band. counts_in band ends obstacle.now) all_bands }
 {
     let breadth = Breadth::of(obstacle, ends.s, ends.r);

@@ -11,5 +11,5 @@ pub mod laws;
 mod tests;
 
 pub use crossing::Crossing;
-pub use cutting::{crossings, cuts};
+pub use cutting::{bands_of, crossings, cuts};
 pub use ends::Ends;

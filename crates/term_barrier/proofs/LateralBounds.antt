@@ -1,6 +1,6 @@
 -- Bounds on D_z round the sides.
 use Rattle.std.proofs.Common.{◌≡◌, ℕ, ◌+◌, ◌*◌, ◌/◌, ◌<◌, ◌≤◌, ◌^◌, ℤ, pos, neg_ℤ, ◌*ℤ◌, ◌+ℤ◌, ◌≤ℤ◌, refl, sym, ap, subst, ◌∙◌, arith, lit<, lit≤, inl, inr, List, length}
-use Rattle.std.specs.Prelude.{Some, ◌⊎◌}
+use Rattle.std.specs.Prelude.{Option, Some, None, ◌⊎◌}
 use Rattle.std.specs.Int.{abs_diff, div_ceil, int_min, int_max}
 use Rattle.std.proofs.lemmas.Int.{ints, clamps}
 use Rattle.std.proofs.lemmas.Nat.{mul-le}
@@ -8,10 +8,10 @@ use Rattle.std.proofs.lemmas.Bool.{cases_lt}
 use Rattle.std.proofs.lemmas.Grind.{div_ceil_times}
 use Rattle.fix_interval.specs.Units.{unit, unit-is}
 use Rattle.fix_interval.specs.Interval.{Interval}
-use Rattle.fix_interval.specs.Bounds.{AreBetween}
+use Rattle.fix_interval.specs.Bounds.{IsBetween, AreBetween}
 use Rattle.fix_interval.specs.Round.{floor_of, ceil_of, floor_quotient, ceil_quotient}
-use Rattle.fix_interval.specs.Values.{ratio_of, add_of, neg_of, max_of, min_of, mul_of, div_of, product_of_ends, quotient_of_ends}
-use Rattle.fix_interval.specs.Ranges.{constant, sum, negation, product, greater, lesser, square_root, logarithm, sum_range, root_range, root_limit, logarithm_range}
+use Rattle.fix_interval.specs.Values.{ratio_of, add_of, neg_of, max_of, min_of, lesser_low, lesser_high, mul_of, div_of, product_of_ends, quotient_of_ends}
+use Rattle.fix_interval.specs.Ranges.{constant, sum, negation, product, greater, square_root, logarithm, sum_range, root_range, root_limit, logarithm_range}
 use Rattle.fix_interval.specs.Lg.{decade_of, greatest}
 use Rattle.fix_interval.specs.Tree.{Known, enc}
 use Rattle.fix_interval.proofs.Ratios.{ratio_of-small, ratio_of-one}
@@ -253,7 +253,7 @@ c_3-between band e near =
 
 -- ---- D_z
 
-c_2-between : (band : Band) → AreBetween (pos 0) (pos (2 ^ 41)) (enc (c_2_by_wavelength band))
+pub c_2-between : (band : Band) → AreBetween (pos 0) (pos 2021161080472) (enc (c_2_by_wavelength band))
 unfolding c_2_by_wavelength ratio_of unit
 c_2-between Hz63 = record { lo = (omega (arith, ints), omega (arith, ints)); hi = (omega (arith, ints), omega (arith, ints)) }
 c_2-between Hz125 = record { lo = (omega (arith, ints), omega (arith, ints)); hi = (omega (arith, ints), omega (arith, ints)) }
@@ -264,28 +264,42 @@ c_2-between Hz2000 = record { lo = (omega (arith, ints), omega (arith, ints)); h
 c_2-between Hz4000 = record { lo = (omega (arith, ints), omega (arith, ints)); hi = (omega (arith, ints), omega (arith, ints)) }
 c_2-between Hz8000 = record { lo = (omega (arith, ints), omega (arith, ints)); hi = (omega (arith, ints), omega (arith, ints)) }
 
+-- ten times the logarithm of 3 and a quantity, where it counts as 1 if it is less
+ten_lg-between : (x : Interval) → AreBetween (neg_ℤ (pos (2 ^ 125))) (pos (2 ^ 125)) x → AreBetween (pos 0) (pos (2 ^ 41)) (enc (ten_lg (three_and (Known x))))
+unfolding ten_lg unit ratio_of max_of mul_of sum_range logarithm_range decade_of greatest
+ten_lg-between x h =
+    between _ _ {t = ten_lg (three_and (Known x))}
+    (product (constant (lit< tt)) (logarithm logarithm-ranged (greater (constant (lit< tt)) (sum (constant (lit< tt)) (part-between _ _ {t = Known x} h))))) refl
+
+limited-end : (limit : ℤ) (end : Option ℤ) → pos 0 ≤ℤ limit → limit ≤ℤ most_top → IsBetween (pos 0) (pos (2 ^ 41)) end
+    → IsBetween (pos 0) most_top (lesser_low (Some limit) end) × IsBetween (pos 0) most_top (lesser_high (Some limit) end)
+limited-end limit None low high h = absurd h
+limited-end limit (Some z) low high h =
+    ((omega (arith, ints, clamps, low, h.0), omega (arith, ints, clamps, high)), (omega (arith, ints, clamps, low, h.0), omega (arith, ints, clamps, high)))
+
+-- D_z at any quantity within these bounds
+pub attenuated : (limit : ℕ) (x : Interval) → limit ≤ 25 → AreBetween (neg_ℤ (pos (2 ^ 125))) (pos (2 ^ 125)) x → AreBetween (pos 0) most_top (enc (attenuation limit (three_and (Known x))))
+unfolding attenuation min_of
+attenuated limit x few h =
+    let found = ten_lg-between x h in
+    let low : pos 0 ≤ℤ (pos limit *ℤ pos unit) = rw unit-is (omega (arith, ints)) in
+    let high : (pos limit *ℤ pos unit) ≤ℤ most_top = rw unit-is (omega (arith, ints, few)) in
+    rw (ratio_of-one (pos limit) (omega (arith, few)))
+    (record { lo = (limited-end (pos limit *ℤ pos unit) (enc (ten_lg (three_and (Known x)))).lo low high found.lo).0; hi = (limited-end (pos limit *ℤ pos unit) (enc (ten_lg (three_and (Known x)))).hi low high found.hi).1 })
+
 pub one-between : (band : Band) (z : Interval) → AreBetween (neg_ℤ (pos (2 ^ 60))) (pos (2 ^ 63)) z
     → AreBetween (pos 0) most_top (enc (attenuation single_limit (Known (enc (three_and (at_one_edge band (Known z)))))))
-unfolding attenuation ten_lg at_one_edge unit ratio_of max_of min_of mul_of sum_range logarithm_range decade_of greatest
+unfolding attenuation ten_lg at_one_edge unit mul_of
 one-between band z h =
-    between _ _ {t = attenuation single_limit (three_and (at_one_edge band (Known z)))}
-    (lesser (constant (lit< tt))
-    (product (constant (lit< tt))
-    (logarithm logarithm-ranged
-    (greater (constant (lit< tt))
-    (sum (constant (lit< tt))
-    (product (part-between _ _ {t = c_2_by_wavelength band} (c_2-between band)) (part-between _ _ {t = Known z} h))))))) refl
+    attenuated single_limit (enc (at_one_edge band (Known z))) (omega arith)
+    (between _ _ {t = at_one_edge band (Known z)} (product (part-between _ _ {t = c_2_by_wavelength band} (c_2-between band)) (part-between _ _ {t = Known z} h)) refl)
 
 pub several-between : (band : Band) (e z : Interval) → Near (2 ^ 33) (2 ^ 62) e → AreBetween (neg_ℤ (pos (2 ^ 60))) (pos (2 ^ 63)) z
     → AreBetween (pos 0) most_top (enc (attenuation double_limit (Known (enc (three_and (Known (two_edges band (apart_of e) z)))))))
-unfolding attenuation ten_lg at_two_edges c_3 unit ratio_of max_of min_of mul_of sum_range logarithm_range decade_of greatest
+unfolding attenuation ten_lg at_two_edges c_3 unit mul_of
 several-between band e z near h =
-    between _ _ {t = attenuation double_limit (three_and (at_two_edges band (Known e) (Known z)))}
-    (lesser (constant (lit< tt))
-    (product (constant (lit< tt))
-    (logarithm logarithm-ranged
-    (greater (constant (lit< tt))
-    (sum (constant (lit< tt))
+    attenuated double_limit (enc (at_two_edges band (Known e) (Known z))) (omega arith)
+    (between _ _ {t = at_two_edges band (Known e) (Known z)}
     (product
     (product (part-between _ _ {t = c_2_by_wavelength band} (c_2-between band)) (part-between _ _ {t = c_3 band (Known e)} (c_3-between band e near)))
-    (part-between _ _ {t = Known z} h))))))) refl
+    (part-between _ _ {t = Known z} h)) refl)

@@ -3,11 +3,12 @@ use Rattle.std.proofs.Common.{ℕ, ◌*◌, ◌<◌, ◌≡◌, refl, ℤ, pos, 
 use Rattle.std.specs.Prelude.{unsigned_abs, ◌<ℤ◌}
 use Rattle.std.specs.List.{list_any}
 use Rattle.std.proofs.lemmas.Int.{ints}
+use Rattle.std.proofs.lemmas.Nat.{mul-le}
 use Rattle.fix_interval.specs.Tree.{Tree, Max, Add, IsSound}
 use Rattle.scene_geom.specs.declared.plan.Pt.{Pt}
 use Rattle.scene_geom.specs.declared.band.Band.{Band}
-use Rattle.scene_geom.specs.declared.band.Band.TheVariants.{Hz63, Hz125, Hz250, Hz500, Hz1000, Hz2000, Hz4000, Hz8000}
 use Rattle.scene_geom.specs.Bands.{frequency_of}
+use Rattle.scene_geom.proofs.BandLemmas.{frequency-positive}
 use Rattle.path_shape.specs.Shape.{plan_length}
 use Rattle.path_shape.specs.declared.edge.Edge.{Edge}
 use Rattle.path_shape.specs.declared.path.Path.{Path}
@@ -19,19 +20,9 @@ use Rattle.term_barrier.specs.Laws.{ScreeningIsSound, SideAttenuationIsSound}
 
 -- ---- equations (14) to (18)
 
-frequency-positive : (band : Band) → 0 < frequency_of band * frequency_of band
-frequency-positive Hz63 = omega arith
-frequency-positive Hz125 = omega arith
-frequency-positive Hz250 = omega arith
-frequency-positive Hz500 = omega arith
-frequency-positive Hz1000 = omega arith
-frequency-positive Hz2000 = omega arith
-frequency-positive Hz4000 = omega arith
-frequency-positive Hz8000 = omega arith
-
 sound-waves : (band : Band) → IsSound (five_wavelengths_squared band)
 unfolding five_wavelengths_squared
-sound-waves band = frequency-positive band
+sound-waves band = omega (arith, mul-le 1 1 (frequency_of band) (frequency_of band) (frequency-positive band) (frequency-positive band))
 
 sound-c_2 : (band : Band) → IsSound (c_2_by_wavelength band)
 unfolding c_2_by_wavelength
