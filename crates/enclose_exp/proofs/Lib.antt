@@ -1,5 +1,8 @@
 pub mod DecayInterval
 pub mod DecayLaw
+pub mod DecayTables
+pub mod ExactProducts
+pub mod DigitTables
 pub mod Exponents
 pub mod Law
 pub mod PowerNodes

@@ -49,7 +49,7 @@ shrinks-high p x small = quotient_up-le (p * x) p one_factor (omega arith) (mul-
 
 -- ---- tests over a table
 
-both-true : (a b : Bool) → (a && b) ≡ true → (a ≡ true) × (b ≡ true)
+pub both-true : (a b : Bool) → (a && b) ≡ true → (a ≡ true) × (b ≡ true)
 both-true true b h = (refl, h)
 both-true false b h = absurd (false≢true h)
 
@@ -58,7 +58,7 @@ abbrev all_from : ℕ → List ℕ → Bool
 all_from least [] = true
 all_from least (x ∷ xs) = nat_le least x && all_from least xs
 
-abbrev all_to : ℕ → List ℕ → Bool
+abbrev pub all_to : ℕ → List ℕ → Bool
 all_to most [] = true
 all_to most (x ∷ xs) = nat_le x most && all_to most xs
 
@@ -67,7 +67,7 @@ all_from-at least [] i all within = absurd (omega arith)
 all_from-at least (x ∷ xs) zero all within = leb-true least x (both-true (nat_le least x) (all_from least xs) all).0
 all_from-at least (x ∷ xs) (suc i) all within = all_from-at least xs i (both-true (nat_le least x) (all_from least xs) all).1 (omega arith)
 
-all_to-at : (most : ℕ) (xs : List ℕ) (i : ℕ) → all_to most xs ≡ true → i < length xs → get_or xs i 0 ≤ most
+pub all_to-at : (most : ℕ) (xs : List ℕ) (i : ℕ) → all_to most xs ≡ true → i < length xs → get_or xs i 0 ≤ most
 all_to-at most [] i all within = absurd (omega arith)
 all_to-at most (x ∷ xs) zero all within = leb-true x most (both-true (nat_le x most) (all_to most xs) all).0
 all_to-at most (x ∷ xs) (suc i) all within = all_to-at most xs i (both-true (nat_le x most) (all_to most xs) all).1 (omega arith)
@@ -75,10 +75,10 @@ all_to-at most (x ∷ xs) (suc i) all within = all_to-at most xs i (both-true (n
 -- ---- the tables
 
 -- the factor above 1 with this growth, and the factor below 1 with this loss
-abbrev grown : ℕ → ℕ
+abbrev pub grown : ℕ → ℕ
 grown growth = (2 ^ 64 + growth) / 16
 
-abbrev shrunk : ℕ → ℕ
+abbrev pub shrunk : ℕ → ℕ
 shrunk loss = (2 ^ 64 - loss) / 16
 
 -- each entry is sixteen of something, and less than 2^64
@@ -95,41 +95,41 @@ sixteens-at (x ∷ xs) (suc i) all within =
     sixteens-at xs i (both-true (x % 16 == 0 && nat_lt x (2 ^ 64)) (are_sixteens xs) all).1 (omega arith)
 
 -- the factors of the first eight digits of a power of ten
-abbrev firsts_low : List ℕ
+abbrev pub firsts_low : List ℕ
 firsts_low = 3645857917945947428 ∷ 2050216573033451056 ∷ 1537445535995216957 ∷ 1331372983281051052 ∷ 1238938474290509674 ∷ 1195156395579392702 ∷ 1173849014921377965 ∷ 1163338202099638886 ∷ []
 
-abbrev firsts_high : List ℕ
+abbrev pub firsts_high : List ℕ
 firsts_high = 3645857917945947429 ∷ 2050216573033451058 ∷ 1537445535995216959 ∷ 1331372983281051054 ∷ 1238938474290509676 ∷ 1195156395579392704 ∷ 1173849014921377967 ∷ 1163338202099638888 ∷ []
 
 -- the factors of all digits
-abbrev ten_low : List ℕ
+abbrev pub ten_low : List ℕ
 ten_low = firsts_low ++ map grown GROWTHS_LOW
 
-abbrev ten_high : List ℕ
+abbrev pub ten_high : List ℕ
 ten_high = firsts_high ++ map grown GROWTHS_HIGH
 
-abbrev decay_low_factors : List ℕ
+abbrev pub decay_low_factors : List ℕ
 decay_low_factors = map shrunk LOSSES_LOW
 
-abbrev decay_high_factors : List ℕ
+abbrev pub decay_high_factors : List ℕ
 decay_high_factors = map shrunk LOSSES_HIGH
 
-ten_low-at : (i : ℕ) → i < 32 → get_or ten_low i 0 ≡ ten_factor_low i
+pub ten_low-at : (i : ℕ) → i < 32 → get_or ten_low i 0 ≡ ten_factor_low i
 unfolding root_low ten_factor_low
 ten_low-at i within =
     roots_low-at (10 * one_factor) 0 ten_low i refl within ∙ ap (λ k. root_low (10 * one_factor) (suc k)) (zero-add i)
 
-ten_high-at : (i : ℕ) → i < 32 → get_or ten_high i 0 ≡ ten_factor_high i
+pub ten_high-at : (i : ℕ) → i < 32 → get_or ten_high i 0 ≡ ten_factor_high i
 unfolding root_high ten_factor_high
 ten_high-at i within =
     roots_high-at (10 * one_factor) 0 ten_high i refl within ∙ ap (λ k. root_high (10 * one_factor) (suc k)) (zero-add i)
 
-decay_low-at : (i : ℕ) → i < 32 → get_or decay_low_factors i 0 ≡ decay_factor_low i
+pub decay_low-at : (i : ℕ) → i < 32 → get_or decay_low_factors i 0 ≡ decay_factor_low i
 unfolding root_low decay_factor_low inverse_e_low factorial_20 exponential_sum
 decay_low-at i within =
     roots_low-at inverse_e_low 0 decay_low_factors i refl within ∙ ap (λ k. root_low inverse_e_low (suc k)) (zero-add i)
 
-decay_high-at : (i : ℕ) → i < 32 → get_or decay_high_factors i 0 ≡ decay_factor_high i
+pub decay_high-at : (i : ℕ) → i < 32 → get_or decay_high_factors i 0 ≡ decay_factor_high i
 unfolding root_high decay_factor_high inverse_e_high factorial_20 exponential_sum
 decay_high-at i within =
     roots_high-at inverse_e_high 0 decay_high_factors i refl within ∙ ap (λ k. root_high inverse_e_high (suc k)) (zero-add i)
@@ -223,29 +223,32 @@ ten_low-start fraction small = start-is times_low firsts_low STARTS_LOW ten_fact
 pub ten_high-start : (fraction : ℕ) → fraction < 2 ^ 32 → get_or STARTS_HIGH (fraction / 2 ^ 24) 0 ≡ product times_high ten_factor_high one_factor fraction 8
 ten_high-start fraction small = start-is times_high firsts_high STARTS_HIGH ten_factor_high fraction starts_high-hold (omega arith) first_high-at
 
+pub ten_low-start_large : (fraction : ℕ) → fraction < 2 ^ 32 → one_factor ≤ get_or STARTS_LOW (fraction / 2 ^ 24) 0
+ten_low-start_large fraction small = all_from-at one_factor STARTS_LOW (fraction / 2 ^ 24) refl (omega arith)
+
 -- ---- what the products are below
 
-pub ten_low-small : (fraction count : ℕ) → count ≤ 32 → product times_low ten_factor_low one_factor fraction count < 2 ^ 64
+pub ten_low-small : (fraction count : ℕ) → count ≤ 32 → product times_low ten_factor_low one_factor fraction count < 15 * 2 ^ 60
 ten_low-small fraction count within =
-    let most : product_of_all times_low ten_low one_factor < 2 ^ 64 = lit< tt in
+    let most : product_of_all times_low ten_low one_factor < 15 * 2 ^ 60 = lit< tt in
     let same = product-same times_low (λ i. get_or ten_low i 0) ten_factor_low one_factor fraction count (λ i h. ten_low-at i (omega arith)) in
     let less = product-le_all times_low one_factor grows-low ten_low one_factor fraction count (λ i h. all_from-at one_factor ten_low i refl h) within in
     omega (arith, most, same, less)
 
-pub ten_high-small : (fraction count : ℕ) → count ≤ 32 → product times_high ten_factor_high one_factor fraction count < 2 ^ 64
+pub ten_high-small : (fraction count : ℕ) → count ≤ 32 → product times_high ten_factor_high one_factor fraction count < 15 * 2 ^ 60
 ten_high-small fraction count within =
-    let most : product_of_all times_high ten_high one_factor < 2 ^ 64 = lit< tt in
+    let most : product_of_all times_high ten_high one_factor < 15 * 2 ^ 60 = lit< tt in
     let same = product-same times_high (λ i. get_or ten_high i 0) ten_factor_high one_factor fraction count (λ i h. ten_high-at i (omega arith)) in
     let less = product-le_all times_high one_factor grows-high ten_high one_factor fraction count (λ i h. all_from-at one_factor ten_high i refl h) within in
     omega (arith, most, same, less)
 
 pub fraction_low-small : (fraction : ℕ) → fraction_low fraction < 2 ^ 64
 unfolding fraction_low
-fraction_low-small fraction = ten_low-small fraction 32 (omega arith)
+fraction_low-small fraction = omega (arith, ten_low-small fraction 32 (omega arith))
 
 pub fraction_high-small : (fraction : ℕ) → fraction_high fraction < 2 ^ 64
 unfolding fraction_high
-fraction_high-small fraction = ten_high-small fraction 32 (omega arith)
+fraction_high-small fraction = omega (arith, ten_high-small fraction 32 (omega arith))
 
 -- ---- whole powers of 1/e
 

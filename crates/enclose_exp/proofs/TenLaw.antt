@@ -14,7 +14,7 @@ roots_low : (j : ℕ) → ten_factor_low j ^ (2 ^ suc j) * 1 ≤ 10 * one_factor
 unfolding ten_factor_low
 roots_low j = root_low-law 10 1 (10 * one_factor) (suc j) (omega arith)
 
-fraction_low-law : (f : ℕ) → f < 2 ^ 32 → fraction_low f ^ unit ≤ 10 ^ f * one_factor ^ unit
+pub fraction_low-law : (f : ℕ) → f < 2 ^ 32 → fraction_low f ^ unit ≤ 10 ^ f * one_factor ^ unit
 unfolding fraction_low
 fraction_low-law f small =
     let law = all_low-law 10 1 ten_factor_low 0 one_factor f 32 unit refl unit-is small roots_low (omega arith) in
@@ -25,7 +25,7 @@ roots_high : (j : ℕ) → 10 * one_factor ^ (2 ^ suc j) ≤ ten_factor_high j ^
 unfolding ten_factor_high
 roots_high j = root_high-law 10 1 (10 * one_factor) (suc j) (omega arith)
 
-fraction_high-law : (f : ℕ) → f < 2 ^ 32 → 10 ^ f * one_factor ^ unit ≤ fraction_high f ^ unit
+pub fraction_high-law : (f : ℕ) → f < 2 ^ 32 → 10 ^ f * one_factor ^ unit ≤ fraction_high f ^ unit
 unfolding fraction_high
 fraction_high-law f small =
     let law = all_high-law 10 1 ten_factor_high 0 one_factor f 32 unit refl unit-is small roots_high (omega arith) in

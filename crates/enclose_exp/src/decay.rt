@@ -1,9 +1,11 @@
 //! e to the power of the negative of an interval, as ISO 9613-2 takes it in Table 3 and in equation (18).
 
-ghost use Rattle.std.specs.Prelude.{◌≡◌, ◌<◌, ◌≤◌, ◌*◌, ◌^◌, ◌≤ℤ◌, IsSomeAnd, min, pos, Some, unsigned_abs};
+ghost use Rattle.std.specs.Prelude.{◌≡◌, ◌<◌, ◌≤◌, ◌*◌, ◌/◌, ◌^◌, ◌≤ℤ◌, IsSomeAnd, min, pos, Some, unsigned_abs};
 ghost use Rattle.std.specs.Option.{option_map_or, ForSome};
+ghost use Rattle.std.specs.Int.{div_ceil};
 ghost use Rattle.fix_interval.specs.ExpNeg.{exp_neg_of, exp_neg_low, exp_neg_high, decay_low, decay_high};
 
+use crate::estimates::{DECAY_EXCESS, DECAY_MARGIN, decay_estimate};
 use crate::product::{shrunk_down, shrunk_up, taken, units_up};
 use crate::tables::{LOSSES_HIGH, LOSSES_LOW, WHOLE_HIGH, WHOLE_LOW};
 use fix_interval::Iv;
@@ -22,8 +24,7 @@ pub fn exp_neg(a: Iv) -> Iv
 {
     let low = exponent(a.low());
     let high = exponent(a.high());
-    let (down, up) = decays(high, low);
-    Iv::of_ends(low_decay(high, down), high_decay(low, up))
+    Iv::of_ends(low_decay(high), high_decay(low))
 }
 
 /// The exponent of an end, kept within 23; an unbounded one is 23.
@@ -38,47 +39,83 @@ fn exponent(end: Option<i128>) -> u64
     }
 }
 
-/// 1/e to the power of two numbers, in units of 2^-60, of the first rounded down and of the second rounded
-/// up.
-fn decays(low: u64, high: u64) -> (u64, u64)
-    requires low { low ≤ 23 * 2 ^ 32 }
-    requires high { high ≤ 23 * 2 ^ 32 }
-    ensures low { result.0 ≡ decay_low low }
-    ensures high { result.1 ≡ decay_high high }
-{
-    let mut down = WHOLE_LOW[(low >> 32) as usize];
-    let mut up = WHOLE_HIGH[(high >> 32) as usize];
-    let low_fraction = (low % (1 << 32)) as u32;
-    let high_fraction = (high % (1 << 32)) as u32;
-    for place in 0..32usize {
-        down = shrunk_down(down, taken(LOSSES_LOW[place], low_fraction, place));
-        up = shrunk_up(up, taken(LOSSES_HIGH[place], high_fraction, place));
-    }
-    (down, up)
-}
-
-/// The low end of a decay, which is `product` in units of 2^-60.
-fn low_decay(exponent: u64, product: u64) -> Option<i128>
-    requires { product ≡ decay_low exponent }
+/// The low end of a decay.
+fn low_decay(exponent: u64) -> Option<i128>
+    requires { exponent ≤ 23 * 2 ^ 32 }
     ensures { result ≡ Some (pos (exp_neg_low exponent)) }
 {
     if exponent < GREATEST {
-        Some(i128::from(product >> 28))
+        Some(i128::from(units_of_low(exponent)))
     } else {
         Some(0)
     }
 }
 
 /// The high end of a decay.
-fn high_decay(exponent: u64, product: u64) -> Option<i128>
-    requires { product ≡ decay_high exponent }
+fn high_decay(exponent: u64) -> Option<i128>
+    requires { exponent ≤ 23 * 2 ^ 32 }
     ensures { result ≡ Some (pos (exp_neg_high exponent)) }
 {
     if exponent < GREATEST {
-        Some(i128::from(units_up(product)))
+        Some(i128::from(units_of_high(exponent)))
     } else {
         Some(1)
     }
+}
+
+/// 1/e to the power of an exponent in units of 2^-32, rounded down: where the estimate leaves one number only, that,
+/// and else by the digits.
+fn units_of_low(exponent: u64) -> u64
+    requires { exponent ≤ 23 * 2 ^ 32 }
+    ensures { result ≡ decay_low exponent / 2 ^ 28 }
+{
+    let estimate = decay_estimate(exponent);
+    let least = estimate.saturating_sub(DECAY_EXCESS) >> 28;
+    if (estimate + DECAY_MARGIN) >> 28 == least {
+        least
+    } else {
+        decay_down(exponent) >> 28
+    }
+}
+
+/// The same, rounded up.
+fn units_of_high(exponent: u64) -> u64
+    requires { exponent ≤ 23 * 2 ^ 32 }
+    ensures { result ≡ div_ceil (decay_high exponent) (2 ^ 28) }
+{
+    let estimate = decay_estimate(exponent);
+    let least = units_up(estimate);
+    if units_up(estimate + DECAY_MARGIN) == least {
+        least
+    } else {
+        units_up(decay_up(exponent))
+    }
+}
+
+/// 1/e to the power of an exponent, in units of 2^-60, rounded down, digit by digit.
+fn decay_down(exponent: u64) -> u64
+    requires { exponent ≤ 23 * 2 ^ 32 }
+    ensures { result ≡ decay_low exponent }
+{
+    let mut product = WHOLE_LOW[(exponent >> 32) as usize];
+    let fraction = (exponent % (1 << 32)) as u32;
+    for place in 0..32usize {
+        product = shrunk_down(product, taken(LOSSES_LOW[place], fraction, place));
+    }
+    product
+}
+
+/// The same, rounded up.
+fn decay_up(exponent: u64) -> u64
+    requires { exponent ≤ 23 * 2 ^ 32 }
+    ensures { result ≡ decay_high exponent }
+{
+    let mut product = WHOLE_HIGH[(exponent >> 32) as usize];
+    let fraction = (exponent % (1 << 32)) as u32;
+    for place in 0..32usize {
+        product = shrunk_up(product, taken(LOSSES_HIGH[place], fraction, place));
+    }
+    product
 }
 
 #[cfg(test)]

@@ -1,12 +1,14 @@
 //! Ten to the power of an interval.
 
-ghost use Rattle.std.specs.Prelude.{◌≡◌, ◌<◌, ◌≤◌, ◌*◌, ◌%◌, ◌^◌, ◌≤ℤ◌, IsSomeAnd, IfSome, pos, Some};
+ghost use Rattle.std.specs.Prelude.{◌≡◌, ◌<◌, ◌≤◌, ◌*◌, ◌/◌, ◌^◌, ◌≤ℤ◌, IsSomeAnd, IfSome, pos, Some};
 ghost use Rattle.std.specs.Option.{option_map_or};
+ghost use Rattle.std.specs.Int.{div_ceil};
 ghost use Rattle.fix_interval.specs.Interval.{IsInterval};
 ghost use Rattle.fix_interval.specs.Ten.{ten_of, raised_low, raised_high, fraction_low, fraction_high};
 ghost use Rattle.enclose_exp.specs.Exponent.{counted, low_value, high_value};
 
-use crate::product::{grown_down, grown_up, taken, units_up};
+use crate::estimates::{POWER_MARGIN, high_estimate, low_estimate};
+use crate::product::{grown_down, grown_up, taken};
 use crate::starts::{STARTS_HIGH, STARTS_LOW};
 use crate::tables::{GROWTHS_HIGH, GROWTHS_LOW};
 use fix_interval::{Iv, power_of_ten};
@@ -20,6 +22,9 @@ const GREATEST_COUNTED: u64 = 40 << 32;
 /// The exponent -19 as it is counted: below it a power is less than the least end above 0.
 const LEAST_COUNTED: u64 = 1 << 32;
 
+/// The whole exponent 7 as it is counted. From there on the bounds of an estimate never meet.
+const FROM_DIGITS: u32 = 27;
+
 /// Ten to the power of an interval, end by end: the low end rounded down and the high end rounded up to
 /// 2^-32. ISO 9613-2 adds levels by it, in equation (5). The low end is bounded and not below 0;
 /// the high end is above 0, and is unbounded where the exponent may reach 20.
@@ -31,8 +36,7 @@ pub fn ten(a: Iv) -> Iv
 {
     let low = exponent(a.low(), 0);
     let high = exponent(a.high(), GREATEST_COUNTED);
-    let (down, up) = fractions((low % (1 << 32)) as u32, (high % (1 << 32)) as u32);
-    Iv::of_ends(low_power(low, down), high_power(high, up))
+    Iv::of_ends(low_power(low), high_power(high))
 }
 
 /// The exponent of an end as it is counted, from -20 on; `unbounded` where there is no end.
@@ -47,25 +51,9 @@ fn exponent(end: Option<i128>, unbounded: u64) -> u64
     }
 }
 
-/// Ten to the power of two fractions of 2^-32nds, in units of 2^-60, of the first rounded down and of the
-/// second rounded up. Their first eight digits are looked up, and the others are taken side by side.
-fn fractions(low: u32, high: u32) -> (u64, u64)
-    ensures low { result.0 ≡ fraction_low low }
-    ensures high { result.1 ≡ fraction_high high }
-{
-    let mut down = STARTS_LOW[(low >> 24) as usize];
-    let mut up = STARTS_HIGH[(high >> 24) as usize];
-    for place in 8..32usize {
-        down = grown_down(down, taken(GROWTHS_LOW[place - 8], low, place));
-        up = grown_up(up, taken(GROWTHS_HIGH[place - 8], high, place));
-    }
-    (down, up)
-}
-
-/// The low end of a power, of which `fraction` is the power of the fraction.
-fn low_power(exponent: u64, fraction: u64) -> Option<i128>
-    requires exponent { exponent ≤ 40 * 2 ^ 32 }
-    requires fraction { fraction ≡ fraction_low (exponent % 2 ^ 32) }
+/// The low end of a power.
+fn low_power(exponent: u64) -> Option<i128>
+    requires { exponent ≤ 40 * 2 ^ 32 }
     ensures { result ≡ Some (pos (low_value exponent)) }
 {
     if exponent >= GREATEST_COUNTED {
@@ -73,14 +61,13 @@ fn low_power(exponent: u64, fraction: u64) -> Option<i128>
     } else if exponent < LEAST_COUNTED {
         Some(0)
     } else {
-        Some(power_down(exponent, fraction) as i128)
+        Some(power_down(exponent) as i128)
     }
 }
 
 /// The high end of a power.
-fn high_power(exponent: u64, fraction: u64) -> Option<i128>
-    requires exponent { exponent ≤ 40 * 2 ^ 32 }
-    requires fraction { fraction ≡ fraction_high (exponent % 2 ^ 32) }
+fn high_power(exponent: u64) -> Option<i128>
+    requires { exponent ≤ 40 * 2 ^ 32 }
     ensures { result ≡ high_value exponent }
 {
     if exponent >= GREATEST_COUNTED {
@@ -88,41 +75,120 @@ fn high_power(exponent: u64, fraction: u64) -> Option<i128>
     } else if exponent < LEAST_COUNTED {
         Some(1)
     } else {
-        Some(power_up(exponent, fraction) as i128)
+        Some(power_up(exponent) as i128)
     }
 }
 
-/// The power of a fraction times that of the whole part, rounded down.
-fn power_down(exponent: u64, fraction: u64) -> u128
+/// The power of the fraction times that of the whole part, rounded down. A negative power is divided after it is in
+/// units of 2^-32, which is the same, so that its fraction is decided without the division.
+fn power_down(exponent: u64) -> u128
     requires above { 2 ^ 32 ≤ exponent }
     requires below { exponent < 40 * 2 ^ 32 }
-    requires fraction { fraction ≡ fraction_low (exponent % 2 ^ 32) }
     ensures value { result ≡ raised_low exponent }
     ensures bound { result < 2 ^ 100 }
 {
     let whole = (exponent >> 32) as u32;
+    let fraction = (exponent % (1 << 32)) as u32;
     if whole < 20 {
-        u128::from((fraction >> 28) / small_power_of_ten(20 - whole))
+        u128::from((scaled_down(fraction, 1) as u64) / small_power_of_ten(20 - whole))
+    } else if whole < FROM_DIGITS {
+        scaled_down(fraction, small_power_of_ten(whole - 20))
     } else {
-        (u128::from(fraction) * u128::from(small_power_of_ten(whole - 20))) >> 28
+        units_down(fraction_down(fraction), small_power_of_ten(whole - 20))
     }
 }
 
 /// The same, rounded up.
-fn power_up(exponent: u64, fraction: u64) -> u128
+fn power_up(exponent: u64) -> u128
     requires above { 2 ^ 32 ≤ exponent }
     requires below { exponent < 40 * 2 ^ 32 }
-    requires fraction { fraction ≡ fraction_high (exponent % 2 ^ 32) }
     ensures value { result ≡ raised_high exponent }
     ensures bound { result < 2 ^ 101 }
 {
     let whole = (exponent >> 32) as u32;
+    let fraction = (exponent % (1 << 32)) as u32;
     if whole < 20 {
-        u128::from(units_up(fraction).div_ceil(small_power_of_ten(20 - whole)))
+        u128::from((scaled_up(fraction, 1) as u64).div_ceil(small_power_of_ten(20 - whole)))
+    } else if whole < FROM_DIGITS {
+        scaled_up(fraction, small_power_of_ten(whole - 20))
     } else {
-        let product = u128::from(fraction) * u128::from(small_power_of_ten(whole - 20));
-        (product + ((1 << 28) - 1)) >> 28
+        units_up(fraction_up(fraction), small_power_of_ten(whole - 20))
     }
+}
+
+/// The power of a fraction times a factor, rounded down to 2^-32: where the estimate leaves one number only, that,
+/// and else by the digits.
+#[inline(always)]
+fn scaled_down(fraction: u32, factor: u64) -> u128
+    ensures { result ≡ fraction_low fraction * factor / 2 ^ 28 }
+{
+    let estimate = low_estimate(fraction);
+    let least = units_down(estimate, factor);
+    if units_down(estimate + POWER_MARGIN, factor) == least {
+        least
+    } else {
+        units_down(fraction_down(fraction), factor)
+    }
+}
+
+/// The same, rounded up.
+#[inline(always)]
+fn scaled_up(fraction: u32, factor: u64) -> u128
+    ensures { result ≡ div_ceil (fraction_high fraction * factor) (2 ^ 28) }
+{
+    let estimate = high_estimate(fraction);
+    let least = units_up(estimate, factor);
+    if units_up(estimate + POWER_MARGIN, factor) == least {
+        least
+    } else {
+        units_up(fraction_up(fraction), factor)
+    }
+}
+
+/// A product in units of 2^-60 times a factor, in units of 2^-32, rounded down.
+#[inline(always)]
+fn units_down(product: u64, factor: u64) -> u128
+    ensures { result ≡ product * factor / 2 ^ 28 }
+{
+    (u128::from(product) * u128::from(factor)) >> 28
+}
+
+/// The same, rounded up.
+#[inline(always)]
+fn units_up(product: u64, factor: u64) -> u128
+    ensures { result ≡ div_ceil (product * factor) (2 ^ 28) }
+{
+    let product = u128::from(product) * u128::from(factor);
+    (product + ((1 << 28) - 1)) >> 28
+}
+
+/// Ten to the power of a fraction of 2^-32nds, in units of 2^-60, rounded down. Its first eight digits are looked up,
+/// and the others are taken one by one.
+fn fraction_down(fraction: u32) -> u64
+    ensures { result ≡ fraction_low fraction }
+{
+    let mut product = STARTS_LOW[(fraction >> 24) as usize];
+    for block in 0..4usize {
+        for digit in 0..6usize {
+            let place = 6 * block + digit;
+            product = grown_down(product, taken(GROWTHS_LOW[place], fraction, place + 8));
+        }
+    }
+    product
+}
+
+/// The same, rounded up.
+fn fraction_up(fraction: u32) -> u64
+    ensures { result ≡ fraction_high fraction }
+{
+    let mut product = STARTS_HIGH[(fraction >> 24) as usize];
+    for block in 0..4usize {
+        for digit in 0..6usize {
+            let place = 6 * block + digit;
+            product = grown_up(product, taken(GROWTHS_HIGH[place], fraction, place + 8));
+        }
+    }
+    product
 }
 
 /// 10 to a whole power below 20, which fits 64 bits.

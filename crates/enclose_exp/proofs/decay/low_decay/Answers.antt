@@ -1,4 +1,4 @@
-use Rattle.std.proofs.Common.{◌∙◌, ◌/◌, ◌^◌, ap, sym, Some, pos, rules}
+use Rattle.std.proofs.Common.{◌∙◌, ap, sym, Some, pos, rules}
 use Rattle.std.proofs.lemmas.Int.{to_z-of_z}
 use mir.Syntax.{w128}
 use mir.Val.{SFits}
@@ -7,7 +7,7 @@ use Rattle.enclose_exp.proofs.decay.low_decay.Goals as goal
 
 pub returns-then-exponent-lt-GREATEST : goal.returns-then-exponent-lt-GREATEST
 returns-then-exponent-lt-GREATEST c =
-    let value = ap (λ p. p / 2 ^ 28) c.requires ∙ sym (exp_neg_low-within c.args.exponent c.if-exponent-lt-GREATEST.true) in
+    let value = c.units_of_low.ensures ∙ sym (exp_neg_low-within c.args.exponent c.if-exponent-lt-GREATEST.true) in
     let fits : SFits w128 c.from.result = search rules in
     ap Some (to_z-of_z w128 c.from.result fits ∙ c.from.ensures ∙ ap pos value)
 
