@@ -18,27 +18,27 @@ pub record AtLeast (b x q : ℕ) (turn : LgTurn) : Type 0 where
   pub holds : x ^ q * one_mantissa ≤ b ^ q * 10 ^ turn.digits * turn.mantissa
 
 -- a turn squares both sides
-squared-at_most : (a m x p e m' : ℕ) → 0 < p → a * m ≤ x * p → e * m' * p ≤ m * m → a * a * e * m' ≤ x * x * p
+pub squared-at_most : (a m x p e m' : ℕ) → 0 < p → a * m ≤ x * p → e * m' * p ≤ m * m → a * a * e * m' ≤ x * x * p
 squared-at_most a m x p e m' positive before turn =
     let sides = mul-le (a * m) (a * m) (x * p) (x * p) before before in
     let inner = mul-le-mul_left (a * a) turn in
     le_of_mul-le-mul_right {k = p} (omega (arith, sides, inner)) positive
 
-squared-at_least : (a m x p e m' : ℕ) → 0 < p → x * p ≤ a * m → m * m ≤ e * m' * p → x * x * p ≤ a * a * e * m'
+pub squared-at_least : (a m x p e m' : ℕ) → 0 < p → x * p ≤ a * m → m * m ≤ e * m' * p → x * x * p ≤ a * a * e * m'
 squared-at_least a m x p e m' positive before turn =
     let sides = mul-le (x * p) (x * p) (a * m) (a * m) before before in
     let inner = mul-le-mul_left (a * a) turn in
     le_of_mul-le-mul_right {k = p} (omega (arith, sides, inner)) positive
 
 -- the powers after one more turn with the digit 0 or 1
-doubled : (b q f : ℕ) → (b ^ q * 10 ^ f) * (b ^ q * 10 ^ f) ≡ b ^ (q + q) * 10 ^ (2 * f)
+pub doubled : (b q f : ℕ) → (b ^ q * 10 ^ f) * (b ^ q * 10 ^ f) ≡ b ^ (q + q) * 10 ^ (2 * f)
 doubled b q f =
     let base = pow-add b q q in
     let twice : 2 * f ≡ f + f = omega arith in
     let ten : 10 ^ (2 * f) ≡ 10 ^ f * 10 ^ f = ap (λ i. 10 ^ i) twice ∙ pow-add 10 f f in
     rw (base, ten) (omega arith)
 
-doubled-one : (b q f : ℕ) → (b ^ q * 10 ^ f) * (b ^ q * 10 ^ f) * 10 ≡ b ^ (q + q) * 10 ^ (2 * f + 1)
+pub doubled-one : (b q f : ℕ) → (b ^ q * 10 ^ f) * (b ^ q * 10 ^ f) * 10 ≡ b ^ (q + q) * 10 ^ (2 * f + 1)
 doubled-one b q f =
     let one : 10 ^ (2 * f + 1) ≡ 10 ^ (2 * f) * 10 = pow-add 10 (2 * f) 1 in
     ap (λ x. x * 10) (doubled b q f) ∙ rw one (omega arith)
@@ -79,14 +79,14 @@ turn_high-at_least b x q m f before =
       })
     ]
 
-turns_low-at_most : (b x m i : ℕ) → b * m ≤ x * one_mantissa → AtMost b x (2 ^ i) (turns turn_low i (record { mantissa = m; digits = 0 }))
+pub turns_low-at_most : (b x m i : ℕ) → b * m ≤ x * one_mantissa → AtMost b x (2 ^ i) (turns turn_low i (record { mantissa = m; digits = 0 }))
 unfolding turns
 turns_low-at_most b x m zero start = record { holds = rw (pow-one b, pow-one x) (omega (arith, start)) }
 turns_low-at_most b x m (suc i) start =
     let power : 2 ^ suc i ≡ 2 ^ i + 2 ^ i = omega (arith, pow-suc 2 i) in
     rw power (turn_low-at_most b x (2 ^ i) _ _ (turns_low-at_most b x m i start))
 
-turns_high-at_least : (b x m i : ℕ) → x * one_mantissa ≤ b * m → AtLeast b x (2 ^ i) (turns turn_high i (record { mantissa = m; digits = 0 }))
+pub turns_high-at_least : (b x m i : ℕ) → x * one_mantissa ≤ b * m → AtLeast b x (2 ^ i) (turns turn_high i (record { mantissa = m; digits = 0 }))
 unfolding turns
 turns_high-at_least b x m zero start = record { holds = rw (pow-one b, pow-one x) (omega (arith, start)) }
 turns_high-at_least b x m (suc i) start =

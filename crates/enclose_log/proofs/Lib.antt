@@ -6,3 +6,5 @@ pub mod Quotients
 pub mod Turns
 pub mod Value
 pub mod LgRange
+pub mod Between
+pub mod TestedDigits

@@ -4,6 +4,7 @@ ghost use Rattle.std.specs.Prelude.{◌≡◌, ◌<◌, ◌≤◌, ◌+◌, ◌*
 ghost use Rattle.fix_interval.specs.Lg.{turn_low, turn_high, one_mantissa, digits_low, digits_high, rounded_up};
 ghost use Rattle.enclose_log.specs.Turn.{mantissa_over, reaches_ten};
 
+use crate::guess::tested_digits;
 use std::marker::Model;
 
 /// The number 1 as a mantissa counts it.
@@ -123,9 +124,29 @@ fn choose(first: bool, one: u64, other: u64) -> u64
     other.wrapping_add(one.wrapping_sub(other).wrapping_mul(u64::from(first)))
 }
 
-/// All 32 digits of two mantissas, side by side: of the first with quotients rounded down, and of the second
-/// with quotients rounded up, one more where something is left.
+/// All 32 digits of two mantissas: of the first with quotients rounded down, and of the second with quotients rounded
+/// up, one more where something is left. They are guessed, and only where a guess isn't right are they taken one by one.
 pub(crate) fn digits(low: u64, high: u64) -> (u64, u64)
+    requires low_least { one_mantissa ≤ low }
+    requires low_below { low < 10 * one_mantissa }
+    requires high_least { one_mantissa ≤ high }
+    requires high_most { high ≤ 10 * one_mantissa }
+    ensures low { result.0 ≡ (digits_low low).digits }
+    ensures low_bound { result.0 < 2 ^ 32 }
+    ensures high { result.1 ≡ rounded_up (digits_high high) }
+    ensures high_bound { result.1 ≤ 2 ^ 32 }
+{
+    let Some(down) = tested_digits(low) else {
+        return digits_by_turns(low, high);
+    };
+    let Some(up) = tested_digits(high) else {
+        return digits_by_turns(low, high);
+    };
+    (u64::from(down), u64::from(up) + 1)
+}
+
+/// The same digits one by one, those of both mantissas side by side.
+fn digits_by_turns(low: u64, high: u64) -> (u64, u64)
     requires low_least { one_mantissa ≤ low }
     requires low_below { low < 10 * one_mantissa }
     requires high_least { one_mantissa ≤ high }

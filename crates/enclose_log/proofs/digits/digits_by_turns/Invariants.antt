@@ -1,6 +1,6 @@
 use Rattle.std.proofs.Common.{◌≡◌}
 use Rattle.fix_interval.specs.Lg.{turn_low, turn_high, turns}
-use Rattle.enclose_log.proofs.digits.digits.Given as goal
+use Rattle.enclose_log.proofs.digits.digits_by_turns.Given as goal
 
 abbrev pub invariant-loop-turn : goal.invariant-loop-turn
 invariant-loop-turn l = record {

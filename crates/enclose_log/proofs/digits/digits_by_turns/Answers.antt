@@ -2,7 +2,7 @@ use Rattle.std.proofs.Common.{◌≡◌, ◌+◌, ◌-◌, ℕ, sym, ap, ◌∙�
 use Rattle.fix_interval.specs.Lg.{turn_low, turn_high, turns, digits_low, digits_high, rounded_up}
 use Rattle.enclose_log.proofs.Turns.{turns-zero, turns-suc, turns_low-in_range, turns_high-in_range, within_32}
 use Rattle.enclose_log.proofs.Law.{rounded_up-le}
-use Rattle.enclose_log.proofs.digits.digits.Goals as goal
+use Rattle.enclose_log.proofs.digits.digits_by_turns.Goals as goal
 
 pub loop-turn-init : goal.loop-turn-init
 loop-turn-init c =
