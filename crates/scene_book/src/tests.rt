@@ -2,7 +2,7 @@
 ghost use Rattle.scene_parts.specs.Names.{IsName, IsAnyName};
 
 use super::{Edit, EditFault, Scene};
-use scene_parts::{Class, Name, PlainName, RawPart, RawPoints, RawPt, check};
+use scene_parts::{Class, Name, PlainName, RawPart, RawPoints, RawPt, Receiver, check};
 use std::alloc::{AllocError, Global};
 use std::test::Fail;
 
@@ -46,11 +46,6 @@ type Row = (Step, EditOutcome, (usize, usize, usize));
 const ROWS: [Row; 13] = [
     (Step::Receiver(Called::A, 1), EditOutcome::New, (1, 0, 0)),
     (Step::Receiver(Called::B, 2), EditOutcome::New, (2, 0, 0)),
-    (
-        Step::Receiver(Called::A, 3),
-        EditOutcome::Replaced,
-        (2, 0, 0),
-    ),
     (Step::Barrier, EditOutcome::New, (2, 1, 0)),
     // One name for parts of two classes.
     (
@@ -80,6 +75,21 @@ const ROWS: [Row; 13] = [
     (Step::Remove(Called::A), EditOutcome::Replaced, (5, 1, 1)),
     // A grid's name is no part's.
     (Step::Remove(Called::Grid), EditOutcome::NoName, (5, 1, 1)),
+    // One that is replaced keeps its place.
+    (
+        Step::Receiver(Called::B, 3),
+        EditOutcome::Replaced,
+        (5, 1, 1),
+    ),
+];
+
+/// The receivers after all edits, each by its x in mm and its name.
+const RECEIVERS: [(i32, &'static [u8]); 5] = [
+    (3, b"b"),
+    (0, b"g/0/0"),
+    (1, b"g/1/0"),
+    (0, b"g/0/1"),
+    (1, b"g/1/1"),
 ];
 
 fn text(called: Called) -> &'static [u8]
@@ -249,36 +259,38 @@ fn edits_answer_in_a_row(rt: HostRuntime) -> Result<(), Fail> {
     Ok(())
 }
 
-#[test]
-fn receivers_stand_in_order(rt: HostRuntime) -> Result<(), Fail> {
-    let scene = edited(rt.alloc())?;
-    let [b, first, second, third, fourth] = scene.receivers() else {
-        return Err("not five receivers".into());
-    };
-    assert_eq!(rt;
-        (b.at.x, first.at.x, second.at.x, third.at.x, fourth.at.x),
-        (2, 0, 1, 0, 1)
-    );
-    assert_eq!(rt; b.name.items(), b"b".as_slice());
-    assert_eq!(rt; second.name.items(), b"g/1/0".as_slice());
-    assert_eq!(rt; third.name.items(), b"g/0/1".as_slice());
-    Ok(())
+/// Whether these are the receivers after all edits, in their order.
+fn are_edited(receivers: &[Receiver]) -> bool {
+    for (receiver, (x, name)) in receivers.iter().zip(&RECEIVERS) {
+        if receiver.at.x != *x || receiver.name.items() != *name {
+            return false;
+        }
+    }
+    receivers.len() == RECEIVERS.len()
 }
 
 #[test]
-fn copies_keep_what_is_removed(rt: HostRuntime) -> Result<(), Fail> {
+fn copies_keep_what_is_edited(rt: HostRuntime) -> Result<(), Fail> {
     let alloc = rt.alloc();
     let mut scene = edited(alloc)?;
+    assert!(rt; are_edited(scene.receivers()));
     let copy = scene.copy(alloc)?;
     remove(&mut scene, alloc, Called::Ground)?;
-    assert_eq!(rt; (scene.zones().len(), copy.receivers().len()), (0, 5));
+    assert_eq!(rt;
+        (scene.zones().len(), are_edited(copy.receivers())),
+        (0, true)
+    );
     let [ground] = copy.zones() else {
         return Err("not one zone".into());
     };
-    assert_eq!(rt; ground.g, 100);
     assert_eq!(rt;
-        (copy.globals().reach, copy.globals().g, copy.globals().c0),
-        (4_000_000, 50, 1000)
+        (
+            ground.g,
+            copy.globals().reach,
+            copy.globals().g,
+            copy.globals().c0
+        ),
+        (100, 4_000_000, 50, 1000)
     );
     Ok(())
 }
