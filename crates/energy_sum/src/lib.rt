@@ -1,8 +1,10 @@
-//! Energies of levels, their exact sums, and levels of sums (ISO 9613-2, equation 5), as enclosing intervals.
+//! Energies of levels, their exact sums, levels of sums (ISO 9613-2, equation 5) and the meteorological correction
+//! (clause 8), as enclosing intervals.
 #![tactic(auto)]
 
 mod laws;
 mod sum;
+mod weather;
 
 ghost use Rattle.std.specs.Prelude.{◌≡◌, ◌*◌, ◌^◌, pos, neg_ℤ, ◌≤ℤ◌, IsSomeAnd};
 ghost use Rattle.fix_interval.specs.Bounds.{AreBetween};
@@ -15,6 +17,7 @@ use enclose_log::lg;
 use fix_interval::{Iv, div, exact, max, mul};
 pub use laws::every_formula_is_enclosed;
 pub use sum::Sum;
+pub use weather::c_met;
 
 /// The energy of a level in dB, as a ratio: 10 to the power of a tenth of it (ISO 9613-2, equation 5). It isn't below 0.
 /// Where the level is from -2^29 dB to 189 dB, the energy is at most 2^96 units of 2^-32.
