@@ -9,7 +9,7 @@ use Rattle.scene_geom.specs.Point.{from_to, along, orient_of}
 use Rattle.scene_geom.specs.Direction.{dir_over}
 use Rattle.scene_geom.specs.Reflection.{squared_length, have_one_sign, off_wall, to_image, specular}
 use Rattle.scene_geom.proofs.Whole.{add_mul, mul_add, mul_sub}
-use Rattle.scene_geom.proofs.CommonPoint.{left_comm, mul_assoc, cross-difference}
+use Rattle.scene_geom.proofs.CommonPoint.{left_comm, mul_assoc, cross-difference, dot-difference}
 use Rattle.scene_geom.proofs.Imaging.{legs-lead_to_images}
 use Rattle.scene_geom.proofs.Walls.{mul-neg, off, over-n, over-d}
 use Rattle.image_source.specs.Mirrors.{ahead}
@@ -45,15 +45,6 @@ all-left w x y n d =
     ready l k p q r s e f g h = omega (arith, ints)
 
 -- ---- vectors
-
-dot-difference : (sx sy d n ax ay bx by : ℤ) → sx *ℤ (d *ℤ ax -ℤ n *ℤ bx) +ℤ sy *ℤ (d *ℤ ay -ℤ n *ℤ by) ≡ d *ℤ (sx *ℤ ax +ℤ sy *ℤ ay) -ℤ n *ℤ (sx *ℤ bx +ℤ sy *ℤ by)
-dot-difference sx sy d n ax ay bx by =
-    ready _ _ _ _ _ _ _ _ _ _ _ _ (mul_sub (d *ℤ ax) (n *ℤ bx) sx) (mul_sub (d *ℤ ay) (n *ℤ by) sy)
-    (left_comm sx d ax) (left_comm sx n bx) (left_comm sy d ay) (left_comm sy n by)
-    (mul_add (sx *ℤ ax) (sy *ℤ ay) d) (mul_add (sx *ℤ bx) (sy *ℤ by) n)
-  where
-    ready : (l k r q m1 m2 m3 m4 n1 n2 n3 n4 : ℤ) → l ≡ m1 -ℤ m2 → k ≡ m3 -ℤ m4 → m1 ≡ n1 → m2 ≡ n2 → m3 ≡ n3 → m4 ≡ n4 → r ≡ n1 +ℤ n3 → q ≡ n2 +ℤ n4 → l +ℤ k ≡ r -ℤ q
-    ready l k r q m1 m2 m3 m4 n1 n2 n3 n4 a b e1 e2 e3 e4 c d = omega (arith, ints)
 
 -- a way back
 cross-back : (v : Vector) (p q : Pt) → cross v (from_to p q) ≡ neg_ℤ (cross v (from_to q p))

@@ -6,20 +6,9 @@ use Rattle.fix_interval.specs.Tree.{Tree, IsSound}
 use Rattle.scene_geom.specs.declared.plan.Side.{Side}
 use Rattle.scene_geom.specs.declared.fraction.Frac.{Frac}
 use Rattle.scene_geom.specs.declared.band.Band.{Band}
-use Rattle.scene_geom.specs.declared.band.Band.TheVariants.{Hz63, Hz125, Hz250, Hz500, Hz1000, Hz2000, Hz4000, Hz8000}
-use Rattle.scene_geom.specs.Bands.{frequency_of}
+use Rattle.scene_geom.proofs.BandLemmas.{frequency-positive}
 use Rattle.image_source.specs.Dimensions.{least_dimension, incidence, dimension_squared, legs_product, needed_squared}
 use Rattle.image_source.specs.Laws.{ConditionIsSound}
-
-frequency-positive : (band : Band) → 0 < frequency_of band
-frequency-positive Hz63 = omega arith
-frequency-positive Hz125 = omega arith
-frequency-positive Hz250 = omega arith
-frequency-positive Hz500 = omega arith
-frequency-positive Hz1000 = omega arith
-frequency-positive Hz2000 = omega arith
-frequency-positive Hz4000 = omega arith
-frequency-positive Hz8000 = omega arith
 
 square-positive : (d : ℤ) → pos 0 <ℤ d → 0 < unsigned_abs (d *ℤ d)
 square-positive (pos zero) h = absurd (omega (arith, ints))

@@ -1,7 +1,8 @@
 //! Whether a surface is large enough to reflect (ISO 9613-2, 7.5, condition 19).
-ghost use Rattle.std.specs.Prelude.{◌≡◌, ◌<◌, ◌-ℤ◌, ◌*ℤ◌, length, pos, slice_get, unsigned_abs, IfSome};
-ghost use Rattle.fix_interval.specs.Tree.{Known, Const, enc};
+ghost use Rattle.std.specs.Prelude.{◌≡◌, ◌<◌, ◌-ℤ◌, ◌*ℤ◌, length, map, pos, slice_get, unsigned_abs, IfSome};
+ghost use Rattle.fix_interval.specs.Tree.{Known, Const, Mul, enc};
 ghost use Rattle.fix_interval.specs.Values.{less_of};
+ghost use Rattle.scene_geom.specs.Bands.{all_bands, frequency_of};
 ghost use Rattle.scene_geom.specs.Fraction.{FitsEnd, rest_of};
 ghost use Rattle.scene_geom.specs.Reflection as wall;
 ghost use Rattle.scene_parts.specs.Sides.{sides_of};
@@ -27,6 +28,28 @@ pub fn big_enough(o: &Obstacle, i: u32, m: &Mirror, d: Iv, band: Band) -> Truth
     )
 }
 
+/// Whether a side of a wall of height `h` in mm is large enough in each band for the reflection `m` in it, whose path is
+/// `d` metres long. What the bands share of the condition is calculated once.
+#[tactic(auto, unfolding(crate::specs::Dimensions::needed_squared))]
+pub fn big_enough_in_bands(side: Side, h: u32, m: &Mirror, d: Iv) -> [Truth; 8]
+    ensures { result ≡ map (λ band. less_of
+        (enc (form.needed_squared m.now.p (Known d) band))
+        (enc (form.dimension_squared side h m.now.p (Known d)))) all_bands }
+{
+    let seen = dimension_squared(side, h, m, d);
+    let legs = legs_product(m, d);
+    [
+        less(needed_over(legs, Band::Hz63), seen),
+        less(needed_over(legs, Band::Hz125), seen),
+        less(needed_over(legs, Band::Hz250), seen),
+        less(needed_over(legs, Band::Hz500), seen),
+        less(needed_over(legs, Band::Hz1000), seen),
+        less(needed_over(legs, Band::Hz2000), seen),
+        less(needed_over(legs, Band::Hz4000), seen),
+        less(needed_over(legs, Band::Hz8000), seen),
+    ]
+}
+
 /// (l_min cos β)² of the reflection in a side of a wall of height `h` in mm, whose path is `d` metres long: the square of
 /// the surface's least dimension, as the sound sees it, in m². The same for all bands.
 #[tactic(auto, unfolding(crate::specs::Dimensions::dimension_squared))]
@@ -42,7 +65,14 @@ pub fn dimension_squared(side: Side, h: u32, m: &Mirror, d: Iv) -> Iv
 pub fn needed_squared(m: &Mirror, d: Iv, band: Band) -> Iv
     ensures { result ≡ enc (form.needed_squared m.now.p (Known d) band) }
 {
-    mul(ratio(680, band.frequency().into()), legs_product(m, d))
+    needed_over(legs_product(m, d), band)
+}
+
+/// The same, with d_so d_or / (d_so + d_or) in metres.
+fn needed_over(legs: Iv, band: Band) -> Iv
+    ensures { result ≡ enc (Mul (Const (pos 680) (frequency_of band)) (Known legs)) }
+{
+    mul(ratio(680, band.frequency().into()), legs)
 }
 
 /// The lesser of the length and the height in mm of a side, in metres.

@@ -14,7 +14,7 @@ mod search;
 #[cfg(test)]
 mod tests;
 
-pub use dimension::{big_enough, dimension_squared, needed_squared};
+pub use dimension::{big_enough, big_enough_in_bands, dimension_squared, needed_squared};
 pub use image::Mirror;
 pub use leg::Leg;
 pub use reflecting::mirror;

@@ -1,10 +1,8 @@
 //! The search for sides that cross the legs of a reflection.
-ghost use Rattle.std.specs.Prelude.{◌≡◌, ◌<◌, ◌≤◌, ◌*◌, ◌^◌, ◌++◌, [], length, map, unsigned_abs, IfOk, IfSome, OnOk};
-ghost use Rattle.scene_geom.specs.Bands.{all_bands};
+ghost use Rattle.std.specs.Prelude.{◌≡◌, ◌<◌, ◌≤◌, ◌*◌, ◌^◌, ◌++◌, [], length, unsigned_abs, IfOk, IfSome, OnOk};
 ghost use Rattle.scene_geom.specs.Direction.{FitsDirection};
 ghost use Rattle.scene_geom.specs.Fraction.{FitsPlace, FitsEnd, rest_of};
 ghost use Rattle.scene_parts.specs.Sides.{sides_of};
-ghost use Rattle.sight_cut.specs.Cuts.{counts_in};
 ghost use Rattle.image_source.specs.LegCuts.{edge_on, crossing_on, before_all, crossings_along, crossings_from, leg_crossings_of, leg_cuts_of};
 ghost use Rattle.image_source.specs.LegCuts as form;
 
@@ -13,8 +11,8 @@ use crate::leg::Leg;
 use crate::placing::{height_at, sight_height};
 use path_shape::Edge;
 use scene_geom::{Band, Dir, Frac, Pt, Side, hits, lies_inside, rest_after};
-use scene_parts::{Breadth, Cut, NoMemory, Obstacle, side_of, sides};
-use sight_cut::{Crossing, Ends};
+use scene_parts::{Cut, NoMemory, Obstacle, side_of, sides};
+use sight_cut::{Crossing, Ends, bands_of};
 use std::alloc::Global;
 
 /// The cuts of both legs of a reflection in a band: all sides of all obstacles that are large enough in it and cross a leg
@@ -126,23 +124,6 @@ fn add_crossing(
             Ok(())
         }
     }
-}
-
-/// In which bands an obstacle is large enough.
-fn bands_of(obstacle: &Obstacle, ends: Ends) -> [bool; 8]
-    ensures { result ≡ map (λ band. counts_in band ends obstacle.now) all_bands }
-{
-    let breadth = Breadth::of(obstacle, ends.s, ends.r);
-    [
-        breadth.exceeds_wavelength(Band::Hz63),
-        breadth.exceeds_wavelength(Band::Hz125),
-        breadth.exceeds_wavelength(Band::Hz250),
-        breadth.exceeds_wavelength(Band::Hz500),
-        breadth.exceeds_wavelength(Band::Hz1000),
-        breadth.exceeds_wavelength(Band::Hz2000),
-        breadth.exceeds_wavelength(Band::Hz4000),
-        breadth.exceeds_wavelength(Band::Hz8000),
-    ]
 }
 
 /// The edge of a side of an obstacle of height `h`, where it crosses a leg.
