@@ -1,28 +1,38 @@
 -- The ends of the quantities of a path are bounded.
-use Rattle.std.proofs.Common.{◌≡◌, ℕ, ◌*◌, ◌<◌, ◌^◌, ℤ, pos, negsuc, neg_ℤ, ◌*ℤ◌, ◌≤ℤ◌, unsigned_abs, Option, refl, sym, ◌∙◌, arith, lit<}
-use Rattle.std.specs.Prelude.{Some, None, IfSome, IsTrue, List, length, get_or, Bool, true, false}
+use Rattle.std.proofs.Common.{◌≡◌, ℕ, ◌+◌, ◌*◌, ◌/◌, ◌<◌, ◌≤◌, ◌^◌, ℤ, pos, negsuc, neg_ℤ, ◌*ℤ◌, ◌≤ℤ◌, unsigned_abs, Option, refl, sym, ◌∙◌, arith, inl, inr, lit<}
+use Rattle.std.specs.Prelude.{◌⊎◌, ◌<ℤ◌, Some, None, IfSome, IsTrue, IsSomeAnd, List, length, get_or, Bool, true, false, nat_le}
+use Rattle.std.specs.Int.{div_ceil}
+use Rattle.std.proofs.lemmas.Grind.{div_ceil_times}
+use Rattle.std.proofs.lemmas.Nat.{mul-le}
+use Rattle.std.proofs.lemmas.Bool.{cases_lt}
 use Rattle.std.specs.List.{list_all}
 use Rattle.std.proofs.lemmas.Int.{ints}
 use Rattle.std.proofs.lemmas.List.Folds.{list_all_at}
 use Rattle.std.proofs.lemmas.Bool.{false≢true}
-use Rattle.fix_interval.specs.Units.{unit}
+use Rattle.fix_interval.specs.Units.{unit, unit-is}
 use Rattle.fix_interval.specs.Interval.{Interval}
 use Rattle.fix_interval.specs.Bounds.{IsBetween, AreBetween}
 use Rattle.fix_interval.specs.Round.{floor_of, ceil_of}
-use Rattle.fix_interval.specs.Values.{ratio_of, add_of, neg_of}
-use Rattle.fix_interval.specs.Tree.{Known, Const, Add, Root, enc}
-use Rattle.fix_interval.specs.Ranges.{sum, negation, square_root, sum_range, root_limit, root_range}
+use Rattle.fix_interval.specs.Values.{ratio_of, add_of, neg_of, mul_of}
+use Rattle.fix_interval.specs.Tree.{Known, Const, Add, Sub, Mul, Root, Lg, enc}
+use Rattle.fix_interval.specs.Lg.{lg_of, lg_low, lg_high, greatest, decade_of, digits_low, digits_high, turns}
+use Rattle.fix_interval.specs.Ranges.{from_to, constant, sum, negation, product, square_root, logarithm, sum_range, root_limit, root_range, logarithm_range}
+use Rattle.enclose_log.proofs.LgRange.{logarithm-ranged}
 use Rattle.fix_interval.proofs.Ratios.{ratio_of-small}
-use Rattle.fix_interval.proofs.Rounding.{floor_of-mono, ceil_of-mono}
+use Rattle.fix_interval.proofs.Rounding.{floor_of-mono, ceil_of-mono, floor_of-le-ceil_of, ceil_of-pos}
+use Rattle.fix_interval.proofs.Spans.{units-is}
+use Rattle.scene_geom.specs.declared.fraction.Frac.{Frac}
 use Rattle.fix_interval.proofs.Dividing.{units-mono}
 use Rattle.fix_interval.proofs.RangedFormulas.{between, part-between}
 use Rattle.scene_parts.specs.Ranges.{is_power}
 use Rattle.term_div_atm.specs.Terms.{divergence, absorption}
 use Rattle.term_div_atm.proofs.Ends.{divergence-between, absorption-between}
 use Rattle.term_barrier.specs.Limits.{IsDistance, IsGroundEffect, IsScreening}
-use Rattle.path_calc.specs.Contributions.{unscreened_level}
-use Rattle.path_calc.specs.Prepared.{IsEmission}
-use Rattle.path_calc.specs.Ranges.{IsPower, IsDirectivity, IsCorrection, IsWeight, IsOnMap, IsUnscreened, IsAtReceiver, IsHearable}
+use Rattle.path_calc.specs.Contributions.{unscreened_level, reflection_level}
+use Rattle.path_calc.specs.Propagations.{IsReflectionLevel}
+use Rattle.path_calc.specs.Prepared.{IsEmission, IsSent}
+use Rattle.energy_sum.specs.Weather.{IsWeatherCorrection}
+use Rattle.path_calc.specs.Ranges.{IsPower, IsDirectivity, IsCorrection, IsWeight, IsOnMap, IsReflectedSquare, IsUnscreened, IsAtReceiver, IsHearable}
 use Rattle.path_calc.specs.Hearing.{past}
 use Rattle.path_calc.specs.Levels.{IsLevel, IsLevelEnd}
 
@@ -69,7 +79,7 @@ unfolding sum_range
 emission-within p directivity hp hd =
     between _ _ {t = Add (Const p 100) (Known directivity)} (sum (part-between _ _ {t = Const p 100} (power-within p hp)) (part-between _ _ hd)) refl
 
-pub unscreened-within : (emission d : Interval) (alpha10 : ℕ) (ground : Interval) → IsEmission emission → IsDistance d → alpha10 < 4096 → IsGroundEffect ground
+pub unscreened-within : (emission d : Interval) (alpha10 : ℕ) (ground : Interval) → IsSent emission → IsDistance d → alpha10 < 4096 → IsGroundEffect ground
     → IsUnscreened (enc (unscreened_level (Known emission) (Known d) alpha10 (Known ground)))
 unfolding sum_range neg_of
 unscreened-within emission d alpha10 ground he hd few hg =
@@ -80,10 +90,75 @@ pub past-within : (level screening : Interval) → IsUnscreened level → IsScre
 unfolding sum_range neg_of
 past-within level screening h k = between _ _ {t = past level screening} (sum (part-between _ _ h) (negation (part-between _ _ k))) refl
 
--- a level with the A-weight has an energy
-pub weighted-level : (level weight : Interval) → IsAtReceiver level → IsWeight weight → IsHearable (add_of level weight)
+-- a level with the A-weight and less C_met has an energy
+pub weighted-level : (level weight c_met : Interval) → IsAtReceiver level → IsWeight weight → IsWeatherCorrection c_met → IsHearable (add_of (add_of level weight) (neg_of c_met))
+unfolding sum_range neg_of
+weighted-level level weight c_met p q w =
+    between _ _ {t = Sub (Add (Known level) (Known weight)) (Known c_met)} (sum (sum (part-between _ _ p) (part-between _ _ q)) (negation (part-between _ _ w))) refl
+
+-- ---- what walls reflect
+
+wider-end : (l h k m : ℤ) (end : Option ℤ) → k ≤ℤ l → h ≤ℤ m → IsBetween l h end → IsBetween k m end
+wider-end l h k m None low high p = absurd p
+wider-end l h k m (Some z) low high p = (omega (arith, ints, p.0, low), omega (arith, ints, p.1, high))
+
+wider : (l h k m : ℤ) (i : Interval) → k ≤ℤ l → h ≤ℤ m → AreBetween l h i → AreBetween k m i
+wider l h k m i low high p = record { lo = wider-end l h k m i.lo low high p.lo; hi = wider-end l h k m i.hi low high p.hi }
+
+-- what is emitted is sent, and so is what a wall reflects of it
+pub sent : (emission : Interval) → IsEmission emission → IsSent emission
+sent emission h = wider _ _ _ _ emission (omega (arith, ints)) (omega (arith, ints)) h
+
+pub reflected-sent : (emission level : Interval) → IsEmission emission → IsReflectionLevel level → IsSent (add_of emission level)
 unfolding sum_range
-weighted-level level weight p q = between _ _ {t = Add (Known level) (Known weight)} (sum (part-between _ _ p) (part-between _ _ q)) refl
+reflected-sent emission level h k = between _ _ {t = Add (Known emission) (Known level)} (sum (part-between _ _ h) (part-between _ _ k)) refl
+
+-- what a wall reflects per mille, as a ratio: it isn't 0, and its logarithm isn't above that of 1
+ratio-of-wall : (low high : ℕ) (rho : ℕ) → low ≤ rho → rho ≤ high → high ≤ 1000 → AreBetween (floor_of (pos low *ℤ pos unit) 1000) (ceil_of (pos high *ℤ pos unit) 1000) (ratio_of (pos rho) 1000)
+ratio-of-wall low high rho some few most =
+    let small = ratio_of-small (pos rho) 1000 (omega (arith, few, most)) in
+    let from = units-mono (pos low) (pos rho) (omega (arith, ints, some)) in
+    let to = units-mono (pos rho) (pos high) (omega (arith, ints, few)) in
+    rw small (record {
+      lo = (floor_of-mono (pos low *ℤ pos unit) (pos rho *ℤ pos unit) 1000 (lit< tt) from, floor-to (pos rho *ℤ pos unit) (pos high *ℤ pos unit) to);
+      hi = (floor-to (pos low *ℤ pos unit) (pos rho *ℤ pos unit) from, ceil_of-mono (pos rho *ℤ pos unit) (pos high *ℤ pos unit) 1000 (lit< tt) to);
+    })
+  where
+    floor-to : (a b : ℤ) → a ≤ℤ b → floor_of a 1000 ≤ℤ ceil_of b 1000
+    floor-to a b h = omega (arith, ints, floor_of-mono a b 1000 (lit< tt) h, floor_of-le-ceil_of b 1000 (lit< tt))
+
+pub ratio-positive : (rho : ℕ) → 0 < rho → rho ≤ 1000 → IsSomeAnd (ratio_of (pos rho) 1000).lo (λ x. pos 1 ≤ℤ x)
+unfolding unit
+ratio-positive rho some few = low-of (ratio_of (pos rho) 1000).lo (ratio-of-wall 1 1000 rho some few (omega arith)).lo where
+  low-of : (end : Option ℤ) → IsBetween (pos 4294967) (pos 4294967296) end → IsSomeAnd end (λ x. pos 1 ≤ℤ x)
+  low-of None p = p
+  low-of (Some z) p = omega (arith, ints, p.0)
+
+less-than-all : (rho : ℕ) → 200 < rho → rho ≤ 999 → AreBetween (pos 858993459) (pos 4290672329) (ratio_of (pos rho) 1000)
+unfolding unit
+less-than-all rho some few = ratio-of-wall 200 999 rho (omega (arith, some)) few (omega arith)
+
+part-reflected : (rho : ℕ) → 200 < rho → rho ≤ 999 → IsReflectionLevel (enc (reflection_level rho))
+unfolding reflection_level unit ratio_of mul_of greatest decade_of logarithm_range
+part-reflected rho some few =
+    between _ _ {t = reflection_level rho} {r = Mul (Const (pos 10) 1) (Lg (Known (from_to (pos 858993459) (pos 4290672329))))}
+    (product (constant (lit< tt)) (logarithm logarithm-ranged (part-between _ _ {t = Const (pos rho) 1000} (less-than-all rho some few)))) refl
+
+all-reflected : IsReflectionLevel (enc (reflection_level 1000))
+unfolding reflection_level unit ratio_of mul_of lg_of lg_low lg_high greatest decade_of digits_low digits_high turns
+all-reflected = record { lo = (omega (arith, ints), omega (arith, ints)); hi = (omega (arith, ints), omega (arith, ints)) }
+
+pub level-reflected : (rho : ℕ) → 200 < rho → rho ≤ 1000 → IsReflectionLevel (enc (reflection_level rho))
+level-reflected rho some few = by (nat_le rho 999) refl where
+  less : nat_le rho 999 ≡ true → rho ≤ 999
+  less e = grind arith
+
+  all : nat_le rho 999 ≡ false → rho ≡ 1000
+  all e = grind arith
+
+  by : (test : Bool) → nat_le rho 999 ≡ test → IsReflectionLevel (enc (reflection_level rho))
+  by true e = part-reflected rho some (less e)
+  by false e = rw (all e) all-reflected
 
 -- ---- the level of a sum
 
@@ -128,3 +203,35 @@ pub distance-bounded : (n : ℕ) → n < 2 ^ 66 → IsDistance (enc (Root (Const
 unfolding unit root_limit root_range
 distance-bounded n small =
     between _ _ {t = Root (Const (pos n) 1000000)} (square_root (part-between _ _ {t = Const (pos n) 1000000} (square-within n small))) refl
+
+-- ---- the square of the plan length of a path by way of a wall, in m²
+
+quotient-below : (a q k : ℕ) → 0 < q → a ≤ k * q → div_ceil a q ≤ k
+quotient-below a q k some h = by_size (cases_lt (div_ceil a q) (k + 1)) where
+  by_size : (div_ceil a q < k + 1) ⊎ (k + 1 ≤ div_ceil a q) → div_ceil a q ≤ k
+  by_size (inl e) = omega arith
+  by_size (inr e) = absurd (omega (arith, (div_ceil_times a q some).1, mul-le (k + 1) q (div_ceil a q) q e (omega arith)))
+
+plan-ratio : (n q : ℕ) → 0 < q → n ≤ 640000000 * q → n < 2 ^ 94 → AreBetween (pos 0) (pos (640000000 * 2 ^ 32)) (ratio_of (pos n) q)
+plan-ratio n q some few small =
+    let fraction = ratio_of-small (pos n) q small in
+    let top : div_ceil (n * unit) q ≤ 640000000 * 2 ^ 32 = quotient-below (n * unit) q (640000000 * 2 ^ 32) some (rw unit-is (omega (arith, few))) in
+    let whole : n * unit / q ≤ div_ceil (n * unit) q = omega arith in
+    let high : ceil_of (pos n *ℤ pos unit) q ≡ pos (div_ceil (n * unit) q) = ceil_of-pos (pos n *ℤ pos unit) q some (rw (units-is n) (omega (arith, ints))) in
+    rw fraction (record {
+      lo = (omega (arith, ints), omega (arith, ints, whole, top));
+      hi = rw high (omega (arith, ints), omega (arith, ints, top));
+    })
+
+plan-square : (n d : ℤ) → pos 0 <ℤ d → pos 0 ≤ℤ n → unsigned_abs n ≤ 640000000000000 * unsigned_abs d → unsigned_abs d ≤ 68718952449
+    → AreBetween (pos 0) (pos (640000000 * 2 ^ 32)) (ratio_of n (unsigned_abs d * 1000000))
+plan-square (negsuc n) d some from few wall = absurd (omega (arith, ints))
+plan-square (pos n) (negsuc d) some from few wall = absurd (omega (arith, ints))
+plan-square (pos n) (pos d) some from few wall = plan-ratio n (d * 1000000) (omega (arith, ints)) (omega (arith, few)) (omega (arith, few, wall))
+
+pub reflected-distance-bounded : (square : Frac) (m : ℕ) → IsReflectedSquare square → m < 2 ^ 48 → IsDistance (enc (Root (Add (Const square.n (unsigned_abs square.d * 1000000)) (Const (pos m) 1000000))))
+unfolding unit sum_range root_limit root_range
+reflected-distance-bounded square m h small =
+    let along = plan-square square.n square.d square.positive h.from_zero h.length h.wall in
+    between _ _ {t = Root (Add (Const square.n (unsigned_abs square.d * 1000000)) (Const (pos m) 1000000))}
+    (square_root (sum (part-between _ _ {t = Const square.n (unsigned_abs square.d * 1000000)} along) (part-between _ _ {t = Const (pos m) 1000000} (near-square m small)))) refl

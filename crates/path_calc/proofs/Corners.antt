@@ -1,25 +1,22 @@
 -- The way round the corners of a chain isn't long, so that the attenuation there is bounded.
-use Rattle.std.proofs.Common.{◌≡◌, ℕ, zero, suc, ◌+◌, ◌*◌, ◌<◌, ◌≤◌, ◌^◌, ℤ, pos, negsuc, neg_ℤ, ◌*ℤ◌, ◌+ℤ◌, ◌-ℤ◌, ◌≤ℤ◌, unsigned_abs, Bool, true, false, List, [], ◌∷◌, ◌++◌, refl, sym, ap, subst, ◌∙◌, arith, lit<, inl, inr}
-use Rattle.std.specs.Prelude.{◌⊎◌, Option, Some, None, fold, min, int_lt, ◌/◌, ◌%◌}
+use Rattle.std.proofs.Common.{◌≡◌, ℕ, zero, suc, ◌+◌, ◌*◌, ◌<◌, ◌≤◌, ◌^◌, ℤ, pos, negsuc, neg_ℤ, ◌*ℤ◌, ◌+ℤ◌, ◌≤ℤ◌, unsigned_abs, false, List, [], ◌∷◌, refl, sym, ap, subst, ◌∙◌, arith, lit<, inl, inr}
+use Rattle.std.specs.Prelude.{◌⊎◌, Option, Some, None, fold, int_lt}
 use Rattle.std.specs.Int.{abs_diff, div_ceil}
 use Rattle.std.proofs.lemmas.Int.{ints}
-use Rattle.std.proofs.lemmas.Bool.{cases_lt}
 use Rattle.std.proofs.lemmas.Grind.{div_ceil_times}
 use Rattle.std.proofs.lemmas.Nat.{mul-le}
 use Rattle.fix_interval.specs.Units.{unit, unit-is}
 use Rattle.fix_interval.specs.Interval.{Interval}
 use Rattle.fix_interval.specs.Bounds.{IsBetween, AreBetween}
 use Rattle.fix_interval.specs.Round.{floor_of, ceil_of, floor_root, ceil_root}
-use Rattle.fix_interval.specs.Values.{ratio_of, root_of, root_of_high, low_radicand, is_below_zero, add_of, sum_of_ends, neg_of, mul_of, div_of, max_of, min_of}
-use Rattle.fix_interval.specs.Ranges.{sum, negation, product, quotient, greater, lesser, square_root, logarithm, constant, sum_range, quotient_range, root_range, root_limit, logarithm_range}
-use Rattle.fix_interval.specs.Lg.{decade_of, greatest}
+use Rattle.fix_interval.specs.Values.{ratio_of, root_of, low_radicand, is_below_zero, add_of, sum_of_ends, neg_of, mul_of, div_of}
+use Rattle.fix_interval.specs.Ranges.{sum, negation, product, quotient, square_root, constant, sum_range, quotient_range, root_range, root_limit}
 use Rattle.fix_interval.specs.Tree.{Tree, Known, Const, Add, Root, enc}
 use Rattle.fix_interval.proofs.Ratios.{ratio_of-small}
 use Rattle.fix_interval.proofs.Rounding.{ceil_of-pos, floor_of-le-ceil_of}
-use Rattle.fix_interval.proofs.Rooting.{floor_root-below, floor_root-mono, floor_root-le-ceil_root, ceil_root-le, ceil_root-square, high_root_is, root_of-roots}
+use Rattle.fix_interval.proofs.Rooting.{floor_root-mono, floor_root-le-ceil_root, ceil_root-within, high_root_is, root_of-roots}
 use Rattle.fix_interval.proofs.Multiplying.{end_of-small}
 use Rattle.fix_interval.proofs.RangedFormulas.{between, part-between}
-use Rattle.enclose_log.proofs.LgRange.{logarithm-ranged}
 use Rattle.scene_geom.specs.declared.plan.Pt.{Pt}
 use Rattle.scene_geom.specs.declared.band.Band.{Band}
 use Rattle.scene_geom.specs.declared.band.Band.TheVariants.{Hz63, Hz125, Hz250, Hz500, Hz1000, Hz2000, Hz4000, Hz8000}
@@ -29,21 +26,11 @@ use Rattle.path_shape.specs.Shape.{squared, plan_square, plan_length}
 use Rattle.path_shape.proofs.Lengths.{plan_square-within}
 use Rattle.term_barrier.specs.Diffraction.{whole, c_2_by_wavelength, five_wavelengths_squared, c_3, path_difference, at_one_edge, at_two_edges, three_and, ten_lg, attenuation, single_limit, double_limit}
 use Rattle.term_barrier.specs.Lateral.{steps, between_corners, last_corner, height_square, lateral_difference, side_attenuation}
-use Rattle.term_barrier.specs.Limits.{IsScreening}
+use Rattle.term_barrier.specs.Limits.{most_top, IsScreening}
 use Rattle.term_barrier.proofs.Lengths.{near-length, near-between}
+use Rattle.term_barrier.proofs.LateralBounds.{c_2-between, attenuated}
 use Rattle.path_calc.specs.Ranges.{IsOnMap}
 use Rattle.path_calc.proofs.Bounds.{ratio-between}
-
--- ---- a root isn't above what has a square that isn't below
-root-below : (n r : ℕ) → n ≤ r * r → ceil_root n ≤ r
-root-below n r h = by_cases (cases_lt r (ceil_root n)) where
-  by_cases : (r < ceil_root n) ⊎ (ceil_root n ≤ r) → ceil_root n ≤ r
-  by_cases (inr is) = is
-  by_cases (inl is) =
-      let root = floor_root n in
-      let at_least : r ≤ root = omega (arith, is, ceil_root-le n) in
-      let square = mul-le r r root root at_least at_least in
-      omega (arith, ceil_root-square n r (omega (arith, h, square, floor_root-below n)))
 
 -- ---- a length of at most k mm has at most 4,500,000 k units
 scaled-square : (k : ℕ) → (4500000 * k) * (4500000 * k) ≡ 20250000000000 * (k * k)
@@ -75,7 +62,7 @@ length-within n k h small =
     let top : ceil_of (pos n *ℤ pos unit) 1000000 ≡ pos m = ceil_of-pos (pos n *ℤ pos unit) 1000000 (omega arith) (omega (arith, ints)) in
     let order = floor_of-le-ceil_of (pos n *ℤ pos unit) 1000000 (omega arith) in
     let few : m < 2 ^ 95 = omega (arith, bound, small) in
-    let root : ceil_root (m * unit) ≤ 4500000 * k = root-below (m * unit) (4500000 * k) (in-units m unit ((4500000 * k) * (4500000 * k)) unit-is (radicand n k m h bound)) in
+    let root : ceil_root (m * unit) ≤ 4500000 * k = ceil_root-within (m * unit) (4500000 * k) (in-units m unit ((4500000 * k) * (4500000 * k)) unit-is (radicand n k m h bound)) in
     let ends : Interval = record { lo = Some (floor_of (pos n *ℤ pos unit) 1000000); hi = Some (pos m) } in
     let is : enc (Root (Const (pos n) 1000000)) ≡ root_of ends =
     ap root_of (ratio_of-small (pos n) 1000000 (omega (arith, small)) ∙ ap (λ (z : ℤ). record { lo = Some (floor_of (pos n *ℤ pos unit) 1000000); hi = Some z }) top) in
@@ -175,16 +162,12 @@ nothing-screens : IsScreening (enc (whole 0))
 unfolding ratio_of unit
 nothing-screens = record { lo = (omega (arith, ints), omega (arith, ints)); hi = (omega (arith, ints), omega (arith, ints)) }
 
-c_2-between : (band : Band) → AreBetween (pos 0) (pos 2021161080472) (enc (c_2_by_wavelength band))
-unfolding c_2_by_wavelength ratio_of unit
-c_2-between Hz63 = record { lo = (omega (arith, ints), omega (arith, ints)); hi = (omega (arith, ints), omega (arith, ints)) }
-c_2-between Hz125 = record { lo = (omega (arith, ints), omega (arith, ints)); hi = (omega (arith, ints), omega (arith, ints)) }
-c_2-between Hz250 = record { lo = (omega (arith, ints), omega (arith, ints)); hi = (omega (arith, ints), omega (arith, ints)) }
-c_2-between Hz500 = record { lo = (omega (arith, ints), omega (arith, ints)); hi = (omega (arith, ints), omega (arith, ints)) }
-c_2-between Hz1000 = record { lo = (omega (arith, ints), omega (arith, ints)); hi = (omega (arith, ints), omega (arith, ints)) }
-c_2-between Hz2000 = record { lo = (omega (arith, ints), omega (arith, ints)); hi = (omega (arith, ints), omega (arith, ints)) }
-c_2-between Hz4000 = record { lo = (omega (arith, ints), omega (arith, ints)); hi = (omega (arith, ints), omega (arith, ints)) }
-c_2-between Hz8000 = record { lo = (omega (arith, ints), omega (arith, ints)); hi = (omega (arith, ints), omega (arith, ints)) }
+-- at most 25 dB
+screens : (i : Interval) → AreBetween (pos 0) most_top i → IsScreening i
+screens i h = record { lo = below i.lo h.lo; hi = below i.hi h.hi } where
+  below : (end : Option ℤ) → IsBetween (pos 0) most_top end → IsBetween (pos 0) (pos (48 * 2 ^ 32)) end
+  below None k = absurd k
+  below (Some z) k = (k.0, omega (arith, ints, k.1))
 
 waves-between : (band : Band) → AreBetween (pos 193944615) (pos (2 ^ 42)) (enc (five_wavelengths_squared band))
 unfolding five_wavelengths_squared ratio_of unit
@@ -199,31 +182,24 @@ waves-between Hz8000 = record { lo = (omega (arith, ints), omega (arith, ints));
 
 single-between : (band : Band) (z : Interval) → AreBetween (neg_ℤ (pos (2 ^ 47))) (pos (2 ^ 49)) z
     → IsScreening (enc (attenuation single_limit (three_and (at_one_edge band (Known z)))))
-unfolding attenuation ten_lg at_one_edge unit ratio_of max_of min_of mul_of sum_range logarithm_range decade_of greatest
+unfolding attenuation ten_lg at_one_edge unit mul_of
 single-between band z h =
-    between _ _ {t = attenuation single_limit (three_and (at_one_edge band (Known z)))}
-    (lesser (constant (lit< tt))
-    (product (constant (lit< tt))
-    (logarithm logarithm-ranged
-    (greater (constant (lit< tt))
-    (sum (constant (lit< tt))
-    (product (part-between _ _ {t = c_2_by_wavelength band} (c_2-between band)) (part-between _ _ {t = Known z} h))))))) refl
+    screens _
+    (attenuated single_limit (enc (at_one_edge band (Known z))) (omega arith)
+    (between _ _ {t = at_one_edge band (Known z)} (product (part-between _ _ {t = c_2_by_wavelength band} (c_2-between band)) (part-between _ _ {t = Known z} h)) refl))
 
 several-between : (band : Band) (e z : Interval) → AreBetween (pos 0) (pos 216000000000000) e → AreBetween (neg_ℤ (pos (2 ^ 47))) (pos (2 ^ 49)) z
     → IsScreening (enc (attenuation double_limit (three_and (at_two_edges band (Known e) (Known z)))))
-unfolding attenuation ten_lg at_two_edges c_3 unit ratio_of max_of min_of mul_of div_of sum_range quotient_range logarithm_range decade_of greatest
+unfolding attenuation ten_lg at_two_edges c_3 unit ratio_of mul_of div_of sum_range quotient_range
 several-between band e z he hz =
     let wave = part-between _ _ {t = five_wavelengths_squared band} (waves-between band) in
     let square = product (part-between _ _ {t = Known e} he) (part-between _ _ {t = Known e} he) in
-    between _ _ {t = attenuation double_limit (three_and (at_two_edges band (Known e) (Known z)))}
-    (lesser (constant (lit< tt))
-    (product (constant (lit< tt))
-    (logarithm logarithm-ranged
-    (greater (constant (lit< tt))
-    (sum (constant (lit< tt))
+    screens _
+    (attenuated double_limit (enc (at_two_edges band (Known e) (Known z))) (omega arith)
+    (between _ _ {t = at_two_edges band (Known e) (Known z)}
     (product
     (product (part-between _ _ {t = c_2_by_wavelength band} (c_2-between band)) (quotient (sum square wave) (sum (quotient square (constant (lit< tt))) wave)))
-    (part-between _ _ {t = Known z} hz))))))) refl
+    (part-between _ _ {t = Known z} hz)) refl))
 
 pub side-between : (s : Pt) (hs : ℕ) (r : Pt) (hr : ℕ) (corners : List Pt) (d : Interval) (band : Band) → hs ≤ 100000 → hr ≤ 100000 → way_along_axes corners ≤ 48000000 → IsOnMap d
     → IsScreening (enc (side_attenuation s hs r hr corners (Known d) band))

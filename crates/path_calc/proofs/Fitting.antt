@@ -1,8 +1,8 @@
 -- The edges on a direct path keep to the bounds of edges.
-use Rattle.std.proofs.Common.{◌≡◌, ℕ, zero, suc, List, [], ◌∷◌, map, Option, refl, subst}
+use Rattle.std.proofs.Common.{◌≡◌, ℕ, zero, suc, List, [], ◌∷◌, Option, refl, subst}
 use Rattle.std.specs.Prelude.{Some, None, All, IfSome}
 use Rattle.std.specs.Option.{option_map}
-use Rattle.std.proofs.lemmas.List.Elements.{All-nil, All-append, All-cons, All-map}
+use Rattle.std.proofs.lemmas.List.Elements.{All-nil, All-append, All-cons}
 use Rattle.scene_geom.specs.declared.plan.Side.{Side}
 use Rattle.scene_geom.specs.declared.fraction.Frac.{Frac}
 use Rattle.scene_geom.specs.Direction.{direct}

@@ -1,11 +1,14 @@
--- What is heard at the end of a path is what the definitions say of its source and its receiver.
-use Rattle.std.proofs.Common.{◌≡◌, ℤ, pos, List, [], ◌∷◌, get_or, map, Option, refl, sym, ap, ◌∙◌, arith}
+-- What is heard at the end of paths is what the definitions say of their source and their receiver.
+use Rattle.std.proofs.Common.{◌≡◌, ℕ, ℤ, pos, List, [], ◌∷◌, ◌++◌, get_or, map, Option, refl, sym, ap, ◌∙◌, arith}
 use Rattle.std.specs.Prelude.{Some, None}
 use Rattle.std.specs.Option.{option_map}
 use Rattle.std.proofs.lemmas.Int.{ints}
-use Rattle.std.proofs.lemmas.List.{get_or-map}
+use Rattle.std.proofs.lemmas.List.{get_or-map, map-append}
 use Rattle.fix_interval.specs.Interval.{Interval}
-use Rattle.fix_interval.specs.Tree.{Tree, Known, Const, Add, enc}
+use Rattle.fix_interval.specs.Values.{add_of, less_of, pick_of}
+use Rattle.fix_interval.specs.declared.truth.Truth.{Truth}
+use Rattle.fix_interval.specs.declared.truth.Truth.TheVariants.{Unsure}
+use Rattle.fix_interval.specs.Tree.{Tree, Known, Const, Add, Sub, enc}
 use Rattle.energy_sum.specs.Energies.{energy_form}
 use Rattle.scene_geom.specs.declared.band.Band.{Band}
 use Rattle.scene_geom.specs.Bands.{all_bands, place_of}
@@ -14,58 +17,160 @@ use Rattle.scene_parts.specs.declared.kinds.Air.{Air}
 use Rattle.scene_book.specs.Book.{Book}
 use Rattle.path_shape.specs.declared.path.Path.{Path}
 use Rattle.path_shape.specs.declared.edge.Edge.{Edge}
-use Rattle.path_shape.specs.Shape.{plan_length}
-use Rattle.sight_cut.specs.declared.ends.Ends.{Ends}
+use Rattle.path_shape.specs.Shape.{plan_length, length_of}
 use Rattle.sight_cut.specs.declared.crossing.Crossing.{Crossing}
 use Rattle.sight_cut.specs.Cuts.{edges_in, crossings_of}
+use Rattle.image_source.specs.Dimensions.{dimension_squared, needed_squared}
+use Rattle.term_div_atm.specs.Terms.{divergence}
 use Rattle.term_ground.specs.Ground.{ground}
 use Rattle.term_ground.proofs.Same.{same-ground}
 use Rattle.term_barrier.specs.Screening.{screening}
 use Rattle.path_calc.specs.declared.propagation.Propagation.{Propagation}
+use Rattle.path_calc.specs.Propagations.{Reflected, counts_at}
+use Rattle.path_calc.specs.declared.paths.Paths.{Paths}
 use Rattle.path_calc.specs.Weights.{weight_in}
 use Rattle.path_calc.specs.Absorption.{coefficient_in}
-use Rattle.path_calc.specs.Lengths.{distance}
+use Rattle.path_calc.specs.Lengths.{distance, reflected_distance}
 use Rattle.path_calc.specs.LateralPaths.{LateralPath, lateral_paths}
+use Rattle.path_calc.specs.ReflectedPaths.{ReflectedPath, path_along}
 use Rattle.path_calc.specs.Strings.{d_z_along, d_z_over}
 use Rattle.path_calc.specs.Surroundings.{Surroundings, path_of, ends_of, edges_at, laterals_at, surroundings_of}
-use Rattle.path_calc.specs.Contributions.{Contribution, emission_in, unscreened_level, ground_in, screening_in, lateral_screening_in, sound_past, direct_sound, lateral_sound, leading, sounds_of}
-use Rattle.path_calc.specs.Energies.{sum_form, weighted, energy_of, long_energy_of, band_energy, band_energy_between, long_energy_in}
+use Rattle.path_calc.specs.Contributions.{Contribution, emission_in, unscreened_level, ground_in, screening_in, lateral_screening_in, sound_past, direct_sound, lateral_sound, leading, reflected_ground_in, reflected_screening_in, reflection_level, reflected_sound, sounds_of}
+use Rattle.path_calc.specs.Energies.{sum_form, weighted, correction_of, band_energy, band_energy_between, long_energy_in}
 use Rattle.path_calc.specs.Bundles.{bundle_of}
 use Rattle.path_calc.specs.Prepared.{PreparedSource, prepared_of, emission_at}
 use Rattle.path_calc.specs.Ranges.{IsAtReceiver}
-use Rattle.path_calc.specs.Hearing.{IsDirect, edges_among, bar_over, bars_over, ground_at, screening_at, lateral_at, screenings_at, level_before, past, sum_after, energy_after, long_energy_after}
-use Rattle.path_calc.proofs.Sums.{are-small, and-nothing, same-sums}
+use Rattle.path_calc.specs.Hearing.{IsDirect, ArePaths, propagation_along, bar_over, bars_over, ground_at, screening_at, lateral_at, reflected_of, screenings_at, level_before, past, downwind_energy, long_term_energy, reflected_energy, sum_after, energy_after, long_energy_after}
+use Rattle.path_calc.proofs.Alike.{same-needed, same-dimension, same-correction, energy_by, same-each, same-through, same-lists}
+use Rattle.path_calc.proofs.Sums.{are-small, and-nothing, less-nothing}
 use Rattle.path_calc.proofs.Eight.{at-place, map-same, place-below}
 use Rattle.path_calc.proofs.SameScreening.{same-screening}
 use Rattle.path_calc.proofs.Screened.{bars-are, edges-there}
 use Rattle.path_calc.proofs.Stretching.{same-side}
 use Rattle.path_calc.proofs.Zones.{ground-eight, same-surroundings}
 
--- a level with a weight of 0 is that level
-pub unweighted : (band : Band) (level energy : Interval) → IsAtReceiver level → weight_in band ≡ pos 0 → energy ≡ enc (energy_form (Known level)) → energy ≡ enc (energy_form (weighted band (Known level)))
-unweighted band level energy is weight energy-is =
+-- a level with a weight and a correction of 0 is that level
+pub unweighted : (band : Band) (level c_met energy : Interval) → IsAtReceiver level → weight_in band ≡ pos 0 → c_met ≡ enc (Const (pos 0) 1) → energy ≡ enc (energy_form (Known level))
+    → energy ≡ enc (long_term_energy band (Known c_met) (Known level))
+unweighted band level c_met energy is weight nothing energy-is =
+    let small = are-small _ _ level is (omega (arith, ints)) (omega (arith, ints)) in
     energy-is
-    ∙ ap (λ (i : Interval). enc (energy_form (Known i))) (sym (and-nothing level (are-small _ _ level is (omega (arith, ints)) (omega (arith, ints)))))
-    ∙ ap (λ (w : ℤ). enc (energy_form (Add (Known level) (Const w 10)))) (sym weight)
+    ∙ ap (λ (i : Interval). enc (energy_form (Known i))) (sym (less-nothing level small))
+    ∙ ap (λ (i : Interval). enc (energy_form (Sub (Known i) (Const (pos 0) 1)))) (sym (and-nothing level small))
+    ∙ ap (λ (w : ℤ). enc (energy_form (Sub (Add (Known level) (Const w 10)) (Const (pos 0) 1)))) (sym weight)
+    ∙ ap (λ (i : Interval). enc (energy_form (Sub (weighted band (Known level)) (Known i)))) (sym nothing)
 
--- ---- what is known of the direct path is what the formulas say
+-- ---- a path, of which the quantities are known
 
-unscreened-is : (p : Propagation) (book : Book) (s : Source) (r : Receiver) (band : Band) (emission : Tree) → IsDirect p book s r
-    → enc (level_before p band (enc emission))
-    ≡ enc (unscreened_level emission (distance s.at s.h r.at r.h) (coefficient_in book.globals.air band) (ground_in (surroundings_of book s r).zones book.globals.g s r band))
-unscreened-is p book s r band emission is =
-    let gr = ground_in (surroundings_of book s r).zones book.globals.g s r band in
-    let d = distance s.at s.h r.at r.h in
-    ap (λ (i : Interval). enc (unscreened_level emission (Known i) (coefficient_in p.air band) (Known (ground_at p band)))) is.distance
-    ∙ ap (λ (i : Interval). enc (unscreened_level emission d (coefficient_in p.air band) (Known i))) (is.ground band)
-    ∙ ap (λ (a : Air). enc (unscreened_level emission d (coefficient_in a band) gr)) is.air
+-- a level before screening, with what is known of the path
+unscreened-known : (p : Propagation) (air : Air) (d gr emission : Tree) (sent : Interval) (band : Band) → p.air ≡ air → p.distance ≡ enc d → ground_at p band ≡ enc gr → sent ≡ enc emission
+    → enc (level_before p band sent) ≡ enc (unscreened_level emission d (coefficient_in air band) gr)
+unscreened-known p air d gr emission sent band air-is distance-is ground-is sent-is =
+    ap (λ (i : Interval). enc (unscreened_level (Known i) (Known p.distance) (coefficient_in p.air band) (Known (ground_at p band)))) sent-is
+    ∙ ap (λ (i : Interval). enc (unscreened_level emission (Known i) (coefficient_in p.air band) (Known (ground_at p band)))) distance-is
+    ∙ ap (λ (i : Interval). enc (unscreened_level emission d (coefficient_in p.air band) (Known i))) ground-is
+    ∙ ap (λ (a : Air). enc (unscreened_level emission d (coefficient_in a band) gr)) air-is
+
+-- the attenuation by the ground in a band is what the formula says
+ground-known : (zones : List Zone) (g0 : ℕ) (path : Path) (dp : Tree) (band : Band) (default : Interval) → path.dp ≡ enc dp
+    → get_or (map enc (ground zones g0 path (Known path.dp))) (place_of band) default ≡ enc (get_or (ground zones g0 path dp) (place_of band) (Const (pos 0) 1))
+ground-known zones g0 path dp band default is =
+    ap (λ (es : List Interval). get_or es (place_of band) default) (same-ground zones g0 path (Known path.dp) dp is)
+    ∙ get_or-map enc (ground zones g0 path dp) (place_of band) (Const (pos 0) 1) default (rw (ground-eight zones g0 path dp) (place-below band))
+
+-- and so is that by screening
+screening-known : (path : Path) (edges : Band → List Edge) (dp d gr : Tree) (ground : List Interval) (band : Band) (default : Interval) → path.dp ≡ enc dp
+    → get_or ground (place_of band) (enc d) ≡ enc gr
+    → get_or (bars_over path edges (enc d) ground) (place_of band) default ≡ enc (screening path dp (edges band) d gr band)
+screening-known path edges dp d gr ground band default length-is ground-is =
+    at-place (λ band. bar_over path (edges band) (enc d) ground band) default band
+    ∙ ap (λ (i : Interval). enc (screening path (Known path.dp) (edges band) (Known (enc d)) (Known i) band)) ground-is
+    ∙ same-screening path (edges band) band (Known path.dp) dp (Known (enc d)) d (Known (enc gr)) gr length-is refl refl
+
+-- ---- the direct path
+
+-- what the code knows of it
+pub direct-is : (p : Propagation) (book : Book) (s : Source) (r : Receiver) (d : Interval) (crossings : List Crossing) → d ≡ enc (distance s.at s.h r.at r.h) → crossings ≡ crossings_of (ends_of s r) book.obstacles
+    → p ≡ propagation_along book.globals book.zones (path_of s r) d crossings → IsDirect p book s r
+direct-is p book s r d crossings distance-is crossings-are is =
+    let path = path_of s r in
+    let dp = plan_length s.at r.at in
+    let dist = distance s.at s.h r.at r.h in
+    let found = map enc (ground book.zones book.globals.g path (Known path.dp)) in
+    let in_band = λ (band : Band). edges_in band (ends_of s r) book.obstacles in
+    let known : p ≡ propagation_along book.globals book.zones path (enc dist) crossings =
+    is ∙ ap (λ (i : Interval). propagation_along book.globals book.zones path i crossings) distance-is in
+    let there : (band : Band) (default : Interval) → get_or found (place_of band) default ≡ enc (ground_in (surroundings_of book s r).zones book.globals.g s r band) =
+    λ (band : Band) (default : Interval).
+    ground-known book.zones book.globals.g path dp band default refl
+    ∙ ap (λ (ts : List Tree). enc (get_or ts (place_of band) (Const (pos 0) 1))) (same-surroundings book.zones book.globals.g path dp) in
+    record {
+      air = ap (λ (q : Propagation). q.air) known;
+      distance = ap (λ (q : Propagation). q.distance) known;
+      ground = λ (band : Band). ap (λ (q : Propagation). ground_at q band) known ∙ there band _;
+      screening = λ (band : Band).
+          let gr = ground_in (surroundings_of book s r).zones book.globals.g s r band in
+          ap (λ (q : Propagation). screening_at q band) known
+          ∙ ap (λ (is : List Interval). get_or is (place_of band) (enc (divergence (Known (enc dist))))) (bars-are path (enc dist) found crossings (ends_of s r) book.obstacles crossings-are)
+          ∙ screening-known path in_band dp dist gr found band _ refl (there band (enc dist))
+          ∙ ap (λ (es : List Edge). enc (screening_in es s r gr band)) (sym (edges-there book s r band));
+      correction = ap (λ (q : Propagation). q.correction) known ∙ same-correction dp s.h r.h book.globals.c0;
+    }
 
 level-is : (p : Propagation) (book : Book) (s : Source) (r : Receiver) (band : Band) (emission screening : Tree) → IsDirect p book s r
     → enc (past (enc (level_before p band (enc emission))) (enc screening)) ≡ enc (sound_past book.globals (surroundings_of book s r) s r band emission screening).level
 level-is p book s r band emission screening is =
-    ap (λ (i : Interval). enc (past i (enc screening))) (unscreened-is p book s r band emission is)
+    ap (λ (i : Interval). enc (past i (enc screening)))
+    (unscreened-known p book.globals.air (distance s.at s.h r.at r.h) (ground_in (surroundings_of book s r).zones book.globals.g s r band) emission (enc emission) band is.air is.distance (is.ground band) refl)
 
--- the attenuations by screening of all sounds, as formulas
+-- what is known of the screening round the sides is what the formulas say
+pub lateral-is : (paths : Paths) (book : Book) (s : Source) (r : Receiver) (d : Interval) (band : Band) → d ≡ enc (distance s.at s.h r.at r.h)
+    → lateral_at paths band ≡ d_z_over (ends_of s r) book.obstacles d band
+    → lateral_at paths band ≡ map (λ (path : LateralPath). enc (lateral_screening_in path s r band)) (leading (laterals_at band (surroundings_of book s r)))
+lateral-is paths book s r d band distance-is is =
+    let round = lateral_paths band (ends_of s r) book.obstacles in
+    let along = λ (path : LateralPath). enc (lateral_screening_in path s r band) in
+    is
+    ∙ ap (λ (i : Interval). d_z_over (ends_of s r) book.obstacles i band) distance-is
+    ∙ map-same (d_z_along (ends_of s r) (enc (distance s.at s.h r.at r.h)) band) along
+    (λ (path : LateralPath). same-side s.at s.h r.at r.h path.corners (distance s.at s.h r.at r.h) band) (leading round)
+    ∙ ap (λ (ps : List LateralPath). map along (leading ps)) (sym (at-place (λ band. lateral_paths band (ends_of s r) book.obstacles) [] band))
+
+-- ---- paths by way of walls
+
+-- what is known of a path by way of a wall is what the formulas say
+reflected-is : (f : Tree → Tree → Tree) → ((a b t u : Tree) → enc a ≡ enc b → enc t ≡ enc u → enc (f a t) ≡ enc (f b u)) → (globals : Globals) (s : Source) (r : Receiver) (band : Band) (emission : Tree) (path : ReflectedPath)
+    → enc (reflected_energy f band (enc emission) (reflected_of globals (ends_of s r) path)) ≡ enc (energy_by globals s r f (reflected_sound globals s r band emission path))
+reflected-is f same globals s r band emission path =
+    let ends = ends_of s r in
+    let m = reflected_of globals ends path in
+    let unfolded = path_along ends path.unfolded in
+    let dp = length_of path.unfolded.square in
+    let d = reflected_distance path.unfolded.square s.h r.h in
+    let gr = reflected_ground_in path globals.g s r band in
+    let bar = reflected_screening_in path s r gr band in
+    let sound = reflected_sound globals s r band emission path in
+    let in_band = λ (band : Band). get_or path.edges (place_of band) [] in
+    let known = map enc (ground path.zones globals.g unfolded (Known unfolded.dp)) in
+    let there : (default : Interval) → get_or known (place_of band) default ≡ enc gr = λ (default : Interval). ground-known path.zones globals.g unfolded dp band default refl in
+    let screened : screening_at m.path band ≡ enc bar = screening-known unfolded in_band dp d gr known band m.path.divergence refl (there (enc d)) in
+    let before : enc (level_before m.path band (add_of (enc emission) m.level)) ≡ enc (unscreened_level (Add emission (reflection_level path.rho)) d (coefficient_in globals.air band) gr) =
+    unscreened-known m.path globals.air d gr (Add emission (reflection_level path.rho)) (add_of (enc emission) m.level) band refl refl (there m.path.divergence) refl in
+    let level : enc (past (enc (level_before m.path band (add_of (enc emission) m.level))) (screening_at m.path band)) ≡ enc sound.level =
+    ap (λ (i : Interval). enc (past i (screening_at m.path band))) before
+    ∙ ap (λ (i : Interval). enc (Sub (unscreened_level (Add emission (reflection_level path.rho)) d (coefficient_in globals.air band) gr) (Known i))) screened in
+    let decided : counts_at m band ≡ less_of (enc (needed_squared path.unfolded.p d band)) (enc (dimension_squared path.side path.h path.unfolded.p d)) =
+    at-place (λ band. less_of (enc (needed_squared path.unfolded.p (Known (enc d)) band)) (enc (dimension_squared path.side path.h path.unfolded.p (Known (enc d))))) Unsure band
+    ∙ ap (λ (i : Interval). less_of i (enc (dimension_squared path.side path.h path.unfolded.p (Known (enc d))))) (same-needed path.unfolded.p d band)
+    ∙ ap (less_of (enc (needed_squared path.unfolded.p d band))) (same-dimension path.side path.h path.unfolded.p d) in
+    ap (λ (truth : Truth). pick_of truth (enc (f (Known m.path.correction) (past (enc (level_before m.path band (add_of (enc emission) m.level))) (screening_at m.path band)))) (enc (Const (pos 0) 1))) decided
+    ∙ ap (λ (i : Interval). pick_of (less_of (enc (needed_squared path.unfolded.p d band)) (enc (dimension_squared path.side path.h path.unfolded.p d))) i (enc (Const (pos 0) 1)))
+    (same (Known m.path.correction) (correction_of globals s r sound) (past (enc (level_before m.path band (add_of (enc emission) m.level))) (screening_at m.path band)) sound.level
+    (same-correction dp s.h r.h globals.c0) level)
+
+-- ---- the energies of all sounds
+
+-- the attenuations by screening of the sounds over the top and round the sides, as formulas
 abbrev screenings : Surroundings → Source → Receiver → Band → Tree → List Tree
 screenings around s r band gr =
     screening_in (edges_at band around) s r gr band ∷ map (λ (path : LateralPath). lateral_screening_in path s r band) (leading (laterals_at band around))
@@ -74,141 +179,73 @@ map-twice : {X Y Z : Type 0} (f : Y → Z) (g : X → Y) (xs : List X) → map (
 map-twice f g [] = refl
 map-twice f g (x ∷ xs) = ap (λ zs. f (g x) ∷ zs) (map-twice f g xs)
 
-screenings-are : (p : Propagation) (book : Book) (s : Source) (r : Receiver) (band : Band) → IsDirect p book s r
-    → screenings_at p band ≡ map enc (screenings (surroundings_of book s r) s r band (ground_in (surroundings_of book s r).zones book.globals.g s r band))
-screenings-are p book s r band is =
-    let paths = leading (laterals_at band (surroundings_of book s r)) in
+screenings-are : (paths : Paths) (book : Book) (s : Source) (r : Receiver) (band : Band) → ArePaths paths book s r
+    → screenings_at paths band ≡ map enc (screenings (surroundings_of book s r) s r band (ground_in (surroundings_of book s r).zones book.globals.g s r band))
+screenings-are paths book s r band are =
+    let round = leading (laterals_at band (surroundings_of book s r)) in
     let bar = screening_in (edges_at band (surroundings_of book s r)) s r (ground_in (surroundings_of book s r).zones book.globals.g s r band) band in
-    ap (λ (i : Interval). i ∷ lateral_at p band) (is.screening band)
-    ∙ ap (λ (es : List Interval). enc bar ∷ es) (is.lateral band ∙ map-twice enc (λ (path : LateralPath). lateral_screening_in path s r band) paths)
+    ap (λ (i : Interval). i ∷ lateral_at paths band) (are.direct.screening band)
+    ∙ ap (λ (es : List Interval). enc bar ∷ es) (are.lateral band ∙ map-twice enc (λ (path : LateralPath). lateral_screening_in path s r band) round)
 
-sounds-are : (globals : Globals) (around : Surroundings) (s : Source) (r : Receiver) (band : Band) (emission : Tree) (f : Contribution → Tree)
+-- the sounds over the top and round the sides are those past such attenuations
+unreflected-are : (globals : Globals) (around : Surroundings) (s : Source) (r : Receiver) (band : Band) (emission : Tree) (f : Contribution → Tree)
     → map (λ (t : Tree). f (sound_past globals around s r band emission t)) (screenings around s r band (ground_in around.zones globals.g s r band))
-    ≡ map f (sounds_of globals around s r band (Some emission))
-sounds-are globals around s r band emission f =
+    ≡ map f (direct_sound globals around s r band emission ∷ map (lateral_sound globals around s r band emission) (leading (laterals_at band around)))
+unreflected-are globals around s r band emission f =
     let paths = leading (laterals_at band around) in
     let first = f (direct_sound globals around s r band emission) in
     ap (λ (ts : List Tree). first ∷ ts)
     (sym (map-twice (λ (t : Tree). f (sound_past globals around s r band emission t)) (λ (path : LateralPath). lateral_screening_in path s r band) paths)
     ∙ map-twice f (lateral_sound globals around s r band emission) paths)
 
-energy-is : (p : Propagation) (book : Book) (s : Source) (r : Receiver) (band : Band) (emission : Option Tree) → IsDirect p book s r
-    → sum_after energy_form p band (option_map enc emission) ≡ enc (sum_form (map energy_of (sounds_of book.globals (surroundings_of book s r) s r band emission)))
-energy-is p book s r band None is = refl
-energy-is p book s r band (Some emission) is =
-    let level = enc (level_before p band (enc emission)) in
+energies-are : (f : Tree → Tree → Tree) → ((a b t u : Tree) → enc a ≡ enc b → enc t ≡ enc u → enc (f a t) ≡ enc (f b u)) → (paths : Paths) (book : Book) (s : Source) (r : Receiver) (band : Band) (emission : Option Tree) → ArePaths paths book s r
+    → sum_after f paths band (option_map enc emission) ≡ enc (sum_form (map (energy_by book.globals s r f) (sounds_of book.globals (surroundings_of book s r) s r band emission)))
+energies-are f same paths book s r band None are = refl
+energies-are f same paths book s r band (Some emission) are =
+    let globals = book.globals in
     let around = surroundings_of book s r in
-    let ts = screenings around s r band (ground_in around.zones book.globals.g s r band) in
-    ap (λ (es : List Interval). enc (sum_form (map (λ (i : Interval). energy_form (past level i)) es))) (screenings-are p book s r band is)
-    ∙ same-sums (λ (i : Interval). energy_form (past level i)) (λ (t : Tree). energy_of (sound_past book.globals around s r band emission t))
-    (λ (t : Tree). ap (λ (i : Interval). enc (energy_form (Known i))) (level-is p book s r band emission t is)) ts
-    ∙ ap (λ (fs : List Tree). enc (sum_form fs)) (sounds-are book.globals around s r band emission energy_of)
-
-long-energy-is : (p : Propagation) (book : Book) (s : Source) (r : Receiver) (band : Band) (emission : Option Tree) → IsDirect p book s r
-    → sum_after (λ level. energy_form (weighted band level)) p band (option_map enc emission) ≡ enc (sum_form (map (long_energy_of band) (sounds_of book.globals (surroundings_of book s r) s r band emission)))
-long-energy-is p book s r band None is = refl
-long-energy-is p book s r band (Some emission) is =
-    let level = enc (level_before p band (enc emission)) in
-    let around = surroundings_of book s r in
-    let ts = screenings around s r band (ground_in around.zones book.globals.g s r band) in
-    ap (λ (es : List Interval). enc (sum_form (map (λ (i : Interval). energy_form (weighted band (past level i))) es))) (screenings-are p book s r band is)
-    ∙ same-sums (λ (i : Interval). energy_form (weighted band (past level i))) (λ (t : Tree). long_energy_of band (sound_past book.globals around s r band emission t))
-    (λ (t : Tree). ap (λ (i : Interval). enc (energy_form (weighted band (Known i)))) (level-is p book s r band emission t is)) ts
-    ∙ ap (λ (fs : List Tree). enc (sum_form fs)) (sounds-are book.globals around s r band emission (long_energy_of band))
+    let level = enc (level_before paths.direct band (enc emission)) in
+    let c_met = Known paths.direct.correction in
+    let over = λ (i : Interval). f c_met (past level i) in
+    let by = energy_by globals s r f in
+    let by_wall = reflected_energy f band (enc emission) in
+    let gr = ground_in around.zones globals.g s r band in
+    let ts = screenings around s r band gr in
+    let past_it = λ (t : Tree). by (sound_past globals around s r band emission t) in
+    let unreflected = direct_sound globals around s r band emission ∷ map (lateral_sound globals around s r band emission) (leading (laterals_at band around)) in
+    let reflected = map (reflected_sound globals s r band emission) around.reflected in
+    let first : map enc (map over (screenings_at paths band)) ≡ map enc (map by unreflected) =
+    ap (λ (es : List Interval). map enc (map over es)) (screenings-are paths book s r band are)
+    ∙ same-each over past_it (λ (t : Tree). same c_met (correction_of globals s r (sound_past globals around s r band emission t)) (past level (enc t)) (sound_past globals around s r band emission t).level are.direct.correction (level-is paths.direct book s r band emission t are.direct)) ts
+    ∙ ap (λ (us : List Tree). map enc us) (unreflected-are globals around s r band emission by) in
+    let second : map enc (map by_wall paths.reflected.items) ≡ map enc (map by reflected) =
+    ap (λ (ms : List Reflected). map enc (map by_wall ms)) are.reflected
+    ∙ same-through by_wall (reflected_of globals (ends_of s r)) (λ (path : ReflectedPath). by (reflected_sound globals s r band emission path)) (reflected-is f same globals s r band emission) around.reflected
+    ∙ ap (λ (us : List Tree). map enc us) (map-twice by (reflected_sound globals s r band emission) around.reflected) in
+    same-lists (map over (screenings_at paths band) ++ map by_wall paths.reflected.items) (map by (unreflected ++ reflected)) (
+    map-append enc (map over (screenings_at paths band)) (map by_wall paths.reflected.items)
+    ∙ ap (λ (es : List Interval). es ++ map enc (map by_wall paths.reflected.items)) first
+    ∙ ap (λ (es : List Interval). map enc (map by unreflected) ++ es) second
+    ∙ sym (map-append enc (map by unreflected) (map by reflected))
+    ∙ ap (λ (us : List Tree). map enc us) (sym (map-append by unreflected reflected)))
 
 emitted : (source : PreparedSource) (s : Source) (band : Band) → source ≡ prepared_of s → emission_at source band ≡ option_map enc (emission_in band s)
 emitted source s band is =
     ap (λ (q : PreparedSource). emission_at q band) is ∙ at-place (λ band. option_map enc (emission_in band s)) None band
 
 -- what is heard in all bands
-pub bands-heard : (p : Propagation) (source : PreparedSource) (book : Book) (s : Source) (r : Receiver) → source ≡ prepared_of s → IsDirect p book s r
-    → map (energy_after p source) all_bands ≡ (bundle_of book s r).energy
+pub bands-heard : (paths : Paths) (source : PreparedSource) (book : Book) (s : Source) (r : Receiver) → source ≡ prepared_of s → ArePaths paths book s r
+    → map (energy_after paths source) all_bands ≡ (bundle_of book s r).energy
 unfolding band_energy
-bands-heard p source book s r prepared is =
-    map-same (energy_after p source) (λ band. enc (band_energy_between book s r band))
-    (λ band. ap (sum_after energy_form p band) (emitted source s band prepared) ∙ energy-is p book s r band (emission_in band s) is) all_bands
+bands-heard paths source book s r prepared are =
+    map-same (energy_after paths source) (λ band. enc (band_energy_between book s r band))
+    (λ band. ap (sum_after downwind_energy paths band) (emitted source s band prepared)
+    ∙ energies-are downwind_energy (λ a b t u d e. ap (λ (i : Interval). enc (energy_form (Known i))) e) paths book s r band (emission_in band s) are) all_bands
 
-pub longs-heard : (p : Propagation) (source : PreparedSource) (book : Book) (s : Source) (r : Receiver) → source ≡ prepared_of s → IsDirect p book s r
-    → map (long_energy_after p source) all_bands ≡ map (λ band. enc (long_energy_in book.globals (surroundings_of book s r) s r band)) all_bands
-longs-heard p source book s r prepared is =
-    map-same (long_energy_after p source) (λ band. enc (long_energy_in book.globals (surroundings_of book s r) s r band))
-    (λ band. ap (sum_after (λ level. energy_form (weighted band level)) p band) (emitted source s band prepared) ∙ long-energy-is p book s r band (emission_in band s) is) all_bands
-
--- ---- the ground
-
--- the attenuation among all zones is that among the zones that the path meets
-ground-is : (p : Propagation) (book : Book) (s : Source) (r : Receiver) (band : Band) (default : Interval) → p.ground ≡ map enc (ground book.zones book.globals.g (path_of s r) (Known (enc (plan_length s.at r.at))))
-    → get_or p.ground (place_of band) default ≡ enc (ground_in (surroundings_of book s r).zones book.globals.g s r band)
-ground-is p book s r band default is =
-    let path = path_of s r in
-    let dp = plan_length s.at r.at in
-    let met = (surroundings_of book s r).zones in
-    let among : map enc (ground book.zones book.globals.g path (Known (enc dp))) ≡ map enc (ground met book.globals.g path dp) =
-    same-ground book.zones book.globals.g path (Known (enc dp)) dp refl
-    ∙ ap (λ ts. map enc ts) (same-surroundings book.zones book.globals.g path dp) in
-    ap (λ (es : List Interval). get_or es (place_of band) default) (is ∙ among)
-    ∙ get_or-map enc (ground met book.globals.g path dp) (place_of band) (Const (pos 0) 1) default (rw (ground-eight met book.globals.g path dp) (place-below band))
-
--- ---- screening
-
--- what is known of the screening in all bands is what the formula says of each
-screening-is : (p : Propagation) (book : Book) (s : Source) (r : Receiver) (band : Band) → p.distance ≡ enc (distance s.at s.h r.at r.h)
-    → p.ground ≡ map enc (ground book.zones book.globals.g (path_of s r) (Known (enc (plan_length s.at r.at))))
-    → p.screening ≡ bars_over (path_of s r) (λ band. edges_in band (ends_of s r) book.obstacles) p.distance p.ground
-    → screening_at p band ≡ enc (screening_in (edges_at band (surroundings_of book s r)) s r (ground_in (surroundings_of book s r).zones book.globals.g s r band) band)
-screening-is p book s r band distance-is ground-are is =
-    let path = path_of s r in
-    let dp = plan_length s.at r.at in
-    let d = distance s.at s.h r.at r.h in
-    let gr = ground_in (surroundings_of book s r).zones book.globals.g s r band in
-    let edges = edges_in band (ends_of s r) book.obstacles in
-    ap (λ (es : List Interval). get_or es (place_of band) p.divergence) is
-    ∙ at-place (λ band. bar_over path (edges_in band (ends_of s r) book.obstacles) p.distance p.ground band) p.divergence band
-    ∙ ap (λ (i : Interval). enc (screening path (Known path.dp) edges (Known p.distance) (Known i) band)) (ground-is p book s r band p.distance ground-are)
-    ∙ ap (λ (i : Interval). enc (screening path (Known path.dp) edges (Known i) (Known (enc gr)) band)) distance-is
-    ∙ same-screening path edges band (Known path.dp) dp (Known (enc d)) d (Known (enc gr)) gr refl refl refl
-    ∙ ap (λ (es : List Edge). enc (screening_in es s r gr band)) (sym (edges-there book s r band))
-
--- and what is known of that round the sides
-lateral-is : (p : Propagation) (book : Book) (s : Source) (r : Receiver) (band : Band) → p.distance ≡ enc (distance s.at s.h r.at r.h)
-    → lateral_at p band ≡ d_z_over (ends_of s r) book.obstacles p.distance band
-    → lateral_at p band ≡ map (λ (path : LateralPath). enc (lateral_screening_in path s r band)) (leading (laterals_at band (surroundings_of book s r)))
-lateral-is p book s r band distance-is is =
-    let paths = lateral_paths band (ends_of s r) book.obstacles in
-    let along = λ (path : LateralPath). enc (lateral_screening_in path s r band) in
-    is
-    ∙ ap (λ (i : Interval). d_z_over (ends_of s r) book.obstacles i band) distance-is
-    ∙ map-same (d_z_along (ends_of s r) (enc (distance s.at s.h r.at r.h)) band) along
-    (λ (path : LateralPath). same-side s.at s.h r.at r.h path.corners (distance s.at s.h r.at r.h) band) (leading paths)
-    ∙ ap (λ (ps : List LateralPath). map along (leading ps)) (sym (at-place (λ band. lateral_paths band (ends_of s r) book.obstacles) [] band))
-
--- ---- the direct path
-
--- what the code knows of it
-pub direct-is : (p : Propagation) (book : Book) (s : Source) (r : Receiver) (globals : Globals) (zones : List Zone) (obstacles : List Obstacle) (path : Path) (ends : Ends) (crossings : List Crossing)
-    → globals ≡ book.globals → zones ≡ book.zones → obstacles ≡ book.obstacles → path ≡ path_of s r → ends ≡ ends_of s r → crossings ≡ crossings_of ends obstacles
-    → p.air ≡ globals.air → p.distance ≡ enc (distance s.at s.h r.at r.h) → p.ground ≡ map enc (ground zones globals.g path (Known path.dp))
-    → p.screening ≡ bars_over path (λ band. edges_among band crossings) p.distance p.ground
-    → ((band : Band) → lateral_at p band ≡ d_z_over ends obstacles p.distance band) → IsDirect p book s r
-direct-is p book s r globals zones obstacles path ends crossings globals-are zones-are obstacles-are path-is ends-are crossings-are air-is distance-is ground-are screening-are lateral-are =
-    let known : p.ground ≡ map enc (ground book.zones book.globals.g (path_of s r) (Known (enc (plan_length s.at r.at)))) =
-    ground-are
-    ∙ ap (λ (g : Globals). map enc (ground zones g.g path (Known path.dp))) globals-are
-    ∙ ap (λ (zs : List Zone). map enc (ground zs book.globals.g path (Known path.dp))) zones-are
-    ∙ ap (λ (q : Path). map enc (ground book.zones book.globals.g q (Known q.dp))) path-is in
-    let screened : p.screening ≡ bars_over (path_of s r) (λ band. edges_in band (ends_of s r) book.obstacles) p.distance p.ground =
-    screening-are
-    ∙ bars-are path p.distance p.ground crossings ends obstacles crossings-are
-    ∙ ap (λ (os : List Obstacle). bars_over path (λ band. edges_in band ends os) p.distance p.ground) obstacles-are
-    ∙ ap (λ (e : Ends). bars_over path (λ band. edges_in band e book.obstacles) p.distance p.ground) ends-are
-    ∙ ap (λ (q : Path). bars_over q (λ band. edges_in band (ends_of s r) book.obstacles) p.distance p.ground) path-is in
-    record {
-      air = air-is ∙ ap (λ (g : Globals). g.air) globals-are;
-      distance = distance-is;
-      ground = λ (band : Band). ground-is p book s r band p.divergence known;
-      screening = λ (band : Band). screening-is p book s r band distance-is known screened;
-      lateral = λ (band : Band). lateral-is p book s r band distance-is (
-          lateral-are band
-          ∙ ap (λ (os : List Obstacle). d_z_over ends os p.distance band) obstacles-are
-          ∙ ap (λ (e : Ends). d_z_over e book.obstacles p.distance band) ends-are);
-    }
+pub longs-heard : (paths : Paths) (source : PreparedSource) (book : Book) (s : Source) (r : Receiver) → source ≡ prepared_of s → ArePaths paths book s r
+    → map (long_energy_after paths source) all_bands ≡ map (λ band. enc (long_energy_in book.globals (surroundings_of book s r) s r band)) all_bands
+longs-heard paths source book s r prepared are =
+    map-same (long_energy_after paths source) (λ band. enc (long_energy_in book.globals (surroundings_of book s r) s r band))
+    (λ band. ap (sum_after (long_term_energy band) paths band) (emitted source s band prepared)
+    ∙ energies-are (long_term_energy band)
+    (λ a b t u d e. ap (λ (i : Interval). enc (long_term_energy band (Known i) t)) d ∙ ap (λ (i : Interval). enc (long_term_energy band b (Known i))) e) paths book s r band (emission_in band s) are) all_bands

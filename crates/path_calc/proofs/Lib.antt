@@ -2,7 +2,9 @@ pub mod Eight
 pub mod Bounds
 pub mod Sums
 pub mod Zones
+pub mod Alike
 pub mod Heard
+pub mod Reflecting
 pub mod Adding
 pub mod Sound
 pub mod Showing
@@ -11,4 +13,5 @@ pub mod Screened
 pub mod Fitting
 pub mod Numbered
 pub mod Stretching
+pub mod Tracing
 pub mod Corners

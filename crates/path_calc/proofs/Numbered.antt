@@ -1,20 +1,20 @@
 -- The obstacles that screen in a band, found by the crossings of the line of sight.
-use Rattle.std.proofs.Common.{◌≡◌, ℕ, zero, suc, ◌+◌, ◌<◌, Bool, true, false, List, [], ◌∷◌, ◌++◌, length, get_or, drop, map, filter, Option, refl, sym, ap, ◌∙◌, arith, add-one, append_assoc, append-nil}
-use Rattle.std.specs.Prelude.{Some, None, not, ◌&&◌, ◌||◌, ◌==◌, slice_get, slice_index_or, if◌then◌else◌}
+use Rattle.std.proofs.Common.{◌≡◌, ℕ, zero, suc, ◌+◌, ◌<◌, Bool, true, false, List, [], ◌∷◌, ◌++◌, length, get_or, drop, map, filter, Option, refl, sym, ap, ◌∙◌, arith, append_assoc}
+use Rattle.std.specs.Prelude.{Some, None, not, ◌&&◌, ◌||◌, slice_get, if◌then◌else◌}
 use Rattle.std.specs.List.{list_any, filter_map, flat_map}
 use Rattle.std.proofs.lemmas.List.{drop_more}
 use Rattle.scene_geom.specs.declared.plan.Pt.{Pt}
 use Rattle.scene_geom.specs.declared.plan.Side.{Side}
 use Rattle.scene_geom.specs.declared.band.Band.{Band}
-use Rattle.scene_geom.specs.Bands.{all_bands, place_of}
+use Rattle.scene_geom.specs.Bands.{all_bands}
 use Rattle.scene_parts.specs.Views.{Obstacle}
 use Rattle.scene_parts.specs.Sides.{sides_of}
 use Rattle.path_shape.specs.declared.edge.Edge.{Edge}
 use Rattle.sight_cut.specs.declared.ends.Ends.{Ends}
 use Rattle.sight_cut.specs.declared.crossing.Crossing.{Crossing}
-use Rattle.sight_cut.specs.Cuts.{edge_of, edges_of, counts_in, screens_in, crossing_of, before_all, crossings_along, crossings_from, crossings_of, is_crossing_in}
+use Rattle.sight_cut.specs.Cuts.{edge_of, counts_in, screens_in, crossing_of, before_all, crossings_along, crossings_from, crossings_of}
 use Rattle.path_calc.specs.LateralPaths.{screening_corners}
-use Rattle.path_calc.specs.Strings.{rises_in, is_number, numbers_after, numbers_in, corners_of, corners_at}
+use Rattle.path_calc.specs.Strings.{rises_in, is_number, numbers_after, numbers_in, corners_at}
 use Rattle.path_calc.proofs.Eight.{at-place}
 
 -- ---- numbers, one after another
@@ -41,7 +41,7 @@ number-passed band before crossings i c found total below is e h =
 
 -- ---- those of the obstacles that screen
 -- the numbers of those obstacles that screen, the first of them numbered i
-abbrev screening_from : Band → Ends → ℕ → List Obstacle → List ℕ
+abbrev pub screening_from : Band → Ends → ℕ → List Obstacle → List ℕ
 screening_from band ends i [] = []
 screening_from band ends i (o ∷ obstacles) =
     if screens_in band ends o then i ∷ screening_from band ends (suc i) obstacles else screening_from band ends (suc i) obstacles
@@ -77,16 +77,6 @@ same-along band ends i k o (side ∷ sides) rest = by_edge (edge_of ends o.h sid
 abbrev any_above : List Edge → Bool
 any_above edges = list_any (λ (edge : Edge). edge.above) edges
 
-abbrev joined : Option Edge → List Edge → List Edge
-joined None edges = edges
-joined (Some edge) edges = edge ∷ edges
-
-joined-is : (f : Side → Option Edge) (side : Side) (sides : List Side) → joined (f side) (filter_map f sides) ≡ filter_map f (side ∷ sides)
-joined-is f side sides = by_edge (f side) refl where
-  by_edge : (edge : Option Edge) → f side ≡ edge → joined (f side) (filter_map f sides) ≡ filter_map f (side ∷ sides)
-  by_edge None e = rw e refl
-  by_edge (Some edge) e = rw e refl
-
 -- an obstacle gives its number where it screens
 first-along : (band : Band) (ends : Ends) (i k : ℕ) (before : Option ℕ) (o : Obstacle) (sides : List Side) (rest : List Crossing) → is_number i before ≡ false
     → numbers_after band before (crossings_along ends i k o sides ++ rest)
@@ -95,29 +85,23 @@ first-along band ends i k before o [] rest new = none (counts_in band ends o) wh
   none : (test : Bool) → numbers_after band before rest ≡ (if test && false then i ∷ numbers_after band (Some i) rest else numbers_after band before rest)
   none true = refl
   none false = refl
-first-along band ends i k before o (side ∷ sides) rest new =
-    by_edge (edge_of ends o.h side) refl (first-along band ends i (suc k) before o sides rest new)
-    ∙ ap (λ (edges : List Edge). if counts_in band ends o && any_above edges then i ∷ numbers_after band (Some i) rest else numbers_after band before rest) (joined-is (edge_of ends o.h) side sides)
-  where
-    others : List Edge
-    others = filter_map (edge_of ends o.h) sides
-
-    by_edge : (edge : Option Edge) → edge_of ends o.h side ≡ edge
+first-along band ends i k before o (side ∷ sides) rest new = by_edge (edge_of ends o.h side) refl (first-along band ends i (suc k) before o sides rest new) where
+  by_edge : (edge : Option Edge) → edge_of ends o.h side ≡ edge
+      → numbers_after band before (crossings_along ends i (suc k) o sides ++ rest)
+      ≡ (if counts_in band ends o && any_above (filter_map (edge_of ends o.h) sides) then i ∷ numbers_after band (Some i) rest else numbers_after band before rest)
+      → numbers_after band before (before_all (crossing_of ends i k o side) (crossings_along ends i (suc k) o sides) ++ rest)
+      ≡ (if counts_in band ends o && any_above (filter_map (edge_of ends o.h) (side ∷ sides)) then i ∷ numbers_after band (Some i) rest else numbers_after band before rest)
+  by_edge None e h = rw e h
+  by_edge (Some edge) e h = rw e (by_tests (counts_in band ends o) edge.above refl refl h) where
+    by_tests : (test above : Bool) → counts_in band ends o ≡ test → edge.above ≡ above
         → numbers_after band before (crossings_along ends i (suc k) o sides ++ rest)
         ≡ (if counts_in band ends o && any_above (filter_map (edge_of ends o.h) sides) then i ∷ numbers_after band (Some i) rest else numbers_after band before rest)
-        → numbers_after band before (before_all (crossing_of ends i k o side) (crossings_along ends i (suc k) o sides) ++ rest)
-        ≡ (if counts_in band ends o && any_above (joined (edge_of ends o.h side) (filter_map (edge_of ends o.h) sides)) then i ∷ numbers_after band (Some i) rest else numbers_after band before rest)
-    by_edge None e h = rw e h
-    by_edge (Some edge) e h = rw e (by_tests (counts_in band ends o) edge.above refl refl h) where
-      by_tests : (test above : Bool) → counts_in band ends o ≡ test → edge.above ≡ above
-          → numbers_after band before (crossings_along ends i (suc k) o sides ++ rest)
-          ≡ (if counts_in band ends o && any_above (filter_map (edge_of ends o.h) sides) then i ∷ numbers_after band (Some i) rest else numbers_after band before rest)
-          → numbers_after band before (made ends i k o side edge ∷ (crossings_along ends i (suc k) o sides ++ rest))
-          ≡ (if counts_in band ends o && (edge.above || any_above (filter_map (edge_of ends o.h) sides)) then i ∷ numbers_after band (Some i) rest else numbers_after band before rest)
-      by_tests true true counts is h =
-          rw (made-rises band ends i k o side edge, counts, is, new) (ap (λ (ns : List ℕ). i ∷ ns) (same-along band ends i (suc k) o sides rest))
-      by_tests true false counts is h = rw (made-rises band ends i k o side edge, counts, is) (rw counts at h)
-      by_tests false above counts is h = rw (made-rises band ends i k o side edge, counts) (rw counts at h)
+        → numbers_after band before (made ends i k o side edge ∷ (crossings_along ends i (suc k) o sides ++ rest))
+        ≡ (if counts_in band ends o && (edge.above || any_above (filter_map (edge_of ends o.h) sides)) then i ∷ numbers_after band (Some i) rest else numbers_after band before rest)
+    by_tests true true counts is h =
+        rw (made-rises band ends i k o side edge, counts, is, new) (ap (λ (ns : List ℕ). i ∷ ns) (same-along band ends i (suc k) o sides rest))
+    by_tests true false counts is h = rw (made-rises band ends i k o side edge, counts, is) (rw counts at h)
+    by_tests false above counts is h = rw (made-rises band ends i k o side edge, counts) (rw counts at h)
 
 -- every number so far is below i
 abbrev Below : Option ℕ → ℕ → Type 0
@@ -132,7 +116,7 @@ next-below : (before : Option ℕ) (i : ℕ) → Below before i → Below before
 next-below None i h = tt
 next-below (Some n) i h = omega arith
 
-numbers-from : (band : Band) (ends : Ends) (i : ℕ) (before : Option ℕ) (obstacles : List Obstacle) → Below before i
+pub numbers-from : (band : Band) (ends : Ends) (i : ℕ) (before : Option ℕ) (obstacles : List Obstacle) → Below before i
     → numbers_after band before (crossings_from ends i obstacles) ≡ screening_from band ends i obstacles
 numbers-from band ends i before [] h = refl
 numbers-from band ends i before (o ∷ obstacles) h =

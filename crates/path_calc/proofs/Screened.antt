@@ -1,8 +1,9 @@
 -- Edges on the direct path, and by how much it is screened.
-use Rattle.std.proofs.Common.{◌≡◌, ℕ, ◌<◌, Bool, true, false, List, [], ◌∷◌, ◌++◌, length, get_or, map, filter, refl, sym, ap, ◌∙◌}
+use Rattle.std.proofs.Common.{◌≡◌, ℕ, ◌<◌, Bool, true, false, List, [], ◌∷◌, length, get_or, map, filter, refl, sym, ap, ◌∙◌}
 use Rattle.std.specs.Prelude.{◌||◌}
 use Rattle.std.specs.List.{list_any}
 use Rattle.std.proofs.lemmas.List.{get_or_default}
+use Rattle.std.proofs.lemmas.List.Folds.{list_any-append}
 use Rattle.fix_interval.specs.Interval.{Interval}
 use Rattle.fix_interval.specs.Tree.{Known, enc}
 use Rattle.scene_geom.specs.declared.band.Band.{Band}
@@ -58,13 +59,6 @@ bars-are path d ground crossings ends obstacles crossings-are =
 pub edges-there : (book : Book) (s : Source) (r : Receiver) (band : Band) → edges_at band (surroundings_of book s r) ≡ edges_in band (ends_of s r) book.obstacles
 edges-there book s r band = at-place (λ band. edges_in band (ends_of s r) book.obstacles) [] band
 
-any-append : {A : Type 0} (p : A → Bool) (xs ys : List A) → list_any p (xs ++ ys) ≡ (list_any p xs || list_any p ys)
-any-append p [] ys = refl
-any-append p (x ∷ xs) ys = by_test (p x) (any-append p xs ys) where
-  by_test : (test : Bool) → list_any p (xs ++ ys) ≡ (list_any p xs || list_any p ys) → (test || list_any p (xs ++ ys)) ≡ ((test || list_any p xs) || list_any p ys)
-  by_test true h = refl
-  by_test false h = h
-
 -- an obstacle screens where an edge of those that are large enough rises above the line of sight
 above-in : (band : Band) (ends : Ends) (obstacles : List Obstacle) → list_any (screens_in band ends) obstacles ≡ list_any (λ (edge : Edge). edge.above) (edges_in band ends obstacles)
 above-in band ends [] = refl
@@ -72,7 +66,7 @@ above-in band ends (o ∷ obstacles) = by (counts_in band ends o) refl (above-in
   by : (test : Bool) → counts_in band ends o ≡ test → list_any (screens_in band ends) obstacles ≡ list_any (λ (edge : Edge). edge.above) (edges_in band ends obstacles)
       → (screens_in band ends o || list_any (screens_in band ends) obstacles) ≡ list_any (λ (edge : Edge). edge.above) (edges_in band ends (o ∷ obstacles))
   by true is rest =
-      rw (is, rest) (sym (any-append (λ (edge : Edge). edge.above) (edges_of ends o) (edges_in band ends obstacles)))
+      rw (is, rest) (sym (list_any-append (λ (edge : Edge). edge.above) (edges_of ends o) (edges_in band ends obstacles)))
   by false is rest = rw is rest
 
 pub edges-are-cuts : (book : Book) (s : Source) (r : Receiver) (band : Band) → EdgesAreCuts book s r band

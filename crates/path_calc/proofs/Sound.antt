@@ -1,21 +1,26 @@
 -- The formulas of energies and levels are sound: no divisor of a constant is 0.
-use Rattle.std.proofs.Common.{ℕ, ℤ, pos, lit<, List, [], ◌∷◌, map, Option}
-use Rattle.std.specs.Prelude.{Some, None, fold}
+use Rattle.std.proofs.Common.{ℕ, zero, suc, ◌*◌, ◌<◌, ℤ, pos, negsuc, lit<, List, [], ◌∷◌, ◌++◌, map, Option, arith}
+use Rattle.std.specs.Prelude.{Some, None, fold, ◌<ℤ◌, unsigned_abs, slice_index_or}
+use Rattle.std.proofs.lemmas.Int.{ints}
 use Rattle.std.specs.Option.{option_map}
 use Rattle.fix_interval.specs.Tree.{Tree, Const, Add, IsSound}
 use Rattle.energy_sum.specs.Energies.{energy_form}
+use Rattle.energy_sum.specs.Weather.{correction}
 use Rattle.scene_parts.specs.Views.{Source, Receiver, Zone, Globals}
 use Rattle.scene_book.specs.Book.{Book}
-use Rattle.path_shape.specs.Shape.{plan_length}
+use Rattle.scene_geom.specs.declared.fraction.Frac.{Frac}
+use Rattle.path_shape.specs.Shape.{plan_length, length_of}
+use Rattle.image_source.proofs.Sound.{condition-is-sound}
 use Rattle.term_ground.proofs.Sound.{ground-sound}
 use Rattle.term_barrier.specs.Laws.{ScreeningIsSound, SideAttenuationIsSound}
 use Rattle.scene_geom.specs.declared.band.Band.{Band}
 use Rattle.scene_geom.specs.Bands.{all_bands, place_of}
 use Rattle.path_calc.specs.LateralPaths.{LateralPath}
-use Rattle.path_calc.specs.Surroundings.{Surroundings, path_of, edges_at, laterals_at, surroundings_of}
-use Rattle.path_calc.specs.Contributions.{Counting, Always, WhereGreater, Contribution, power_in, emission, ground_in, screening_in, sound_past, lateral_sound, leading, sounds_of, contributions}
-use Rattle.path_calc.specs.Lengths.{distance}
-use Rattle.path_calc.specs.Energies.{where_counting, weighted, energy_of, long_energy_of, band_energy, long_energy_in, long_energy, band_energy_between, long_energy_between}
+use Rattle.path_calc.specs.ReflectedPaths.{ReflectedPath, path_along}
+use Rattle.path_calc.specs.Surroundings.{Surroundings, path_of, ends_of, edges_at, laterals_at, surroundings_of}
+use Rattle.path_calc.specs.Contributions.{Counting, Always, WhereGreater, Contribution, power_in, emission, ground_in, screening_in, sound_past, lateral_sound, leading, reflected_ground_in, reflected_screening_in, reflection_level, reflected_sound, sounds_of, contributions}
+use Rattle.path_calc.specs.Lengths.{distance, reflected_distance}
+use Rattle.path_calc.specs.Energies.{where_counting, long_term, correction_of, energy_of, long_energy_of, band_energy, long_energy_in, long_energy, band_energy_between, long_energy_between}
 use Rattle.path_calc.specs.Show.{sources_within, total_form, band_form}
 use Rattle.path_calc.proofs.Eight.{place-below}
 use Rattle.path_calc.proofs.Zones.{ground-eight}
@@ -28,6 +33,7 @@ CountsSoundly (WhereGreater x y) = IsSound x × IsSound y
 
 record IsSoundOne (c : Contribution) : Type 0 where
   level : IsSound c.level
+  length : IsSound c.dp
   counts : CountsSoundly c.counts
 
 AllSound : List Contribution → Type 0
@@ -42,8 +48,13 @@ sound-counting (WhereGreater x y) energy c h = (c.0, c.1, h, lit< tt)
 sound-energy : (c : Contribution) → IsSoundOne c → IsSound (energy_of c)
 sound-energy c h = sound-counting c.counts (energy_form c.level) h.counts (h.level, lit< tt)
 
-sound-long_energy : (band : Band) (c : Contribution) → IsSoundOne c → IsSound (long_energy_of band c)
-sound-long_energy band c h = sound-counting c.counts (energy_form (weighted band c.level)) h.counts ((h.level, lit< tt), lit< tt)
+sound-correction : (dp : Tree) (hs hr c0 : ℕ) → IsSound dp → IsSound (correction dp hs hr c0)
+unfolding correction
+sound-correction dp hs hr c0 h = (h, lit< tt, (lit< tt, (lit< tt, (lit< tt, h))), lit< tt)
+
+sound-long_energy : (globals : Globals) (s : Source) (r : Receiver) (band : Band) (c : Contribution) → IsSoundOne c → IsSound (long_energy_of globals s r band c)
+sound-long_energy globals s r band c h =
+    sound-counting c.counts (energy_form (long_term band (correction_of globals s r c) c.level)) h.counts (((h.level, lit< tt), sound-correction c.dp s.h r.h globals.c0 h.length), lit< tt)
 
 sound-all : (f : Contribution → Tree) → ((c : Contribution) → IsSoundOne c → IsSound (f c)) → (total : Tree) → IsSound total → (cs : List Contribution) → AllSound cs → IsSound (fold Add total (map f cs))
 unfolding AllSound
@@ -64,6 +75,7 @@ sound-one : (globals : Globals) (around : Surroundings) (s : Source) (r : Receiv
 unfolding CountsSoundly
 sound-one globals around s r band power screening h = record {
   level = (((((lit< tt, lit< tt), ((lit< tt, (lit< tt, lit< tt)), lit< tt)), (((lit< tt, lit< tt), lit< tt), lit< tt)), sound-ground around.zones globals.g s r band), h);
+  length = lit< tt;
   counts = tt;
 }
 
@@ -76,6 +88,59 @@ sound-laterals round globals around s r band power (path ∷ paths) = (
   sound-laterals round globals around s r band power paths,
 )
 
+-- ---- what walls reflect
+
+divisor-positive : (d : ℤ) → pos 0 <ℤ d → 0 < unsigned_abs d * 1000000
+divisor-positive (pos n) h = omega (arith, ints)
+divisor-positive (negsuc n) h = absurd (omega (arith, ints))
+
+sound-length : (square : Frac) → IsSound (length_of square)
+sound-length square = divisor-positive square.d square.positive
+
+sound-distance : (square : Frac) (hs hr : ℕ) → IsSound (reflected_distance square hs hr)
+sound-distance square hs hr = (divisor-positive square.d square.positive, lit< tt)
+
+sound-level_of : (rho : ℕ) → IsSound (reflection_level rho)
+unfolding reflection_level
+sound-level_of rho = (lit< tt, lit< tt)
+
+sound-reflected_ground : (path : ReflectedPath) (g0 : ℕ) (s : Source) (r : Receiver) (band : Band) → IsSound (reflected_ground_in path g0 s r band)
+sound-reflected_ground path g0 s r band =
+    let along = path_along (ends_of s r) path.unfolded in
+    let dp = length_of path.unfolded.square in
+    ground-sound path.zones g0 along dp (sound-length path.unfolded.square) (place_of band) (Const (pos 0) 1) (rw (ground-eight path.zones g0 along dp) (place-below band))
+
+sound-reflected : ScreeningIsSound → (globals : Globals) (s : Source) (r : Receiver) (band : Band) (power : ℤ) (path : ReflectedPath)
+    → IsSoundOne (reflected_sound globals s r band (emission power s.dc) path)
+unfolding CountsSoundly
+sound-reflected screened globals s r band power path =
+    let along = path_along (ends_of s r) path.unfolded in
+    let dp = length_of path.unfolded.square in
+    let d = reflected_distance path.unfolded.square s.h r.h in
+    let gr = reflected_ground_in path globals.g s r band in
+    let distant : IsSound d = sound-distance path.unfolded.square s.h r.h in
+    let grounded : IsSound gr = sound-reflected_ground path globals.g s r band in
+    let condition = condition-is-sound path.side path.h path.unfolded.p d band distant in
+    record {
+      level = ((((((lit< tt, lit< tt), sound-level_of path.rho), ((lit< tt, (lit< tt, distant)), lit< tt)), (((lit< tt, distant), lit< tt), lit< tt)), grounded), screened along dp (slice_index_or path.edges (place_of band) []) d gr band (sound-length path.unfolded.square) distant grounded);
+      length = sound-length path.unfolded.square;
+      counts = (condition.first, condition.second);
+    }
+
+sound-reflections : ScreeningIsSound → (globals : Globals) (s : Source) (r : Receiver) (band : Band) (power : ℤ) (paths : List ReflectedPath)
+    → AllSound (map (reflected_sound globals s r band (emission power s.dc)) paths)
+unfolding AllSound
+sound-reflections screened globals s r band power [] = tt
+sound-reflections screened globals s r band power (path ∷ paths) = (
+  sound-reflected screened globals s r band power path,
+  sound-reflections screened globals s r band power paths,
+)
+
+sound-both : (cs ds : List Contribution) → AllSound cs → AllSound ds → AllSound (cs ++ ds)
+unfolding AllSound
+sound-both [] ds h k = k
+sound-both (c ∷ cs) ds h k = (h.0, sound-both cs ds h.1 k)
+
 -- screening is sound, over the top and round the sides
 pub record AreSound : Type 0 where
   pub over : ScreeningIsSound
@@ -86,7 +151,9 @@ unfolding AllSound
 sound-sounds sound globals around s r band None = tt
 sound-sounds sound globals around s r band (Some power) = (
   sound-one globals around s r band power _ (sound-screening_in sound.over globals around s r band),
-  sound-laterals sound.round globals around s r band power (leading (laterals_at band around)),
+  sound-both (map (lateral_sound globals around s r band (emission power s.dc)) (leading (laterals_at band around))) (map (reflected_sound globals s r band (emission power s.dc)) around.reflected)
+      (sound-laterals sound.round globals around s r band power (leading (laterals_at band around)))
+      (sound-reflections sound.over globals s r band power around.reflected),
 )
 
 sound-contributions : AreSound → (globals : Globals) (around : Surroundings) (s : Source) (r : Receiver) (band : Band) → AllSound (contributions globals around s r band)
@@ -105,7 +172,7 @@ sound-band sound globals around s r band =
 
 sound-long_in : AreSound → (globals : Globals) (around : Surroundings) (s : Source) (r : Receiver) (band : Band) → IsSound (long_energy_in globals around s r band)
 sound-long_in sound globals around s r band =
-    sound-all (long_energy_of band) (sound-long_energy band) (Const (pos 0) 1) (lit< tt) (contributions globals around s r band) (sound-contributions sound globals around s r band)
+    sound-all (long_energy_of globals s r band) (sound-long_energy globals s r band) (Const (pos 0) 1) (lit< tt) (contributions globals around s r band) (sound-contributions sound globals around s r band)
 
 pub sound-long : AreSound → (globals : Globals) (around : Surroundings) (s : Source) (r : Receiver) → IsSound (long_energy globals around s r)
 unfolding long_energy

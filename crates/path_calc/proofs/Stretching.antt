@@ -1,6 +1,6 @@
 -- Strings round the obstacles that screen are the lateral paths of the definition.
-use Rattle.std.proofs.Common.{◌≡◌, ℕ, zero, suc, ◌+◌, ◌≤◌, Bool, true, false, List, [], ◌∷◌, ◌++◌, length, take, map, filter, Option, refl, sym, ap, ◌∙◌, arith, append-nil}
-use Rattle.std.specs.Prelude.{Some, None, not, ◌==◌, ◌&&◌, ◌||◌, slice_get, find, unwrap_or, if◌then◌else◌, All, Contains}
+use Rattle.std.proofs.Common.{◌≡◌, ℕ, zero, suc, ◌+◌, ◌≤◌, Bool, true, false, List, [], ◌∷◌, ◌++◌, length, take, map, filter, refl, sym, ap, ◌∙◌, arith}
+use Rattle.std.specs.Prelude.{Some, not, ◌==◌, ◌&&◌, ◌||◌, slice_get, if◌then◌else◌}
 use Rattle.std.specs.List.{list_any, flat_map}
 use Rattle.std.proofs.lemmas.List.Folds.{list_any-append, list_any_more}
 use Rattle.std.proofs.lemmas.Option.{slice_get_within, get_or_from_slice_get}
@@ -23,7 +23,7 @@ use Rattle.term_barrier.specs.Lateral.{lateral_difference, side_attenuation}
 use Rattle.path_calc.specs.declared.strings.Stretched.{Stretched}
 use Rattle.path_calc.specs.declared.strings.Strings.{Strings}
 use Rattle.path_calc.specs.Ranges.{IsShort}
-use Rattle.path_calc.specs.LateralPaths.{LateralPath, screening_corners, is_in_the_way, leads_in, lateral_path, lateral_paths}
+use Rattle.path_calc.specs.LateralPaths.{LateralPath, screening_corners, is_in_the_way, leads_in, lateral_path}
 use Rattle.path_calc.specs.Strings.{numbers_in, corners_at, is_within, leads_unless, leads_along, IsStretched, AreStretched, d_z_round, listed, both_of, lateral_in, d_z_along, d_z_over}
 use Rattle.path_calc.proofs.Numbered.{corners-there}
 
@@ -34,7 +34,7 @@ unfolding chain_of
 no-chain-by s r hand true e = rw e refl
 no-chain-by s r hand false e = rw e refl
 
-no-chain : (s r : Pt) (hand : Hand) → chain_of [] s r hand ≡ []
+pub no-chain : (s r : Pt) (hand : Hand) → chain_of [] s r hand ≡ []
 no-chain s r hand = no-chain-by s r hand (is_stretched [] s r hand []) refl
 
 pub none-stretched : (string : Stretched) (ends : Ends) (obstacles : List Obstacle) (hand : Hand) → string.corners.items ≡ [] → IsStretched string ends obstacles [] hand
@@ -170,7 +170,7 @@ two-sides ends d band left right = by_tests left.leads right.leads refl refl whe
   by_tests false false e f = rw (e, f) refl
 
 -- where no obstacle screens
-none-passes : {A : Type 0} (p : A → Bool) (xs : List A) → list_any p xs ≡ false → filter p xs ≡ []
+pub none-passes : {A : Type 0} (p : A → Bool) (xs : List A) → list_any p xs ≡ false → filter p xs ≡ []
 none-passes p [] e = refl
 none-passes p (x ∷ xs) e = by_test (p x) refl e (none-passes p xs) where
   by_test : (test : Bool) → p x ≡ test → (test || list_any p xs) ≡ false → (list_any p xs ≡ false → filter p xs ≡ []) → (if p x then x ∷ filter p xs else filter p xs) ≡ []

@@ -8,7 +8,9 @@ use Rattle.std.proofs.Math.IntN.{zero-*ℤ, +ℤ_idl, +ℤ_idr}
 use Rattle.fix_interval.specs.Interval.{Interval, IsEnd}
 use Rattle.fix_interval.specs.Bounds.{IsBetween, AreBetween}
 use Rattle.fix_interval.specs.Units.{unit}
-use Rattle.fix_interval.specs.Values.{ratio_of, add_of, sum_of_ends, is_small}
+use Rattle.fix_interval.specs.Values.{ratio_of, add_of, neg_of, sum_of_ends, is_small, lesser_low, greater_high, hull_of, pick_of}
+use Rattle.fix_interval.specs.declared.truth.Truth.{Truth}
+use Rattle.fix_interval.specs.declared.truth.Truth.TheVariants.{Sure, Never, Unsure}
 use Rattle.fix_interval.specs.Tree.{Tree, Known, Const, Add, enc}
 use Rattle.fix_interval.proofs.Ratios.{ratio_of-one, ratio_of-small}
 use Rattle.fix_interval.proofs.Multiplying.{end_of-small}
@@ -64,6 +66,16 @@ unfolding add_of
 and-nothing i is =
     rw nothing-tenth (ap (λ (e : Option ℤ). ends e (sum_of_ends i.hi (Some (pos 0)))) (end-and-nothing i.lo is.lo) ∙ ap (ends i.lo) (end-and-nothing i.hi is.hi))
 
+-- and so it is less nothing
+pub less-nothing : (i : Interval) → AreSmall i → add_of i (neg_of (ratio_of (pos 0) 1)) ≡ i
+unfolding add_of neg_of
+less-nothing i is =
+    rw nothing-is (ap (λ (e : Option ℤ). ends e (sum_of_ends i.hi (Some (pos 0)))) (end-and-nothing i.lo is.lo) ∙ ap (ends i.lo) (end-and-nothing i.hi is.hi))
+
+-- nothing by its ends
+pub nothing-by-ends : (i : Interval) → i.lo ≡ Some (pos 0) → i.hi ≡ Some (pos 0) → i ≡ ratio_of (pos 0) 1
+nothing-by-ends i low high = ap (λ (e : Option ℤ). ends e i.hi) low ∙ ap (ends (Some (pos 0))) high ∙ sym nothing-is
+
 pub nothing-and : (i : Interval) → AreSmall i → add_of (ratio_of (pos 0) 1) i ≡ i
 unfolding add_of
 nothing-and i is =
@@ -96,6 +108,13 @@ more-end n (Some z) h = (h.0, omega (arith, ints, h.1))
 
 pub more-sounds : (n : ℕ) (e : Interval) → IsSumOf n e → IsSumOf (n + 1) e
 more-sounds n e h = record { lo = more-end n e.lo h.lo; hi = more-end n e.hi h.hi }
+
+up-to-end : (m n : ℕ) (end : Option ℤ) → m ≤ n → IsBetween (pos 0) (pos (m * sound_limit)) end → IsBetween (pos 0) (pos (n * sound_limit)) end
+up-to-end m n None few h = absurd h
+up-to-end m n (Some z) few h = (h.0, omega (arith, ints, h.1, few))
+
+pub up-to : (m n : ℕ) (e : Interval) → m ≤ n → IsSumOf m e → IsSumOf n e
+up-to m n e few h = record { lo = up-to-end m n e.lo few h.lo; hi = up-to-end m n e.hi few h.hi }
 
 -- ---- sums of lists
 
@@ -181,6 +200,35 @@ sums-from f g same x y e (t ∷ ts) =
 pub same-sums : (f : Interval → Tree) (g : Tree → Tree) → ((t : Tree) → enc (f (enc t)) ≡ enc (g t)) → (ts : List Tree)
     → enc (sum_form (map f (map enc ts))) ≡ enc (sum_form (map g ts))
 same-sums f g same ts = sums-from f g same (Const (pos 0) 1) (Const (pos 0) 1) refl ts
+
+one-from : {X : Type 0} (f : X → Tree) (t : Tree) (xs : List X) (x : X) → enc (fold Add t (map f (xs ++ x ∷ []))) ≡ add_of (enc (fold Add t (map f xs))) (enc (f x))
+one-from f t [] x = refl
+one-from f t (y ∷ ys) x = one-from f (Add t (f y)) ys x
+
+-- a sum that began with some formula, with one more
+pub next-from : {X : Type 0} (f : X → Tree) (start : Tree) (xs : List X) (i : ℕ) (x : X) (before after : Interval) → i < length xs → x ≡ get_or xs i x
+    → before ≡ enc (fold Add start (map f (take i xs))) → after ≡ add_of before (enc (f x)) → after ≡ enc (fold Add start (map f (take (i + 1) xs)))
+next-from f start xs i x before after below item before-is after-is =
+    after-is ∙ ap (λ (j : Interval). add_of j (enc (f x))) before-is
+    ∙ sym (one-from f start (take i xs) x)
+    ∙ ap (λ ys. enc (fold Add start (map f ys))) (sym (take_more xs i x below ∙ ap (λ y. take i xs ++ y ∷ []) (sym item)))
+
+-- an energy where it counts, and else another
+low-picked : (m : ℤ) (x y : Option ℤ) → IsBetween (pos 0) m x → IsBetween (pos 0) m y → IsBetween (pos 0) m (lesser_low x y)
+low-picked m None y p q = absurd p
+low-picked m (Some x) None p q = absurd q
+low-picked m (Some x) (Some y) p q = grind (arith, ints)
+
+high-picked : (m : ℤ) (x y : Option ℤ) → IsBetween (pos 0) m x → IsBetween (pos 0) m y → IsBetween (pos 0) m (greater_high x y)
+high-picked m None y p q = absurd p
+high-picked m (Some x) None p q = absurd q
+high-picked m (Some x) (Some y) p q = grind (arith, ints)
+
+pub picked : (truth : Truth) (a b : Interval) (n : ℕ) → IsSumOf n a → IsSumOf n b → IsSumOf n (pick_of truth a b)
+unfolding pick_of hull_of
+picked Sure a b n p q = p
+picked Never a b n p q = q
+picked Unsure a b n p q = record { lo = low-picked (pos (n * sound_limit)) a.lo b.lo p.lo q.lo; hi = high-picked (pos (n * sound_limit)) a.hi b.hi p.hi q.hi }
 
 -- the sum of the energies of one sound, and of more where there are more
 pub sound-and-more : (f : Interval → Tree) (over : Interval) (left right : Option Interval) (e : Interval) → IsSumOf 1 (enc (f over))

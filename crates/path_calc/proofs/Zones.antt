@@ -9,7 +9,7 @@ use Rattle.term_ground.specs.declared.region.Region.TheVariants.{Source, Middle,
 use Rattle.term_ground.specs.Zones.{met_zones, meets_legs}
 use Rattle.term_ground.specs.Regions.{region_start, region_end, zone_term, share_of}
 use Rattle.term_ground.specs.Ground.{ground}
-use Rattle.path_calc.specs.Surroundings.{unnamed, zones_on}
+use Rattle.path_calc.specs.GroundZones.{unnamed, zones_on}
 
 pub ground-eight : (zones : List Zone) (g0 : ℕ) (path : Path) (dp : Tree) → length (ground zones g0 path dp) ≡ 8
 unfolding ground

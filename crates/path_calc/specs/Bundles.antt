@@ -8,15 +8,19 @@ use Rattle.fix_interval.specs.Tree.{enc}
 use Rattle.energy_sum.specs.Sums.{units_of}
 use Rattle.scene_geom.specs.declared.band.Band.{Band}
 use Rattle.scene_geom.specs.Bands.{all_bands, place_of}
-use Rattle.path_calc.specs.Surroundings.{Surroundings, surroundings_of}
+use Rattle.path_calc.specs.declared.segments.Seg.{Seg}
+use Rattle.path_calc.specs.Segments.{FitsSegment}
+use Rattle.path_calc.specs.Surroundings.{Surroundings, ends_of, surroundings_of}
+use Rattle.path_calc.specs.Trace.{trace_along}
 use Rattle.path_calc.specs.Energies.{band_energy, long_energy}
 
--- the name, the place and the height in mm of the source, the energy in each band, and the long-term energy
--- over all bands
+-- the name, the place and the height in mm of the source, the plan segments along which it was heard, the energy in
+-- each band, and the long-term energy over all bands
 pub record Bundle : Type 0 where
   pub source : List ℕ
   pub at : Pt
   pub h : ℕ
+  pub segs : List Seg
   pub energy : List Interval
   pub long : Interval
 
@@ -26,6 +30,7 @@ bundle_over globals around s r = record {
   source = s.name;
   at = s.at;
   h = s.h;
+  segs = trace_along around (ends_of s r);
   energy = map (λ band. enc (band_energy globals around s r band)) all_bands;
   long = enc (long_energy globals around s r);
 }
@@ -45,6 +50,7 @@ pub record IsEnergy (e : Interval) : Type 0 where
 
 -- what every bundle keeps
 pub record IsBundle (bundle : Bundle) : Type 0 where
+  pub fit : All FitsSegment bundle.segs
   pub bands : length bundle.energy ≡ 8
   pub energy : All IsEnergy bundle.energy
   pub long : IsEnergy bundle.long

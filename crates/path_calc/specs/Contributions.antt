@@ -1,20 +1,22 @@
 -- The sounds that come from a source to a receiver in a band, each with its level (ISO 9613-2, clause 6).
-use Rattle.std.specs.Prelude.{ℕ, ℤ, pos, List, [], ◌∷◌, map, filter, Option, Some, None, slice_index_or}
+use Rattle.std.specs.Prelude.{ℕ, ℤ, pos, List, [], ◌∷◌, ◌++◌, map, filter, Option, Some, None, slice_index_or}
 use Rattle.std.specs.Option.{option_map}
-use Rattle.fix_interval.specs.Tree.{Tree, Const, Add, Sub}
+use Rattle.fix_interval.specs.Tree.{Tree, Const, Add, Sub, Mul, Lg}
 use Rattle.scene_parts.specs.Views.{Source, Receiver, Zone, Globals}
-use Rattle.path_shape.specs.Shape.{plan_length}
+use Rattle.path_shape.specs.Shape.{plan_length, length_of}
 use Rattle.path_shape.specs.declared.edge.Edge.{Edge}
 use Rattle.term_div_atm.specs.Terms.{divergence, absorption}
 use Rattle.term_ground.specs.Ground.{ground}
 use Rattle.term_barrier.specs.Screening.{screening}
 use Rattle.term_barrier.specs.Lateral.{side_attenuation}
+use Rattle.image_source.specs.Dimensions.{dimension_squared, needed_squared}
 use Rattle.scene_geom.specs.declared.band.Band.{Band}
 use Rattle.scene_geom.specs.Bands.{place_of}
 use Rattle.path_calc.specs.Absorption.{coefficient_in}
-use Rattle.path_calc.specs.Lengths.{distance}
+use Rattle.path_calc.specs.Lengths.{distance, reflected_distance}
 use Rattle.path_calc.specs.LateralPaths.{LateralPath}
-use Rattle.path_calc.specs.Surroundings.{Surroundings, path_of, edges_at, laterals_at}
+use Rattle.path_calc.specs.ReflectedPaths.{ReflectedPath, path_along}
+use Rattle.path_calc.specs.Surroundings.{Surroundings, path_of, ends_of, edges_at, laterals_at}
 
 -- when a sound counts: always, or where one quantity is greater than another (as in condition (19) of a reflection)
 pub data Counting : Type 0 where
@@ -89,12 +91,60 @@ lateral_sound globals around s r band emission path =
 abbrev pub leading : List LateralPath → List LateralPath
 leading paths = filter (λ path. path.leads) paths
 
--- all sounds of what a source emits: the direct one, then those round the left and the right; none where no power is
+-- ---- what a wall reflects (7.5)
+
+-- A_gr of a reflected path in a band, among the zones that its legs meet
+abbrev pub reflected_ground_in : ReflectedPath → ℕ → Source → Receiver → Band → Tree
+reflected_ground_in path g0 s r band =
+    slice_index_or
+    (ground path.zones g0 (path_along (ends_of s r) path.unfolded) (length_of path.unfolded.square))
+    (place_of band)
+    (Const (pos 0) 1)
+
+-- A_bar of a reflected path in a band, over the edges on its legs, where A_gr is this
+abbrev pub reflected_screening_in : ReflectedPath → Source → Receiver → Tree → Band → Tree
+reflected_screening_in path s r gr band =
+    screening
+    (path_along (ends_of s r) path.unfolded)
+    (length_of path.unfolded.square)
+    (slice_index_or path.edges (place_of band) [])
+    (reflected_distance path.unfolded.square s.h r.h)
+    gr
+    band
+
+-- 10 lg rho, by which a wall raises the level of what it reflects (equation 20): it is 0 dB or below
+unfoldable pub reflection_level : ℕ → Tree
+reflection_level rho = Mul (Const (pos 10) 1) (Lg (Const (pos rho) 1000))
+
+-- the sound of a reflected path, with its own length, ground and screens, which counts where the wall is large enough
+-- (condition 19)
+abbrev pub reflected_sound : Globals → Source → Receiver → Band → Tree → ReflectedPath → Contribution
+reflected_sound globals s r band emission path = record {
+  level =
+      let d = reflected_distance path.unfolded.square s.h r.h in
+      let gr = reflected_ground_in path globals.g s r band in
+      let reflected = Add emission (reflection_level path.rho) in
+      Sub
+      (unscreened_level reflected d (coefficient_in globals.air band) gr)
+      (reflected_screening_in path s r gr band);
+  dp = length_of path.unfolded.square;
+  counts =
+      let d = reflected_distance path.unfolded.square s.h r.h in
+      WhereGreater
+      (dimension_squared path.side path.h path.unfolded.p d)
+      (needed_squared path.unfolded.p d band);
+}
+
+-- ---- all sounds
+
+-- all sounds of what a source emits: the direct one, then those round the left and the right, then those that walls
+-- reflect; none where no power is
 abbrev pub sounds_of : Globals → Surroundings → Source → Receiver → Band → Option Tree → List Contribution
 sounds_of globals around s r band None = []
 sounds_of globals around s r band (Some emission) =
     direct_sound globals around s r band emission
-    ∷ map (lateral_sound globals around s r band emission) (leading (laterals_at band around))
+    ∷ (map (lateral_sound globals around s r band emission) (leading (laterals_at band around))
+    ++ map (reflected_sound globals s r band emission) around.reflected)
 
 -- all sounds that come from a source to a receiver in a band
 abbrev pub contributions : Globals → Surroundings → Source → Receiver → Band → List Contribution

@@ -1,14 +1,20 @@
 -- What holds of energies and levels beyond their definitions.
-use Rattle.std.specs.Prelude.{◌≡◌, List, map}
+use Rattle.std.specs.Prelude.{◌≡◌, List, [], map, slice_index_or}
 use Rattle.std.specs.List.{list_any}
 use Rattle.fix_interval.specs.Encloses.{Encloses}
 use Rattle.fix_interval.specs.Tree.{enc}
-use Rattle.scene_parts.specs.Views.{Source, Receiver, Globals}
+use Rattle.scene_parts.specs.Views.{Source, Receiver, Obstacle, Zone, Globals}
 use Rattle.scene_book.specs.Book.{Book}
 use Rattle.scene_geom.specs.declared.band.Band.{Band}
-use Rattle.scene_geom.specs.Bands.{all_bands}
+use Rattle.scene_geom.specs.declared.plan.Side.{Side}
+use Rattle.scene_geom.specs.declared.reflection.Reflection.{Reflection}
+use Rattle.scene_geom.specs.Bands.{all_bands, place_of}
+use Rattle.sight_cut.specs.declared.ends.Ends.{Ends}
 use Rattle.sight_cut.specs.declared.crossing.Crossing.{Crossing}
 use Rattle.sight_cut.specs.Cuts.{cut_of, cuts_of, screens_in}
+use Rattle.image_source.specs.declared.leg.Leg.{Leg}
+use Rattle.image_source.specs.LegCuts.{leg_cut_of, leg_cuts_of}
+use Rattle.path_calc.specs.ReflectedPaths.{ReflectedPath, along_legs}
 use Rattle.path_calc.specs.Surroundings.{Surroundings, ends_of, edges_at, surroundings_of}
 use Rattle.path_calc.specs.Energies.{band_energy, long_energy}
 use Rattle.path_calc.specs.Bundles.{bundle_of}
@@ -46,3 +52,14 @@ pub record EdgesAreCuts (book : Book) (s : Source) (r : Receiver) (band : Band) 
   -- some obstacle screens exactly where one of the edges rises above the line of sight
   pub screens : list_any (screens_in band (ends_of s r)) book.obstacles
       ≡ list_any (λ edge. edge.above) (edges_at band (surroundings_of book s r))
+
+-- So are the edges that are read on the legs of a reflected path: those of its leg cuts, in the same order.
+pub record LegEdgesAreCuts (obstacles : List Obstacle) (path : ReflectedPath) (ends : Ends) (band : Band) : Type 0 where
+  pub crossings : List (Leg × Crossing)
+  pub edges : slice_index_or path.edges (place_of band) [] ≡ map (λ c. c.1.edge) crossings
+  pub cuts : leg_cuts_of band path.unfolded ends obstacles ≡ map leg_cut_of crossings
+
+abbrev pub ReflectedEdgesAreCuts : Type 0
+ReflectedEdgesAreCuts = (obstacles : List Obstacle) (zones : List Zone) (ends : Ends) (o : Obstacle) (side : Side)
+    (unfolded : Reflection) (band : Band)
+    → LegEdgesAreCuts obstacles (along_legs obstacles zones ends o side unfolded) ends band

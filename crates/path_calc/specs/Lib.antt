@@ -2,7 +2,12 @@ pub mod Weights
 pub mod Absorption
 pub mod Lengths
 pub mod LateralPaths
+pub mod GroundZones
+pub mod ReflectedPaths
+pub mod ScreeningSets
 pub mod Surroundings
+pub mod Segments
+pub mod Trace
 pub mod Contributions
 pub mod Energies
 pub mod Bundles
@@ -11,5 +16,7 @@ pub mod Show
 pub mod Laws
 pub mod Prepared
 pub mod Strings
+pub mod Tracing
+pub mod Propagations
 pub mod Ranges
 pub mod Hearing

@@ -25,6 +25,10 @@ emission_at source band = slice_index_or source.emissions (place_of band) None
 abbrev pub IsEmission : Interval → Type 0
 IsEmission emission = AreBetween (neg_ℤ (pos (50 * 2 ^ 32))) (pos (180 * 2 ^ 32)) emission
 
+-- what is emitted, or what a wall sends on of it, from -60 dB to 180 dB
+abbrev pub IsSent : Interval → Type 0
+IsSent emission = AreBetween (neg_ℤ (pos (60 * 2 ^ 32))) (pos (180 * 2 ^ 32)) emission
+
 pub record IsPrepared (source : PreparedSource) : Type 0 where
   pub bands : length source.emissions ≡ 8
   pub emissions : All (λ emission. IfSome emission IsEmission) source.emissions

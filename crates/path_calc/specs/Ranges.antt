@@ -1,15 +1,17 @@
 -- Between which bounds the quantities of a path lie.
-use Rattle.std.specs.Prelude.{◌≡◌, ℕ, ◌-◌, ◌*◌, ◌^◌, ℤ, pos, neg_ℤ, ◌≤ℤ◌, ◌≤◌, List, All, IfSome, length}
+use Rattle.std.specs.Prelude.{◌≡◌, ℕ, ◌+◌, ◌-◌, ◌*◌, ◌^◌, ℤ, pos, neg_ℤ, ◌≤ℤ◌, ◌≤◌, List, All, IfSome, length, unsigned_abs}
 use Rattle.fix_interval.specs.Interval.{Interval}
 use Rattle.fix_interval.specs.Bounds.{AreBetween}
-use Rattle.fix_interval.specs.Tree.{Known, enc}
-use Rattle.term_div_atm.specs.Terms.{divergence}
-use Rattle.term_barrier.specs.Limits.{IsDistance, IsGroundEffect, IsScreening}
+use Rattle.term_barrier.specs.Limits.{IsScreening}
 use Rattle.scene_geom.specs.declared.plan.Pt.{Pt}
+use Rattle.scene_geom.specs.declared.fraction.Frac.{Frac}
+use Rattle.scene_geom.specs.Reflection.{longest_wall}
+use Rattle.scene_book.specs.Limits.{most_sides}
 use Rattle.edge_chain.specs.Laws.{way_along_axes}
 use Rattle.path_calc.specs.declared.lateral.LateralScreening.{LateralScreening}
 use Rattle.path_calc.specs.declared.lateral.LateralBands.{LateralBands}
-use Rattle.path_calc.specs.declared.propagation.Propagation.{Propagation}
+use Rattle.path_calc.specs.declared.paths.Paths.{Paths}
+use Rattle.path_calc.specs.Propagations.{IsPropagation}
 
 -- a sound power level and a directivity correction in range, in 0.01 dB
 pub record IsPower (z : ℤ) : Type 0 where
@@ -46,18 +48,20 @@ pub record AreLateralScreenings (lateral : LateralBands) : Type 0 where
   pub right : All (λ i. IfSome i IsScreening) lateral.right
   pub right_bands : length lateral.right ≡ 8
 
--- the divergence at the distance, and the attenuations by the ground and by screening in each band
-pub record IsPropagation (propagation : Propagation) : Type 0 where
-  pub distance : IsDistance propagation.distance
-  pub divergence : propagation.divergence ≡ enc (divergence (Known propagation.distance))
-  pub ground : All IsGroundEffect propagation.ground
-  pub bands : length propagation.ground ≡ 8
-  pub screening : All IsScreening propagation.screening
-  pub screened_bands : length propagation.screening ≡ 8
-  pub left : All (λ i. IfSome i IsScreening) propagation.left
-  pub left_bands : length propagation.left ≡ 8
-  pub right : All (λ i. IfSome i IsScreening) propagation.right
-  pub right_bands : length propagation.right ≡ 8
+-- all paths; those by way of walls are no more than a scene has sides
+pub record AreInRange (paths : Paths) : Type 0 where
+  pub direct : IsPropagation paths.direct
+  pub left : All (λ i. IfSome i IsScreening) paths.left
+  pub left_bands : length paths.left ≡ 8
+  pub right : All (λ i. IfSome i IsScreening) paths.right
+  pub right_bands : length paths.right ≡ 8
+  pub few : length paths.reflected.items ≤ most_sides
+
+-- the square of the plan length of a path by way of a wall, in mm²: of at most 25,299 m
+pub record IsReflectedSquare (square : Frac) : Type 0 where
+  pub from_zero : pos 0 ≤ℤ square.n
+  pub length : unsigned_abs square.n ≤ 640000000000000 * unsigned_abs square.d
+  pub wall : unsigned_abs square.d ≤ longest_wall ^ 2
 
 -- a level before screening and one at a receiver, at most 185 dB, and one of which there is an energy, at most 189 dB
 abbrev pub IsUnscreened : Interval → Type 0
@@ -72,6 +76,11 @@ IsHearable level = AreBetween (neg_ℤ (pos (2 ^ 61))) (pos (189 * 2 ^ 32)) leve
 -- the greatest energy of a sound, in units of 2^-32
 abbrev pub sound_limit : ℕ
 sound_limit = 2 ^ 96
+
+-- so many sounds reach a receiver in a band at most: one over the top, one round each side, and one by way of each side
+-- of an obstacle
+abbrev pub most_sounds : ℕ
+most_sounds = 3 + most_sides
 
 -- the sum of the energies of so many sounds
 abbrev pub IsSumOf : ℕ → Interval → Type 0

@@ -1,6 +1,6 @@
 -- What a source and a receiver read of the parts of a scene. Beside it they read only what holds of the whole scene.
 -- Parts stand in it by their values, none by its name or its place in a list: so an edit elsewhere leaves it as it is.
-use Rattle.std.specs.Prelude.{List, [], map, slice_index_or}
+use Rattle.std.specs.Prelude.{Bool, false, List, [], map, slice_index_or}
 use Rattle.scene_geom.specs.declared.band.Band.{Band}
 use Rattle.scene_geom.specs.Bands.{all_bands, place_of}
 use Rattle.scene_parts.specs.Views.{Source, Receiver, Obstacle, Zone}
@@ -10,8 +10,10 @@ use Rattle.path_shape.specs.declared.path.Path.{Path}
 use Rattle.path_shape.specs.declared.edge.Edge.{Edge}
 use Rattle.sight_cut.specs.declared.ends.Ends.{Ends}
 use Rattle.sight_cut.specs.Cuts.{edges_in}
-use Rattle.term_ground.specs.Zones.{met_zones}
+use Rattle.path_calc.specs.GroundZones.{zones_on}
 use Rattle.path_calc.specs.LateralPaths.{LateralPath, lateral_paths_round}
+use Rattle.path_calc.specs.ReflectedPaths.{ReflectedPath, reflected_paths}
+use Rattle.path_calc.specs.ScreeningSets.{renewals}
 
 pub record Surroundings : Type 0 where
   -- the zones of ground that the direct path meets
@@ -20,6 +22,10 @@ pub record Surroundings : Type 0 where
   pub edges : List (List Edge)
   -- for each band the paths round the sides of the obstacles that screen in it
   pub laterals : List (List LateralPath)
+  -- for each band whether other obstacles screen in it than in the band before
+  pub renewed : List Bool
+  -- the paths by way of reflecting walls
+  pub reflected : List ReflectedPath
 
 -- the direct path from a source to a receiver, and the ends of the line of sight between them
 abbrev pub path_of : Source → Receiver → Path
@@ -27,14 +33,6 @@ path_of s r = direct_path s.at s.h r.at r.h
 
 abbrev pub ends_of : Source → Receiver → Ends
 ends_of s r = record { s = s.at; hs = s.h; r = r.at; hr = r.h }
-
--- a zone by its corners and its ground factor, whatever its name
-abbrev pub unnamed : Zone → Zone
-unnamed zone = record { name = []; points = zone.points; g = zone.g }
-
--- the zones of ground that a path meets
-abbrev pub zones_on : Path → List Zone → List Zone
-zones_on path zones = map unnamed (met_zones path zones)
 
 -- the edges on a line of sight in each band (ISO 9613-2, 7.4), in the order of obstacles and sides
 abbrev pub edges_on : Ends → List Obstacle → List (List Edge)
@@ -48,10 +46,16 @@ edges_at band around = slice_index_or around.edges (place_of band) []
 abbrev pub laterals_at : Band → Surroundings → List LateralPath
 laterals_at band around = slice_index_or around.laterals (place_of band) []
 
+-- whether other obstacles screen in a band than in the band before
+abbrev pub renewed_at : Band → Surroundings → Bool
+renewed_at band around = slice_index_or around.renewed (place_of band) false
+
 -- what a source and a receiver read of the parts of a scene
 abbrev pub surroundings_of : Book → Source → Receiver → Surroundings
 surroundings_of book s r = record {
   zones = zones_on (path_of s r) book.zones;
   edges = edges_on (ends_of s r) book.obstacles;
   laterals = lateral_paths_round (ends_of s r) book.obstacles;
+  renewed = renewals (ends_of s r) book.obstacles;
+  reflected = reflected_paths book.obstacles book.zones (ends_of s r);
 }

@@ -2,18 +2,21 @@
 ghost use Rattle.std.specs.Prelude.{◌≡◌, ◌<◌, ◌^◌, pos, ◌≤ℤ◌, ◌<ℤ◌, IsSomeAnd};
 ghost use Rattle.path_calc.specs.Bundles.{IsEnergy, energy_in};
 
+use crate::segments::Segs;
 use fix_interval::Iv;
 use scene_geom::{Band, Pt};
 use scene_parts::Name;
 use std::marker::Model;
 
-/// All that a receiver has from one source: the name, the place and the height in mm of the source, the energy in
-/// each octave band, and the A-weighted long-term energy over all bands (ISO 9613-2, equation 5), both as ratios.
+/// All that a receiver has from one source: the name, the place and the height in mm of the source, the plan segments along
+/// which parts of the scene were read, the energy in each octave band, and the A-weighted long-term energy over all bands
+/// (ISO 9613-2, equation 5), both as ratios.
 #[derive(Clone, Drop)]
 pub struct Bundle {
     pub source: Name,
     pub at: Pt,
     pub h: u32,
+    pub segs: Segs,
     pub energy: [Iv; 8],
     pub long: Iv,
 }
@@ -27,6 +30,7 @@ impl Model for Bundle {
       source = b.source;
       at = b.at;
       h = b.h;
+      segs = b.segs;
       energy = b.energy;
       long = b.long;
     } };
@@ -35,6 +39,7 @@ impl Model for Bundle {
       source = b.source;
       at = b.at;
       h = b.h;
+      segs = b.segs;
       energy = b.energy;
       long = b.long;
     }) };

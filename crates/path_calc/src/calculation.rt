@@ -6,6 +6,7 @@ ghost use Rattle.path_calc.specs.Prepared.{prepared_of};
 use crate::bundles::Bundle;
 use crate::energies::path_energies;
 use crate::prepared::{PreparedReceiver, PreparedSource};
+use crate::segments::Segs;
 use crate::steps::Steps;
 use scene_book::Scene;
 use scene_parts::{Name, NoMemory, PointSource, Receiver};
@@ -46,11 +47,13 @@ pub fn bundle_between<L: Ledger>(
 {
     steps.tick();
     let name = Name::from_vec(source.name.items().to_vec(alloc)?);
-    let energies = path_energies(alloc, scene, source, from, receiver, to)?;
+    let mut segs = Segs::new(alloc);
+    let energies = path_energies(alloc, scene, source, from, receiver, to, &mut segs)?;
     Ok(Bundle {
         source: name,
         at: source.at,
         h: source.h,
+        segs,
         energy: energies.bands,
         long: energies.long,
     })

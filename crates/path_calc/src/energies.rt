@@ -1,16 +1,18 @@
 //! The energies that a receiver has from a source.
-ghost use Rattle.std.specs.Prelude.{◌≡◌, map, All, IfOk};
+ghost use Rattle.std.specs.Prelude.{◌≡◌, ◌*◌, ◌++◌, map, All, IfOk, OnOk};
 ghost use Rattle.fix_interval.specs.Tree.{Known, enc};
 ghost use Rattle.scene_geom.specs.Bands.{all_bands};
 ghost use Rattle.path_calc.specs.Energies.{sum_form};
 ghost use Rattle.path_calc.specs.Bundles.{bundle_of};
+ghost use Rattle.path_calc.specs.Trace.{trace_of};
 ghost use Rattle.path_calc.specs.Prepared.{prepared_of};
-ghost use Rattle.path_calc.specs.Ranges.{IsPropagation, IsSumOf};
+ghost use Rattle.path_calc.specs.Ranges.{AreInRange, IsSumOf, most_sounds};
 ghost use Rattle.path_calc.specs.Hearing.{energy_after, long_energy_after};
 
 use crate::hearing::{Heard, heard_in};
+use crate::paths::{Paths, paths_between};
 use crate::prepared::{PreparedReceiver, PreparedSource};
-use crate::propagation::{Propagation, direct};
+use crate::segments::Segs;
 use fix_interval::{Iv, add, exact};
 use scene_book::Scene;
 use scene_geom::Band;
@@ -24,7 +26,8 @@ pub(crate) struct Energies {
     pub(crate) long: Iv,
 }
 
-/// The energies that a receiver has from a source. What the bands share is calculated once.
+/// The energies that a receiver has from a source, whose trace is added to a trace. What the bands share is calculated
+/// once.
 pub(crate) fn path_energies(
     alloc: Global,
     scene: &Scene,
@@ -32,6 +35,7 @@ pub(crate) fn path_energies(
     from: &PreparedSource,
     receiver: &Receiver,
     to: &PreparedReceiver,
+    trace: &mut Segs,
 ) -> Result<Energies, NoMemory>
     requires source { from.now ≡ prepared_of source.now }
     requires receiver { to.now ≡ receiver.now.h }
@@ -39,36 +43,37 @@ pub(crate) fn path_energies(
         ≡ (bundle_of scene.now source.now receiver.now).energy) }
     ensures long { IfOk result (λ energies. energies.long
         ≡ (bundle_of scene.now source.now receiver.now).long) }
-    ensures bands_bounds { IfOk result (λ energies. All (IsSumOf 3) energies.bands) }
-    ensures long_bounds { IfOk result (λ energies. IsSumOf 24 energies.long) }
+    ensures trace { OnOk result (trace.new ≡ trace.old ++ trace_of scene.now source.now receiver.now) }
+    ensures bands_bounds { IfOk result (λ energies. All (IsSumOf most_sounds) energies.bands) }
+    ensures long_bounds { IfOk result (λ energies. IsSumOf (8 * most_sounds) energies.long) }
 {
-    let path = direct(alloc, scene, source, from, receiver, to)?;
-    let heard = heard(&path, from);
+    let paths = paths_between(alloc, scene, source, from, receiver, to, trace)?;
+    let heard = heard(&paths, from);
     Ok(Energies {
         bands: bands_of(&heard),
         long: long_sum(&heard),
     })
 }
 
-/// What is heard of a source at the end of a path, in each band.
-fn heard(propagation: &Propagation, source: &PreparedSource) -> [Heard; 8]
-    requires { IsPropagation propagation.now }
+/// What is heard of a source at the end of all paths, in each band.
+fn heard(paths: &Paths, source: &PreparedSource) -> [Heard; 8]
+    requires { AreInRange paths.now }
     ensures energies { map (λ h. h.energy) result
-        ≡ map (energy_after propagation.now source.now) all_bands }
+        ≡ map (energy_after paths.now source.now) all_bands }
     ensures longs { map (λ h. h.long) result
-        ≡ map (long_energy_after propagation.now source.now) all_bands }
-    ensures energy_bounds { All (λ h. IsSumOf 3 h.energy) result }
-    ensures long_bounds { All (λ h. IsSumOf 3 h.long) result }
+        ≡ map (long_energy_after paths.now source.now) all_bands }
+    ensures energy_bounds { All (λ h. IsSumOf most_sounds h.energy) result }
+    ensures long_bounds { All (λ h. IsSumOf most_sounds h.long) result }
 {
     [
-        heard_in(propagation, source, Band::Hz63),
-        heard_in(propagation, source, Band::Hz125),
-        heard_in(propagation, source, Band::Hz250),
-        heard_in(propagation, source, Band::Hz500),
-        heard_in(propagation, source, Band::Hz1000),
-        heard_in(propagation, source, Band::Hz2000),
-        heard_in(propagation, source, Band::Hz4000),
-        heard_in(propagation, source, Band::Hz8000),
+        heard_in(paths, source, Band::Hz63),
+        heard_in(paths, source, Band::Hz125),
+        heard_in(paths, source, Band::Hz250),
+        heard_in(paths, source, Band::Hz500),
+        heard_in(paths, source, Band::Hz1000),
+        heard_in(paths, source, Band::Hz2000),
+        heard_in(paths, source, Band::Hz4000),
+        heard_in(paths, source, Band::Hz8000),
     ]
 }
 
@@ -90,9 +95,9 @@ fn bands_of(heard: &[Heard; 8]) -> [Iv; 8]
 
 /// The sum of long-term energies.
 fn long_sum(bands: &[Heard; 8]) -> Iv
-    requires { All (λ h. IsSumOf 3 h.long) bands.now }
+    requires { All (λ h. IsSumOf most_sounds h.long) bands.now }
     ensures value { result ≡ enc (sum_form (map (λ h. Known h.long) bands.now)) }
-    ensures bounds { IsSumOf 24 result }
+    ensures bounds { IsSumOf (8 * most_sounds) result }
 {
     let mut sum = exact(0);
     for heard in bands {

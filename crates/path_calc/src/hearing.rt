@@ -1,24 +1,30 @@
 //! What a receiver hears at the end of a path, in one band.
-ghost use Rattle.std.specs.Prelude.{◌≡◌, ℕ, ◌+◌, ◌<◌, pos, Some, IfSome};
+ghost use Rattle.std.specs.Prelude.{◌≡◌, ℕ, ◌+◌, ◌<◌, ◌≤◌, length, map, pos, fold, true, Some, IfSome};
 ghost use Rattle.std.specs.Option.{option_map};
 ghost use Rattle.fix_interval.specs.Values.{add_of};
 ghost use Rattle.term_barrier.specs.Limits.{IsScreening};
-ghost use Rattle.fix_interval.specs.Tree.{Known, Const, enc};
+ghost use Rattle.fix_interval.specs.Tree.{Known, Const, Add, enc};
 ghost use Rattle.energy_sum.specs.Energies.{energy_form};
+ghost use Rattle.energy_sum.specs.Weather.{IsWeatherCorrection};
 ghost use Rattle.path_calc.specs.Weights.{weight_in};
-ghost use Rattle.path_calc.specs.Energies.{weighted};
-ghost use Rattle.path_calc.specs.Prepared.{IsEmission};
-ghost use Rattle.path_calc.specs.Ranges.{IsPropagation, IsUnscreened, IsAtReceiver, IsHearable, IsWeight, IsSumOf};
+ghost use Rattle.path_calc.specs.Prepared.{IsEmission, IsSent};
+ghost use Rattle.path_calc.specs.Ranges.{IsUnscreened, IsAtReceiver, IsHearable};
+ghost use Rattle.path_calc.specs.Propagations.{IsPropagation};
+ghost use Rattle.path_calc.specs.Ranges.{AreInRange, IsWeight, IsSumOf, most_sounds};
+ghost use Rattle.scene_book.specs.Limits.{most_sides};
 ghost use Rattle.path_calc.specs.Hearing.{energy_after, long_energy_after, sum_after, past, with_energy};
+ghost use Rattle.path_calc.specs.Hearing.{downwind_energy, long_term_energy, reflected_energy};
 ghost use Rattle.path_calc.specs.Hearing.{level_before as level_form};
 
 use crate::absorption::coefficient;
 use crate::numbers::tenths;
+use crate::paths::Paths;
 use crate::prepared::PreparedSource;
 use crate::propagation::Propagation;
+use crate::reflected::Reflected;
 use crate::weights::weight_of;
 use energy_sum::energy;
-use fix_interval::{Iv, add, exact, sub};
+use fix_interval::{Iv, add, exact, pick, sub};
 use scene_geom::Band;
 use term_div_atm::a_atm;
 
@@ -29,50 +35,91 @@ pub(crate) struct Heard {
     pub(crate) long: Iv,
 }
 
-/// What is heard of a source in a band, at the end of a path.
-pub(crate) fn heard_in(propagation: &Propagation, source: &PreparedSource, band: Band) -> Heard
-    requires { IsPropagation propagation.now }
-    ensures energy { result.energy ≡ energy_after propagation.now source.now band }
-    ensures long { result.long ≡ long_energy_after propagation.now source.now band }
-    ensures energy_bounds { IsSumOf 3 result.energy }
-    ensures long_bounds { IsSumOf 3 result.long }
+/// What is heard of a source in a band, at the end of all paths.
+pub(crate) fn heard_in(paths: &Paths, source: &PreparedSource, band: Band) -> Heard
+    requires { AreInRange paths.now }
+    ensures energy { result.energy ≡ energy_after paths.now source.now band }
+    ensures long { result.long ≡ long_energy_after paths.now source.now band }
+    ensures energy_bounds { IsSumOf most_sounds result.energy }
+    ensures long_bounds { IsSumOf most_sounds result.long }
 {
     match source.emission_in(band) {
-        Some(emission) => heard_of(propagation, band, emission),
+        Some(emission) => heard_of(paths, band, emission),
         None => silence(),
     }
 }
 
-/// What is heard of all sounds in a band: that over the top, and those round the left and the right.
-fn heard_of(propagation: &Propagation, band: Band, emission: Iv) -> Heard
-    requires propagation { IsPropagation propagation.now }
+/// What is heard of all sounds in a band: that over the top, those round the left and the right, and those that walls
+/// reflect.
+fn heard_of(paths: &Paths, band: Band, emission: Iv) -> Heard
+    requires paths { AreInRange paths.now }
     requires emission { IsEmission emission }
-    ensures energy { result.energy ≡ sum_after energy_form propagation.now band (Some emission) }
+    ensures energy { result.energy ≡ sum_after downwind_energy paths.now band (Some emission) }
     ensures long { result.long
-        ≡ sum_after (λ level. energy_form (weighted band level)) propagation.now band (Some emission) }
-    ensures energy_bounds { IsSumOf 3 result.energy }
-    ensures long_bounds { IsSumOf 3 result.long }
+        ≡ sum_after (long_term_energy band) paths.now band (Some emission) }
+    ensures energy_bounds { IsSumOf most_sounds result.energy }
+    ensures long_bounds { IsSumOf most_sounds result.long }
 {
-    let level = level_before(propagation, band, emission);
-    let lateral = propagation.lateral_in(band);
-    let over = heard_past(level, propagation.screening_in(band), band);
-    let left = with_lateral(over, level, lateral.left, band);
-    with_lateral(left, level, lateral.right, band)
+    let level = level_before(&paths.direct, band, emission);
+    let c_met = paths.direct.correction;
+    let lateral = paths.lateral_in(band);
+    let over = heard_past(level, paths.direct.screening_in(band), c_met, band);
+    let left = with_lateral(over, level, lateral.left, c_met, band);
+    let right = with_lateral(left, level, lateral.right, c_met, band);
+    with_reflected(right, paths.reflected.as_slice(), band, emission)
+}
+
+/// What is heard, and beside it what walls reflect of an emission.
+fn with_reflected(heard: Heard, reflected: &[Reflected], band: Band, emission: Iv) -> Heard
+    requires few { length reflected.now ≤ most_sides }
+    requires emission { IsEmission emission }
+    ensures energy { result.energy ≡ enc (fold Add (Known heard.energy)
+        (map (reflected_energy downwind_energy band emission) reflected.now)) }
+    ensures long { result.long ≡ enc (fold Add (Known heard.long)
+        (map (reflected_energy (long_term_energy band) band emission) reflected.now)) }
+    ensures energy_bounds { IsSumOf 3 heard.energy → IsSumOf most_sounds result.energy }
+    ensures long_bounds { IsSumOf 3 heard.long → IsSumOf most_sounds result.long }
+{
+    let mut all = heard;
+    for path in reflected {
+        all = both(all, heard_by_way(path, band, emission));
+    }
+    all
+}
+
+/// What is heard of an emission by way of a wall: nothing where the wall is too small, and where that isn't decided the
+/// interval of both cases.
+fn heard_by_way(reflected: &Reflected, band: Band, emission: Iv) -> Heard
+    requires { IsEmission emission }
+    ensures energy { result.energy ≡ enc (reflected_energy downwind_energy band emission reflected.now) }
+    ensures long { result.long ≡ enc (reflected_energy (long_term_energy band) band emission reflected.now) }
+    ensures energy_bounds { IsSumOf 1 result.energy }
+    ensures long_bounds { IsSumOf 1 result.long }
+{
+    let path = reflected.path();
+    let level = level_before(path, band, reflected.sends(emission));
+    let heard = heard_past(level, path.screening_in(band), path.correction, band);
+    let counts = reflected.counts_in(band);
+    Heard {
+        energy: pick(counts, heard.energy, exact(0)),
+        long: pick(counts, heard.long, exact(0)),
+    }
 }
 
 /// What is heard, and beside it the sound of a level that goes round a side, where it does.
-fn with_lateral(heard: Heard, level: Iv, screening: Option<Iv>, band: Band) -> Heard
+fn with_lateral(heard: Heard, level: Iv, screening: Option<Iv>, c_met: Iv, band: Band) -> Heard
     requires level { IsUnscreened level }
     requires screening { IfSome screening IsScreening }
+    requires weather { IsWeatherCorrection c_met }
     ensures energy { result.energy ≡ with_energy heard.energy
         (option_map (λ i. enc (energy_form (past level i))) screening) }
     ensures long { result.long ≡ with_energy heard.long
-        (option_map (λ i. enc (energy_form (weighted band (past level i)))) screening) }
+        (option_map (λ i. enc (long_term_energy band (Known c_met) (past level i))) screening) }
     ensures energy_bounds { (n : ℕ) → n < 8 → IsSumOf n heard.energy → IsSumOf (n + 1) result.energy }
     ensures long_bounds { (n : ℕ) → n < 8 → IsSumOf n heard.long → IsSumOf (n + 1) result.long }
 {
     match screening {
-        Some(screening) => both(heard, heard_past(level, screening, band)),
+        Some(screening) => both(heard, heard_past(level, screening, c_met, band)),
         None => heard,
     }
 }
@@ -91,7 +138,7 @@ fn both(a: Heard, b: Heard) -> Heard
 /// The level of what is emitted in a band, at the end of a path, before what screens it is taken off, in dB.
 fn level_before(propagation: &Propagation, band: Band, emission: Iv) -> Iv
     requires propagation { IsPropagation propagation.now }
-    requires emission { IsEmission emission }
+    requires emission { IsSent emission }
     ensures value { result ≡ enc (level_form propagation.now band emission) }
     ensures range { IsUnscreened result }
 {
@@ -100,28 +147,30 @@ fn level_before(propagation: &Propagation, band: Band, emission: Iv) -> Iv
     sub(in_the_open, propagation.ground_in(band))
 }
 
-/// The energies of a level in a band, past what screens it.
-fn heard_past(level: Iv, screening: Iv, band: Band) -> Heard
+/// The energies of a level in a band, past what screens it, where C_met is this.
+fn heard_past(level: Iv, screening: Iv, c_met: Iv, band: Band) -> Heard
     requires level { IsUnscreened level }
     requires screening { IsScreening screening }
+    requires weather { IsWeatherCorrection c_met }
     ensures energy { result.energy ≡ enc (energy_form (past level screening)) }
-    ensures long { result.long ≡ enc (energy_form (weighted band (past level screening))) }
+    ensures long { result.long ≡ enc (long_term_energy band (Known c_met) (past level screening)) }
     ensures energy_bounds { IsSumOf 1 result.energy }
     ensures long_bounds { IsSumOf 1 result.long }
 {
-    heard_at(sub(level, screening), band)
+    heard_at(sub(level, screening), c_met, band)
 }
 
-/// The energies of a level in a band.
-fn heard_at(level: Iv, band: Band) -> Heard
-    requires { IsAtReceiver level }
+/// The energies of a level in a band, where C_met is this.
+fn heard_at(level: Iv, c_met: Iv, band: Band) -> Heard
+    requires level { IsAtReceiver level }
+    requires weather { IsWeatherCorrection c_met }
     ensures energy { result.energy ≡ enc (energy_form (Known level)) }
-    ensures long { result.long ≡ enc (energy_form (weighted band (Known level))) }
+    ensures long { result.long ≡ enc (long_term_energy band (Known c_met) (Known level)) }
     ensures energy_bounds { IsSumOf 1 result.energy }
     ensures long_bounds { IsSumOf 1 result.long }
 {
     let energy = energy_at(level);
-    let long = long_energy_at(level, band, energy);
+    let long = long_energy_at(level, c_met, band, energy);
     Heard { energy, long }
 }
 
@@ -134,19 +183,27 @@ fn energy_at(level: Iv) -> Iv
     energy(level)
 }
 
-/// The energy of a level with the A-weight of its band: the energy without it, where that weight is 0.
-fn long_energy_at(level: Iv, band: Band, energy: Iv) -> Iv
+/// The energy of a level with the A-weight of its band and less C_met: the energy without them, where both are 0.
+fn long_energy_at(level: Iv, c_met: Iv, band: Band, energy: Iv) -> Iv
     requires level { IsAtReceiver level }
+    requires weather { IsWeatherCorrection c_met }
     requires energy { energy ≡ enc (energy_form (Known level)) }
     requires bounds { IsSumOf 1 energy }
-    ensures value { result ≡ enc (energy_form (weighted band (Known level))) }
+    ensures value { result ≡ enc (long_term_energy band (Known c_met) (Known level)) }
     ensures bounds { IsSumOf 1 result }
 {
-    if weight_of(band) == 0 {
+    if weight_of(band) == 0 && is_nothing(c_met) {
         energy
     } else {
-        energy_at(add(level, weight_in_decibels(band)))
+        energy_at(sub(add(level, weight_in_decibels(band)), c_met))
     }
+}
+
+/// Whether an interval is that of 0 alone.
+fn is_nothing(i: Iv) -> bool
+    ensures { result ≡ true → i ≡ enc (Const (pos 0) 1) }
+{
+    matches!((i.low(), i.high()), (Some(0), Some(0)))
 }
 
 /// The A-weight of a band in dB.
@@ -161,8 +218,8 @@ fn weight_in_decibels(band: Band) -> Iv
 fn silence() -> Heard
     ensures energy { result.energy ≡ enc (Const (pos 0) 1) }
     ensures long { result.long ≡ enc (Const (pos 0) 1) }
-    ensures energy_bounds { IsSumOf 3 result.energy }
-    ensures long_bounds { IsSumOf 3 result.long }
+    ensures energy_bounds { IsSumOf most_sounds result.energy }
+    ensures long_bounds { IsSumOf most_sounds result.long }
 {
     Heard {
         energy: exact(0),

@@ -1,10 +1,13 @@
 //! By how much sound is screened that goes round the sides of what screens (ISO 9613-2, 7.4, equation 13).
-ghost use Rattle.std.specs.Prelude.{◌≡◌, length, IfOk, OnOk};
+ghost use Rattle.std.specs.Prelude.{◌≡◌, ◌++◌, flat_map, length, IfOk, OnOk};
 ghost use Rattle.scene_parts.specs.Ranges.{IsHeight};
 ghost use Rattle.sight_cut.specs.Cuts.{crossings_of};
 ghost use Rattle.path_calc.specs.Ranges.{IsOnMap, IsLateralScreening, AreLateralScreenings};
-ghost use Rattle.path_calc.specs.Strings.{AreStretched, lateral_of, both_of, d_z_over};
+ghost use Rattle.scene_geom.specs.Bands.{all_bands};
+ghost use Rattle.path_calc.specs.Strings.{AreStretched, lateral_of, both_of, d_z_over, numbers_in};
+ghost use Rattle.path_calc.specs.Tracing.{segments_after, segments_in_band};
 
+use crate::segments::Segs;
 use crate::strings::Strings;
 use fix_interval::Iv;
 use scene_geom::Band;
@@ -62,31 +65,43 @@ struct Sight<'a> {
 }
 
 impl<'a> Sight<'a> {
-    /// D_z round the sides in a band, with the strings of another band.
-    fn d_z_in(&self, strings: &mut Strings, band: Band) -> Result<LateralScreening, NoMemory>
+    /// D_z round the sides in a band, with the strings of another band. Where others are stretched, their segments are
+    /// added to the trace.
+    fn d_z_in(
+        &self,
+        strings: &mut Strings,
+        band: Band,
+        trace: &mut Segs,
+    ) -> Result<LateralScreening, NoMemory>
         requires source_height { IsHeight self.now.ends.hs }
         requires receiver_height { IsHeight self.now.ends.hr }
         requires distance { IsOnMap self.now.d }
         requires strings { AreStretched strings.old self.now.ends self.now.obstacles.now }
         requires crossings { self.now.crossings.now ≡ crossings_of self.now.ends self.now.obstacles.now }
         ensures strings { OnOk result (AreStretched strings.new self.now.ends self.now.obstacles.now) }
+        ensures numbers { OnOk result
+            (strings.new.numbers.items ≡ numbers_in band (crossings_of self.now.ends self.now.obstacles.now)) }
+        ensures trace { OnOk result (trace.new ≡ trace.old
+            ++ segments_after strings.old.numbers.items self.now.ends self.now.obstacles.now band) }
         ensures value { IfOk result (λ lateral. both_of lateral
             ≡ d_z_over self.now.ends self.now.obstacles.now self.now.d band) }
         ensures bounds { IfOk result IsLateralScreening }
     {
-        strings.turn_to(self.alloc, self.obstacles, self.ends, self.crossings, band)?;
+        let (alloc, obstacles, ends) = (self.alloc, self.obstacles, self.ends);
+        strings.turn_to(alloc, obstacles, ends, self.crossings, band, trace)?;
         Ok(strings.d_z(self.ends, self.d, band))
     }
 }
 
 /// D_z round the sides in each band, of the obstacles that screen there, where source and receiver are `d` apart in
-/// metres. Bands in which the same obstacles screen share their strings.
+/// metres. Bands in which the same obstacles screen share their strings. The segments of all strings are added to the trace.
 pub(crate) fn lateral_screening(
     alloc: Global,
     obstacles: &[Obstacle],
     ends: Ends,
     crossings: &[Crossing],
     d: Iv,
+    trace: &mut Segs,
 ) -> Result<LateralBands, NoMemory>
     requires source_height { IsHeight ends.hs }
     requires receiver_height { IsHeight ends.hr }
@@ -95,6 +110,8 @@ pub(crate) fn lateral_screening(
     ensures value { IfOk result (λ lateral. (band : Band)
         → both_of (lateral_of lateral.left lateral.right band) ≡ d_z_over ends obstacles.now d band) }
     ensures bounds { IfOk result AreLateralScreenings }
+    ensures trace { OnOk result (trace.new ≡ trace.old
+        ++ flat_map (segments_in_band ends obstacles.now) all_bands) }
 {
     let sight = Sight {
         alloc,
@@ -104,14 +121,14 @@ pub(crate) fn lateral_screening(
         d,
     };
     let mut strings = Strings::none(alloc);
-    let at_63 = sight.d_z_in(&mut strings, Band::Hz63)?;
-    let at_125 = sight.d_z_in(&mut strings, Band::Hz125)?;
-    let at_250 = sight.d_z_in(&mut strings, Band::Hz250)?;
-    let at_500 = sight.d_z_in(&mut strings, Band::Hz500)?;
-    let at_1000 = sight.d_z_in(&mut strings, Band::Hz1000)?;
-    let at_2000 = sight.d_z_in(&mut strings, Band::Hz2000)?;
-    let at_4000 = sight.d_z_in(&mut strings, Band::Hz4000)?;
-    let at_8000 = sight.d_z_in(&mut strings, Band::Hz8000)?;
+    let at_63 = sight.d_z_in(&mut strings, Band::Hz63, trace)?;
+    let at_125 = sight.d_z_in(&mut strings, Band::Hz125, trace)?;
+    let at_250 = sight.d_z_in(&mut strings, Band::Hz250, trace)?;
+    let at_500 = sight.d_z_in(&mut strings, Band::Hz500, trace)?;
+    let at_1000 = sight.d_z_in(&mut strings, Band::Hz1000, trace)?;
+    let at_2000 = sight.d_z_in(&mut strings, Band::Hz2000, trace)?;
+    let at_4000 = sight.d_z_in(&mut strings, Band::Hz4000, trace)?;
+    let at_8000 = sight.d_z_in(&mut strings, Band::Hz8000, trace)?;
     Ok(LateralBands {
         left: [
             at_63.left,

@@ -4,7 +4,7 @@ ghost use Rattle.scene_book.specs.Book.{Book};
 ghost use Rattle.scene_geom.specs.declared.band.Band.{Band};
 ghost use Rattle.scene_parts.specs.Views.{Source, Receiver};
 ghost use Rattle.path_calc.specs.Laws.{BandsAreEnclosed, LongIsEnclosed, LevelsAreEnclosed};
-ghost use Rattle.path_calc.specs.Laws.{SameBetween, EdgesAreCuts};
+ghost use Rattle.path_calc.specs.Laws.{SameBetween, EdgesAreCuts, ReflectedEdgesAreCuts};
 
 use energy_sum::every_formula_is_enclosed;
 use term_barrier::laws::screening_is_sound;
@@ -19,7 +19,8 @@ pub fn energies_are_enclosed()
 }
 
 /// Each level that the map shows of a receiver is the interval of one whole formula, of all sounds of all
-/// sources within reach (ISO 9613-2, equations 3 to 6), and encloses it, node by node.
+/// sources within reach, those that walls reflect among them (ISO 9613-2, equations 3 to 6 and 20), and encloses it, node
+/// by node.
 pub fn levels_are_enclosed()
     ensures { (book : Book) (r : Receiver) → LevelsAreEnclosed book r }
 {
@@ -37,4 +38,9 @@ pub fn same_between()
 /// same order, and tell whether an obstacle screens.
 pub fn edges_are_cuts()
     ensures { (book : Book) (s : Source) (r : Receiver) (band : Band) → EdgesAreCuts book s r band }
+{}
+
+/// The edges that are read on the legs of a reflected path in a band are those of its leg cuts there, in the same order.
+pub fn reflected_edges_are_cuts()
+    ensures { ReflectedEdgesAreCuts }
 {}

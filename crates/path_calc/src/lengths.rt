@@ -1,15 +1,16 @@
 //! Distances between a source and a receiver.
-ghost use Rattle.std.specs.Prelude.{◌≡◌, ◌≤◌, ◌<◌, ◌^◌, ◌*◌, ◌-ℤ◌, unsigned_abs};
+ghost use Rattle.std.specs.Prelude.{◌≡◌, ◌≤◌, ◌<◌, ◌^◌, ◌*◌, ◌-ℤ◌, pos, unsigned_abs};
 ghost use Rattle.scene_geom.specs.Plan.{InPlan};
 ghost use Rattle.scene_parts.specs.Ranges.{IsHeight};
-ghost use Rattle.fix_interval.specs.Tree.{enc};
+ghost use Rattle.std.specs.Int.{abs_diff};
+ghost use Rattle.fix_interval.specs.Tree.{Const, enc};
 ghost use Rattle.path_shape.specs.Shape as shape;
 ghost use Rattle.path_calc.specs.Lengths as lengths;
 ghost use Rattle.term_barrier.specs.Limits.{IsDistance};
-ghost use Rattle.path_calc.specs.Ranges.{IsOnMap};
+ghost use Rattle.path_calc.specs.Ranges.{IsOnMap, IsReflectedSquare};
 
-use fix_interval::{Iv, ratio, root};
-use scene_geom::Pt;
+use fix_interval::{Iv, add, ratio, root};
+use scene_geom::{Frac, Pt};
 
 #[tactic(auto, unfolding(path_shape::specs::Shape::squared))]
 fn square(mm: u32) -> u64
@@ -66,6 +67,36 @@ pub(crate) fn distance(s: Pt, hs: u32, r: Pt, hr: u32) -> Iv
     ensures near { IsOnMap result }
 {
     root_of_square(s, hs, r, hr)
+}
+
+/// The distance d in metres along a path by way of a wall, of the square of its plan length in mm² and the heights at its
+/// ends in mm, at most 2^28 m.
+pub(crate) fn reflected_distance(plan2: Frac, hs: u32, hr: u32) -> Iv
+    requires source_height { IsHeight hs }
+    requires receiver_height { IsHeight hr }
+    requires plan { IsReflectedSquare plan2 }
+    ensures value { result ≡ enc (lengths.reflected_distance plan2 hs hr) }
+    ensures bounds { IsDistance result }
+{
+    root(add(square_in_metres(plan2), rise_square(hs, hr)))
+}
+
+/// A square of so many mm², in m².
+fn square_in_metres(plan2: Frac) -> Iv
+    requires { unsigned_abs plan2.d ≤ 68718952449 }
+    ensures { result ≡ enc (Const plan2.n (unsigned_abs plan2.d * 1000000)) }
+{
+    ratio(plan2.n, plan2.d * 1_000_000)
+}
+
+/// The square of the difference of two heights in mm, in m².
+fn rise_square(hs: u32, hr: u32) -> Iv
+    requires source_height { IsHeight hs }
+    requires receiver_height { IsHeight hr }
+    ensures value { result ≡ enc (Const (pos (shape.squared (abs_diff hs hr))) 1000000) }
+    ensures small { shape.squared (abs_diff hs hr) < 2 ^ 48 }
+{
+    ratio(square(hs.abs_diff(hr)) as i128, 1_000_000)
 }
 
 /// Whether two points are within reach of each other: not farther apart in plan than this many mm.

@@ -1,27 +1,37 @@
 //! What all bands share of a path.
-ghost use Rattle.std.specs.Prelude.{◌≡◌, IfOk};
-ghost use Rattle.path_calc.specs.Hearing.{IsDirect, ground_at, screening_at, lateral_at};
-ghost use Rattle.path_calc.specs.Ranges.{IsPropagation, IsLateralScreening};
-ghost use Rattle.path_calc.specs.Strings.{both_of};
-ghost use Rattle.term_barrier.specs.Limits.{IsGroundEffect, IsScreening};
+ghost use Rattle.std.specs.Prelude.{◌≡◌, All, IfOk};
+ghost use Rattle.path_shape.specs.Shape.{IsPath};
+ghost use Rattle.scene_parts.specs.Ranges.{IsHeight};
+ghost use Rattle.path_calc.specs.Hearing.{propagation_along, ground_at, screening_at};
+ghost use Rattle.path_calc.specs.Propagations.{IsPropagation};
+ghost use Rattle.term_barrier.specs.Edges.{FitsEdge};
+ghost use Rattle.term_barrier.specs.Limits.{IsDistance, IsGroundEffect, IsScreening};
 
-use crate::lateral::{LateralScreening, lateral_screening};
-use crate::lengths::distance;
 use crate::prepared::{PreparedReceiver, PreparedSource};
 use crate::screening::over_top;
+use energy_sum::c_met;
 use fix_interval::Iv;
 use path_shape::Path;
 use scene_book::Scene;
 use scene_geom::Band;
-use scene_parts::{Air, NoMemory, PointSource, Receiver};
-use sight_cut::{Ends, crossings};
+use scene_parts::{Air, NoMemory};
+use sight_cut::{Crossing, Ends};
 use std::alloc::Global;
 use term_div_atm::a_div;
 use term_ground::a_gr_between;
 
-/// What the bands share of a path: the air, the distance in metres, the divergence there in dB, and beside it the
-/// attenuations by the ground, by screening over the top and, where sound goes there, by screening round the left and the
-/// right in each band in dB.
+/// What all paths from a source to a receiver share: the scene, both ends, and what is prepared of them.
+#[derive(Clone, Copy, Drop)]
+pub(crate) struct Between<'a> {
+    pub(crate) alloc: Global,
+    pub(crate) scene: &'a Scene,
+    pub(crate) ends: Ends,
+    pub(crate) from: &'a PreparedSource,
+    pub(crate) to: &'a PreparedReceiver,
+}
+
+/// What the bands share of a path: the air, the distance in metres, the divergence there in dB, beside it the
+/// attenuations by the ground and by screening over the top in each band in dB, and C_met in dB.
 #[derive(Drop)]
 pub(crate) struct Propagation {
     pub(crate) air: Air,
@@ -29,47 +39,41 @@ pub(crate) struct Propagation {
     pub(crate) divergence: Iv,
     pub(crate) ground: [Iv; 8],
     pub(crate) screening: [Iv; 8],
-    pub(crate) left: [Option<Iv>; 8],
-    pub(crate) right: [Option<Iv>; 8],
+    pub(crate) correction: Iv,
 }
 
-/// The direct path from a source to a receiver. One search finds the edges of all bands on it.
-pub(crate) fn direct(
-    alloc: Global,
-    scene: &Scene,
-    source: &PointSource,
-    from: &PreparedSource,
-    receiver: &Receiver,
-    to: &PreparedReceiver,
-) -> Result<Propagation, NoMemory>
-    requires source { from.now.h ≡ source.now.h }
-    requires receiver { to.now ≡ receiver.now.h }
-    ensures value { IfOk result (λ path. IsDirect path scene.now source.now receiver.now) }
-    ensures range { IfOk result IsPropagation }
-{
-    let globals = scene.globals();
-    let path = Path::direct(source.at, source.h, receiver.at, receiver.h);
-    let distance = distance(source.at, source.h, receiver.at, receiver.h);
-    let ground = a_gr_between(scene.zones(), globals.g, &path, from.decays(), to.decays());
-    let ends = Ends {
-        s: source.at,
-        hs: source.h,
-        r: receiver.at,
-        hr: receiver.h,
-    };
-    let obstacles = scene.obstacles();
-    let crossings = crossings(alloc, obstacles, ends)?;
-    let screening = over_top(alloc, crossings.as_slice(), &path, distance, &ground)?;
-    let lateral = lateral_screening(alloc, obstacles, ends, crossings.as_slice(), distance)?;
-    Ok(Propagation {
-        air: globals.air,
-        distance,
-        divergence: a_div(distance),
-        ground,
-        screening,
-        left: lateral.lefts(),
-        right: lateral.rights(),
-    })
+impl<'a> Between<'a> {
+    /// The quantities of a path over a distance in metres, where these sides cross it.
+    pub(crate) fn along(
+        &self,
+        path: &Path,
+        distance: Iv,
+        crossings: &[Crossing],
+    ) -> Result<Propagation, NoMemory>
+        requires path { IsPath path.now }
+        requires source { self.now.from.now.h ≡ path.now.hs }
+        requires receiver { self.now.to.now ≡ path.now.hr }
+        requires source_height { IsHeight path.now.hs }
+        requires receiver_height { IsHeight path.now.hr }
+        requires distance { IsDistance distance }
+        requires edges { All (λ crossing. FitsEdge crossing.edge) crossings.now }
+        ensures value { IfOk result (λ found. let book = self.now.scene.now in found
+            ≡ propagation_along book.globals book.zones path.now distance crossings.now) }
+        ensures range { IfOk result IsPropagation }
+    {
+        let globals = self.scene.globals();
+        let (source, receiver) = (self.from.decays(), self.to.decays());
+        let ground = a_gr_between(self.scene.zones(), globals.g, path, source, receiver);
+        let screening = over_top(self.alloc, crossings, path, distance, &ground)?;
+        Ok(Propagation {
+            air: globals.air,
+            distance,
+            divergence: a_div(distance),
+            ground,
+            screening,
+            correction: c_met(path.dp, path.hs, path.hr, globals.c0),
+        })
+    }
 }
 
 impl Propagation {
@@ -89,17 +93,5 @@ impl Propagation {
         ensures bounds { IsScreening result }
     {
         self.screening[band.place()]
-    }
-
-    /// The attenuation by screening round the sides in a band.
-    pub(crate) fn lateral_in(&self, band: Band) -> LateralScreening
-        requires { IsPropagation self.now }
-        ensures value { both_of result ≡ lateral_at self.now band }
-        ensures bounds { IsLateralScreening result }
-    {
-        LateralScreening {
-            left: self.left[band.place()],
-            right: self.right[band.place()],
-        }
     }
 }

@@ -1,5 +1,6 @@
 //! Strings that are stretched round the sides of what screens (ISO 9613-2, 7.4, equation 13).
-ghost use Rattle.std.specs.Prelude.{◌≡◌, [], List, IfOk, OnOk, IfSome};
+ghost use Rattle.std.specs.Prelude.{◌≡◌, [], ◌++◌, List, IfOk, OnOk, IfSome};
+ghost use Rattle.std.specs.Bool.{OnTrue};
 ghost use Rattle.std.specs.List.{list_any};
 ghost use Rattle.scene_parts.specs.Ranges.{IsHeight};
 ghost use Rattle.scene_parts.specs.Views.{Obstacle as ObstacleView};
@@ -9,10 +10,13 @@ ghost use Rattle.term_barrier.specs.Limits.{IsScreening};
 ghost use Rattle.path_calc.specs.LateralPaths.{is_in_the_way};
 ghost use Rattle.path_calc.specs.Ranges.{IsOnMap, IsShort, IsLateralScreening};
 ghost use Rattle.path_calc.specs.Strings.{numbers_in as numbers_of, IsStretched, AreStretched};
+ghost use Rattle.path_calc.specs.Trace.{string_segments};
+ghost use Rattle.path_calc.specs.Tracing.{same_numbers, segments_between};
 ghost use Rattle.path_calc.specs.Strings.{is_within, leads_along, d_z_round, lateral_in};
 
 use crate::lateral::LateralScreening;
 use crate::screening_obstacles::{corners_at, numbers_in};
+use crate::segments::{Seg, Segs};
 use edge_chain::{Hand, chain, is_blocked};
 use fix_interval::Iv;
 use scene_geom::{Band, Pt};
@@ -40,7 +44,9 @@ pub(crate) struct Stretched {
 impl Strings {
     /// The strings round no obstacle.
     pub(crate) fn none(alloc: Global) -> Strings
-        ensures { (ends : Ends) (obstacles : List ObstacleView) → AreStretched result ends obstacles }
+        ensures numbers { result.numbers.items ≡ [] }
+        ensures stretched { (ends : Ends) (obstacles : List ObstacleView)
+            → AreStretched result ends obstacles }
     {
         Strings {
             numbers: Vec::new(alloc),
@@ -69,7 +75,8 @@ impl Strings {
         })
     }
 
-    /// The strings in another band, with these crossings: they stay where the same obstacles screen there.
+    /// The strings in another band, with these crossings: they stay where the same obstacles screen there. Else others are
+    /// stretched, and their segments are added to the trace.
     pub(crate) fn turn_to(
         &mut self,
         alloc: Global,
@@ -77,14 +84,19 @@ impl Strings {
         ends: Ends,
         crossings: &[Crossing],
         band: Band,
+        trace: &mut Segs,
     ) -> Result<(), NoMemory>
         requires { AreStretched self.old ends obstacles.now }
         ensures numbers { OnOk result (self.new.numbers.items ≡ numbers_of band crossings.now) }
         ensures stretched { OnOk result (AreStretched self.new ends obstacles.now) }
+        ensures trace { OnOk result (trace.new ≡ trace.old
+            ++ segments_between ends self.old.numbers.items self.new) }
     {
         let numbers = numbers_in(alloc, crossings, band)?;
-        if numbers.as_slice() != self.numbers.as_slice() {
+        if !are_same(numbers.as_slice(), self.numbers.as_slice()) {
             *self = Strings::round(alloc, obstacles, ends, numbers)?;
+            self.left.add_to(trace, ends)?;
+            self.right.add_to(trace, ends)?;
         }
         Ok(())
     }
@@ -136,6 +148,22 @@ impl Stretched {
         Ok(Stretched { corners, blocking })
     }
 
+    /// Adds the segments of the string to a trace, of which a string without corners has none.
+    fn add_to(&self, trace: &mut Segs, ends: Ends) -> Result<(), NoMemory>
+        ensures { OnOk result (trace.new ≡ trace.old ++ string_segments ends self.now.corners.items) }
+    {
+        if self.corners.is_empty() {
+            return Ok(());
+        }
+        let mut from = ends.s;
+        for corner in self.corners.as_slice() {
+            trace.push(Seg::Straight(from, *corner))?;
+            from = *corner;
+        }
+        trace.push(Seg::Straight(from, ends.r))?;
+        Ok(())
+    }
+
     /// D_z in dB along the string in a band, where sound goes along it, over a distance `d` of source and receiver in
     /// metres.
     pub(crate) fn d_z(&self, ends: Ends, d: Iv, band: Band) -> Option<Iv>
@@ -152,6 +180,14 @@ impl Stretched {
         let corners = self.corners.as_slice();
         Some(d_z_side(ends.s, ends.hs, ends.r, ends.hr, corners, d, band))
     }
+}
+
+/// Whether two lists of numbers are the same.
+fn are_same(a: &[u32], b: &[u32]) -> bool
+    ensures value { result ≡ same_numbers a.now b.now }
+    ensures same { OnTrue result (a.now ≡ b.now) }
+{
+    a == b
 }
 
 /// How broad those obstacles are of which a side crosses a segment of the string that turns at these corners.

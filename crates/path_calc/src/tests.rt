@@ -99,23 +99,32 @@ fn yard(alloc: Global) -> Option<Part> {
     )
 }
 
-/// A barrier across the way from the fan to the receiver, by two sides, which is too small at 63 Hz.
-fn wall(alloc: Global) -> Option<Part> {
-    let points = corners(
-        alloc,
-        &[(40_000, 10_500), (41_000, 14_500), (42_000, 10_500)],
-    )?;
-    let name = PlainName::from_vec(b"wall".to_vec(alloc).ok()?);
+/// A barrier of a height in mm, which reflects so much per mille.
+fn barrier(
+    alloc: Global,
+    name: PlainName,
+    places: &[(i64, i64)],
+    h: i64,
+    rho: i64,
+) -> Option<Part> {
+    let points = corners(alloc, places)?;
     part(
         alloc,
         RawPart::Barrier {
             name,
             points,
-            h: 5000,
+            h,
             density: 20,
-            rho: 0,
+            rho,
         },
     )
+}
+
+/// A barrier across the way from the fan to the receiver, by two sides, which is too small at 63 Hz.
+fn wall(alloc: Global) -> Option<Part> {
+    let places = [(40_000, 10_500), (41_000, 14_500), (42_000, 10_500)];
+    let name = PlainName::from_vec(b"wall".to_vec(alloc).ok()?);
+    barrier(alloc, name, &places, 5000, 0)
 }
 
 /// A scene with this air, and a zone of ground.
@@ -175,6 +184,22 @@ fn walled(alloc: Global) -> Option<Scene> {
 /// The bundle of the fan behind the barrier.
 fn fan_behind(alloc: Global) -> Option<Bundle> {
     let scene = walled(alloc)?;
+    let fan = fan(alloc)?;
+    let receiver = receiver(alloc)?;
+    path(alloc, &scene, &fan, &receiver)
+}
+
+/// The bundle of the fan beside a wall that reflects and is large enough from 1000 Hz on, with a barrier before it.
+fn fan_beside(alloc: Global) -> Option<Bundle> {
+    let mut scene = scene(alloc, Air::Celsius10Humidity70)?;
+    let name = PlainName::from_vec(b"front".to_vec(alloc).ok()?);
+    let places = [(20_000, 60_000), (90_000, 62_000)];
+    let front = barrier(alloc, name, &places, 7000, 700)?;
+    scene.apply(alloc, &Edit::Put(front)).ok()?;
+    let name = PlainName::from_vec(b"low".to_vec(alloc).ok()?);
+    let places = [(30_000, 40_000), (40_000, 42_000)];
+    let low = barrier(alloc, name, &places, 5000, 0)?;
+    scene.apply(alloc, &Edit::Put(low)).ok()?;
     let fan = fan(alloc)?;
     let receiver = receiver(alloc)?;
     path(alloc, &scene, &fan, &receiver)
@@ -260,6 +285,34 @@ fn energies_behind_a_barrier(rt: HostRuntime) -> Result<(), Fail> {
         &rt,
         bundle.long_energy(),
         (231362228724638, 231362267539394),
+    );
+    Ok(())
+}
+
+/// The ends of the energies in each band beside a wall.
+const BESIDE: [(i128, i128); 8] = [
+    (139420746404597, 139420746628834),
+    (116476476314997, 116476476752109),
+    (121017592787432, 121017593436223),
+    (317100560724710, 317100561914722),
+    (364917308165819, 364917309452253),
+    (126800999664199, 126801000042095),
+    (17480918854935, 17480918899358),
+    (0, 0),
+];
+
+#[test]
+fn energies_by_way_of_a_wall(rt: HostRuntime) -> Result<(), Fail> {
+    let Some(bundle) = fan_beside(rt.alloc()) else {
+        return Err("no memory".into());
+    };
+    for band in Band::all() {
+        has_ends(&rt, bundle.energy_in(band), BESIDE[band.place()]);
+    }
+    has_ends(
+        &rt,
+        bundle.long_energy(),
+        (725753307672187, 725753310127432),
     );
     Ok(())
 }

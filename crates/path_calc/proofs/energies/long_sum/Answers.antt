@@ -15,11 +15,11 @@ loop-heard-preserved c =
     let xs = c.args.bands.now in
     let h = c.heard-item.result in
     let below : i < length xs = omega arith in
-    let long = subst (λ (x : Heard). IsSumOf 3 x.long) (sym c.heard-item.is) (c.requires i h below) in
+    let long = subst (λ (x : Heard). IsSumOf 16387 x.long) (sym c.heard-item.is) (c.requires i h below) in
     let next = c.add-sum.ensures ∙ ap (λ (x : Heard). add_of c.loop-heard.sum x.long) (sym c.heard-item.is) in
     record {
       value = next-sum (λ (x : Heard). x.long) xs i h c.loop-heard.sum c.add-sum.result h.long below c.heard-item.is c.loop-heard.invariant.value refl next;
-      bounds = subst (IsSumOf ((i + 1) * 3)) (sym next) (subst (λ (n : ℕ). IsSumOf n (add_of c.loop-heard.sum h.long)) (omega arith) (sums-added c.loop-heard.sum h.long (i * 3) 3 (omega arith) c.loop-heard.invariant.bounds long));
+      bounds = subst (IsSumOf ((i + 1) * 16387)) (sym next) (subst (λ (n : ℕ). IsSumOf n (add_of c.loop-heard.sum h.long)) (omega arith) (sums-added c.loop-heard.sum h.long (i * 16387) 16387 (omega arith) c.loop-heard.invariant.bounds long));
     }
 
 pub returns-clause-value : goal.returns-clause-value
@@ -30,4 +30,4 @@ returns-clause-value c =
 pub returns-clause-bounds : goal.returns-clause-bounds
 returns-clause-bounds c =
     let all : c.loop-heard.heard-index ≡ 8 = omega arith in
-    subst (λ (n : ℕ). IsSumOf (n * 3) c.loop-heard.sum) all c.loop-heard.invariant.bounds
+    subst (λ (n : ℕ). IsSumOf (n * 16387) c.loop-heard.sum) all c.loop-heard.invariant.bounds

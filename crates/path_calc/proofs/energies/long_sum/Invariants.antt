@@ -8,5 +8,5 @@ use Rattle.path_calc.proofs.energies.long_sum.Given as goal
 abbrev pub invariant-loop-heard : goal.invariant-loop-heard
 invariant-loop-heard l = record {
   value : l.sum ≡ summed (λ (h : Heard). h.long) (take l.heard-index l.bands);
-  bounds : IsSumOf (l.heard-index * 3) l.sum;
+  bounds : IsSumOf (l.heard-index * 16387) l.sum;
 }

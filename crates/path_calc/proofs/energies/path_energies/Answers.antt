@@ -15,7 +15,7 @@ use Rattle.path_calc.proofs.energies.path_energies.Goals as goal
 pub returns-clause-bands : goal.returns-clause-bands
 returns-clause-bands c =
     c.bands_of.ensures ∙ c.heard-heard.ensures.energies
-    ∙ bands-heard c.in_ok-path.path c.args.from.now c.args.scene.now c.args.source.now c.args.receiver.now c.requires.source (c.in_ok-path.ensures.value)
+    ∙ bands-heard c.in_ok-paths.paths c.args.from.now c.args.scene.now c.args.source.now c.args.receiver.now c.requires.source (c.in_ok-paths.ensures.value)
 
 pub returns-clause-long : goal.returns-clause-long
 unfolding long_energy
@@ -29,8 +29,8 @@ returns-clause-long c =
     c.long_sum.ensures.value ∙ sym (sum-of-map (λ (h : Heard). h.long) heard)
     ∙ sum-of-intervals (Const (pos 0) 1) trees longs (
     c.heard-heard.ensures.longs
-    ∙ longs-heard c.in_ok-path.path c.args.from.now book s r c.requires.source (c.in_ok-path.ensures.value))
+    ∙ longs-heard c.in_ok-paths.paths c.args.from.now book s r c.requires.source (c.in_ok-paths.ensures.value))
 
 pub returns-clause-bands_bounds : goal.returns-clause-bands_bounds
 returns-clause-bands_bounds c =
-    subst (λ (es : List Interval). All (IsSumOf 3) es) (sym c.bands_of.ensures) (All-map (IsSumOf 3) (λ (h : Heard). h.energy) c.heard-heard.result c.heard-heard.ensures.energy_bounds)
+    subst (λ (es : List Interval). All (IsSumOf 16387) es) (sym c.bands_of.ensures) (All-map (IsSumOf 16387) (λ (h : Heard). h.energy) c.heard-heard.result c.heard-heard.ensures.energy_bounds)

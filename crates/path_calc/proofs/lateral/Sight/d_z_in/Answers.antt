@@ -1,8 +1,9 @@
-use Rattle.std.proofs.Common.{◌∙◌, ap, List}
+use Rattle.std.proofs.Common.{◌∙◌, ◌++◌, ap, List}
 use Rattle.sight_cut.specs.declared.crossing.Crossing.{Crossing}
-use Rattle.path_calc.specs.declared.lateral.LateralScreening.{LateralScreening}
 use Rattle.path_calc.specs.Strings.{both_of, numbers_in}
+use Rattle.path_calc.specs.declared.segments.Seg.{Seg}
 use Rattle.path_calc.proofs.Stretching.{both-are}
+use Rattle.path_calc.proofs.Tracing.{strings-added}
 use Rattle.path_calc.proofs.lateral.Sight.d_z_in.Goals as goal
 
 pub returns-clause-value : goal.returns-clause-value
@@ -10,3 +11,10 @@ returns-clause-value c =
     ap both_of c.d_z.ensures.value
     ∙ both-are _ c.args.self.now.ends c.args.self.now.obstacles.now c.args.self.now.d c.args.band c.in_ok-turn_to.ensures.stretched
     (c.in_ok-turn_to.ensures.numbers ∙ ap (λ (cs : List Crossing). numbers_in c.args.band cs) c.requires.crossings)
+
+pub returns-clause-trace : goal.returns-clause-trace
+returns-clause-trace c =
+    c.in_ok-turn_to.ensures.trace
+    ∙ ap (λ (l : List Seg). c.args.trace.now ++ l)
+    (strings-added _ c.args.self.now.ends c.args.self.now.obstacles.now c.args.band c.args.strings.now.numbers.items c.in_ok-turn_to.ensures.stretched
+    (c.in_ok-turn_to.ensures.numbers ∙ ap (λ (cs : List Crossing). numbers_in c.args.band cs) c.requires.crossings))

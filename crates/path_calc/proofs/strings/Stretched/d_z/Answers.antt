@@ -1,5 +1,4 @@
-use Rattle.std.proofs.Common.{sym, subst, List, arith}
-use Rattle.scene_geom.specs.declared.plan.Pt.{Pt}
+use Rattle.std.proofs.Common.{sym, subst, arith}
 use Rattle.term_barrier.specs.Limits.{IsScreening}
 use Rattle.path_calc.specs.Ranges.{IsShort}
 use Rattle.path_calc.proofs.Corners.{side-between}

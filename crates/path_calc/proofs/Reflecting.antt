@@ -1,0 +1,246 @@
+-- Paths by way of walls that are found one after another, and what is known of each.
+use Rattle.std.proofs.Common.{◌≡◌, ℕ, zero, suc, ◌^◌, pos, ◌≤ℤ◌, subst, ◌+◌, ◌≤◌, ◌<◌, List, [], ◌∷◌, ◌++◌, length, drop, get_or, map, filter, refl, sym, ap, ◌∙◌, arith, append_assoc, append-nil}
+use Rattle.std.specs.Prelude.{Option, Some, None, Bool, true, false, All, IfSome, flat_map, slice_get, not, ◌==◌, ◌&&◌}
+use Rattle.std.specs.List.{filter_map}
+use Rattle.std.specs.Bool.{then_some}
+use Rattle.std.specs.Option.{option_map, option_to_list}
+use Rattle.std.proofs.lemmas.Int.{ints}
+use Rattle.std.proofs.lemmas.List.{drop_more, map-append, length-append, length-map}
+use Rattle.std.proofs.lemmas.List.Elements.{All-nil, All-append, All-cons}
+use Rattle.std.proofs.lemmas.Option.{slice_get_within, get_or_from_slice_get}
+use Rattle.fix_interval.specs.Interval.{Interval}
+use Rattle.fix_interval.specs.Values.{less_of}
+use Rattle.fix_interval.specs.declared.truth.Truth.{Truth}
+use Rattle.fix_interval.specs.Tree.{Tree, Known, enc}
+use Rattle.scene_geom.specs.declared.band.Band.{Band}
+use Rattle.scene_geom.specs.Bands.{all_bands, place_of}
+use Rattle.scene_geom.specs.declared.plan.Pt.{Pt}
+use Rattle.scene_geom.specs.declared.plan.Side.{Side}
+use Rattle.scene_geom.specs.Reflection.{off_wall, along_wall, squared_length, unfolded}
+use Rattle.scene_geom.proofs.Walls.{over-n}
+use Rattle.scene_geom.specs.declared.reflection.Reflection.{Reflection}
+use Rattle.scene_parts.specs.Views.{Obstacle, Zone, Globals}
+use Rattle.scene_parts.specs.Sides.{sides_of}
+use Rattle.scene_book.specs.Lists.{total}
+use Rattle.scene_book.specs.Book.{side_total}
+use Rattle.path_shape.specs.declared.edge.Edge.{Edge}
+use Rattle.path_shape.specs.declared.path.Path.{Path}
+use Rattle.sight_cut.specs.declared.ends.Ends.{Ends}
+use Rattle.sight_cut.specs.declared.crossing.Crossing.{Crossing}
+use Rattle.sight_cut.specs.Cuts.{is_crossing_in}
+use Rattle.image_source.specs.declared.leg.Leg.{Leg}
+use Rattle.image_source.specs.Mirrors.{IsMirror, has_mirror, mirror_of}
+use Rattle.image_source.specs.Dimensions.{dimension_squared, needed_squared}
+use Rattle.image_source.specs.LegCuts.{edge_on, edges_in, crossing_on, before_all, crossings_along, crossings_from, leg_crossings_of, is_leg_crossing_in}
+use Rattle.image_source.specs.declared.leg.Leg.TheVariants.{First, Second}
+use Rattle.image_source.proofs.Edges.{leg-crossings-are-edges}
+use Rattle.image_source.proofs.Fitting.{leg-edges-fit}
+use Rattle.image_source.specs.Laws.{FitsLegEdge}
+use Rattle.term_ground.specs.Ground.{ground}
+use Rattle.term_barrier.specs.Edges.{FitsEdge}
+use Rattle.path_calc.specs.declared.propagation.Propagation.{Propagation}
+use Rattle.path_calc.specs.Propagations.{Reflected}
+use Rattle.path_calc.specs.declared.segments.Seg.{Seg}
+use Rattle.path_calc.specs.declared.segments.Seg.TheVariants.{Legs}
+use Rattle.path_calc.specs.Lengths.{reflected_distance}
+use Rattle.path_calc.specs.Contributions.{reflection_level}
+use Rattle.path_calc.specs.Ranges.{IsReflectedSquare}
+use Rattle.path_calc.specs.Laws.{ReflectedEdgesAreCuts}
+use Rattle.path_calc.specs.ReflectedPaths.{ReflectedPath, path_along, along_legs, reflected_in, reflected_by, reflected_paths}
+use Rattle.path_calc.specs.Hearing.{edges_among, bar_over, bars_over, propagation_along, crossings_on, reflected_of}
+use Rattle.path_calc.proofs.Eight.{at-place, map-same}
+use Rattle.path_calc.proofs.Zones.{same-surroundings}
+
+-- ---- crossings of legs
+
+-- the edges that count in a band, whatever leg each is on
+among-legs : (band : Band) (legs : List (Leg × Crossing)) → edges_among band (crossings_on legs) ≡ map (λ (c : Leg × Crossing). c.1.edge) (filter (is_leg_crossing_in band) legs)
+among-legs band [] = refl
+among-legs band (c ∷ legs) = by (is_crossing_in band c.1) refl (among-legs band legs) where
+  by : (test : Bool) → is_crossing_in band c.1 ≡ test → edges_among band (crossings_on legs) ≡ map (λ (c : Leg × Crossing). c.1.edge) (filter (is_leg_crossing_in band) legs)
+      → edges_among band (crossings_on (c ∷ legs)) ≡ map (λ (c : Leg × Crossing). c.1.edge) (filter (is_leg_crossing_in band) (c ∷ legs))
+  by true is rest = rw is (ap (λ edges. c.1.edge ∷ edges) rest)
+  by false is rest = rw is rest
+
+-- the edges of the crossings of both legs keep to the bounds of edges
+abbrev Fits : Crossing → Type 0
+Fits crossing = FitsEdge crossing.edge
+
+fits-edge : (edge : Edge) → FitsLegEdge edge → FitsEdge edge
+fits-edge edge h = record { within = h.within; below = h.below; direction = h.direction }
+
+leg-edge-fits : (leg : Leg) (path : Reflection) (ends : Ends) (h : ℕ) (side : Side) (edge : Edge) → IsMirror path → edge_on leg path ends h side ≡ Some edge → FitsEdge edge
+leg-edge-fits leg path ends h side edge is e = fits-edge edge (rw e at (leg-edges-fit leg path ends h side is))
+
+along-fit : (leg : Leg) (path : Reflection) (ends : Ends) (i k : ℕ) (o : Obstacle) (sides : List Side) → IsMirror path → All Fits (crossings_on (crossings_along leg path ends i k o sides))
+along-fit leg path ends i k o [] is = All-nil Fits
+along-fit leg path ends i k o (side ∷ sides) is = by (edge_on leg path ends o.h side) refl (along-fit leg path ends i (suc k) o sides is) where
+  by : (edge : Option Edge) → edge_on leg path ends o.h side ≡ edge → All Fits (crossings_on (crossings_along leg path ends i (suc k) o sides))
+      → All Fits (crossings_on (before_all (crossing_on leg path ends i k o side) (crossings_along leg path ends i (suc k) o sides)))
+  by None e rest = rw e rest
+  by (Some edge) e rest = rw e (All-cons Fits _ (crossings_on (crossings_along leg path ends i (suc k) o sides)) (leg-edge-fits leg path ends o.h side edge is e) rest)
+
+both-fit : (xs ys : List (Leg × Crossing)) → All Fits (crossings_on xs) → All Fits (crossings_on ys) → All Fits (crossings_on (xs ++ ys))
+both-fit xs ys h k = rw (map-append (λ (c : Leg × Crossing). c.1) xs ys) (All-append Fits (crossings_on xs) (crossings_on ys) h k)
+
+from-fit : (leg : Leg) (path : Reflection) (ends : Ends) (i : ℕ) (obstacles : List Obstacle) → IsMirror path → All Fits (crossings_on (crossings_from leg path ends i obstacles))
+from-fit leg path ends i [] is = All-nil Fits
+from-fit leg path ends i (o ∷ obstacles) is =
+    both-fit (crossings_along leg path ends i zero o (sides_of o)) (crossings_from leg path ends (suc i) obstacles) (along-fit leg path ends i zero o (sides_of o) is) (from-fit leg path ends (suc i) obstacles is)
+
+pub leg-crossings-fit : (path : Reflection) (ends : Ends) (obstacles : List Obstacle) → IsMirror path → All (λ (crossing : Crossing). FitsEdge crossing.edge) (crossings_on (leg_crossings_of path ends obstacles))
+leg-crossings-fit path ends obstacles is =
+    both-fit (crossings_from First path ends zero obstacles) (crossings_from Second path ends zero obstacles) (from-fit First path ends zero obstacles is) (from-fit Second path ends zero obstacles is)
+
+-- the edges that are read are those of the cuts
+pub reflected-edges-are-cuts : ReflectedEdgesAreCuts
+reflected-edges-are-cuts obstacles zones ends o side laid band = record {
+  crossings = filter (is_leg_crossing_in band) (leg_crossings_of laid ends obstacles);
+  edges = at-place (λ band. edges_in band laid ends obstacles) [] band ∙ sym (leg-crossings-are-edges band laid ends obstacles);
+  cuts = refl;
+}
+
+-- ---- one path
+
+-- what the square of the plan length keeps
+pub square-kept : (side : Side) (s r : Pt) (m : Reflection) → m ≡ unfolded side s r → IsMirror m → IsReflectedSquare m.square
+square-kept side s r m is kept = record {
+  from_zero = subst (λ (q : Reflection). pos 0 ≤ℤ q.square.n) (sym is) (rw (over-n (pos ((off_wall side s + off_wall side r) ^ 2 + along_wall side s r ^ 2)) (squared_length side)) (omega (arith, ints)));
+  length = kept.fits.square;
+  wall = kept.fits.wall;
+}
+
+-- a reflection that is there is the unfolded path
+pub unfolded-there : (o : Obstacle) (side : Side) (ends : Ends) (m : Reflection) → Some m ≡ mirror_of o side ends → m ≡ unfolded side ends.s ends.r
+unfolded-there o side ends m is = by (has_mirror o side ends) is where
+  by : (test : Bool) → Some m ≡ then_some test (unfolded side ends.s ends.r) → m ≡ unfolded side ends.s ends.r
+  by true e = cc
+  by false e = absurd (cc)
+
+-- what the code knows of a path by way of a wall is what is read along it
+pub by-way-is : (m : Reflected) (globals : Globals) (obstacles : List Obstacle) (zones : List Zone) (ends : Ends) (o : Obstacle) (side : Side) (laid : Reflection) (legs : List (Leg × Crossing)) (d : Interval)
+    → d ≡ enc (reflected_distance laid.square ends.hs ends.hr) → legs ≡ leg_crossings_of laid ends obstacles
+    → m.wall ≡ Legs side ends.s ends.r
+    → m.path ≡ propagation_along globals zones (path_along ends laid) d (crossings_on legs)
+    → m.level ≡ enc (reflection_level o.rho)
+    → m.counts ≡ map (λ band. less_of (enc (needed_squared laid.p (Known d) band)) (enc (dimension_squared side o.h laid.p (Known d)))) all_bands
+    → m ≡ reflected_of globals ends (along_legs obstacles zones ends o side laid)
+by-way-is m globals obstacles zones ends o side laid legs d distance-is legs-are wall-is path-is level-is counts-are =
+    let path = path_along ends laid in
+    let read = along_legs obstacles zones ends o side laid in
+    let want = reflected_of globals ends read in
+    let edges = λ (band : Band). edges_among band (crossings_on legs) in
+    let there = λ (band : Band). get_or read.edges (place_of band) [] in
+    let same-edges : (band : Band) → edges band ≡ there band = λ (band : Band).
+    among-legs band legs
+    ∙ ap (λ (ls : List (Leg × Crossing)). map (λ (c : Leg × Crossing). c.1.edge) (filter (is_leg_crossing_in band) ls)) legs-are
+    ∙ leg-crossings-are-edges band laid ends obstacles
+    ∙ sym (at-place (λ band. edges_in band laid ends obstacles) [] band) in
+    let grounds : map enc (ground zones globals.g path (Known path.dp)) ≡ want.path.ground = ap (λ ts. map enc ts) (same-surroundings zones globals.g path (Known path.dp)) in
+    let bars : bars_over path edges want.path.distance (map enc (ground zones globals.g path (Known path.dp))) ≡ want.path.screening =
+    ap (bars_over path edges want.path.distance) grounds
+    ∙ map-same (λ band. bar_over path (edges band) want.path.distance want.path.ground band) (λ band. bar_over path (there band) want.path.distance want.path.ground band)
+    (λ band. ap (λ (es : List Edge). bar_over path es want.path.distance want.path.ground band) (same-edges band)) all_bands in
+    let paths : m.path ≡ want.path =
+    path-is
+    ∙ ap (λ (i : Interval). propagation_along globals zones path i (crossings_on legs)) distance-is
+    ∙ ap (λ (is : List Interval). record { air = globals.air; distance = want.path.distance; divergence = want.path.divergence; ground = is; screening = bars_over path edges want.path.distance (map enc (ground zones globals.g path (Known path.dp))); correction = want.path.correction }) grounds
+    ∙ ap (λ (is : List Interval). record { air = globals.air; distance = want.path.distance; divergence = want.path.divergence; ground = want.path.ground; screening = is; correction = want.path.correction }) bars in
+    let tests : m.counts ≡ want.counts = counts-are ∙ ap (λ (i : Interval). map (λ band. less_of (enc (needed_squared laid.p (Known i) band)) (enc (dimension_squared side o.h laid.p (Known i)))) all_bands) distance-is in
+    ap (λ (w : Seg). record m { wall = w }) wall-is
+    ∙ ap (λ (p : Propagation). record { wall = want.wall; path = p; level = m.level; counts = m.counts }) paths
+    ∙ ap (λ (i : Interval). record { wall = want.wall; path = want.path; level = i; counts = m.counts }) level-is
+    ∙ ap (λ (ts : List Truth). record { wall = want.wall; path = want.path; level = want.level; counts = ts }) tests
+
+-- ---- paths found one after another
+
+-- the paths by way of some sides
+abbrev pub by_sides : List Obstacle → List Zone → Ends → Obstacle → List Side → List ReflectedPath
+by_sides obstacles zones ends o sides = filter_map (reflected_in obstacles zones ends o) sides
+
+-- what a list gives for a thing before others
+filter_map-cons : {X Y : Type 0} (f : X → Option Y) (x : X) (xs : List X) → filter_map f (x ∷ xs) ≡ option_to_list (f x) ++ filter_map f xs
+filter_map-cons f x xs = by (f x) refl where
+  by : (found : Option _) → f x ≡ found → filter_map f (x ∷ xs) ≡ option_to_list (f x) ++ filter_map f xs
+  by None e = rw e refl
+  by (Some y) e = rw e refl
+
+here : (sides : List Side) (i : ℕ) (side : Side) → slice_get sides i ≡ Some side → drop i sides ≡ side ∷ drop (i + 1) sides
+here sides i side e = drop_more sides i side (slice_get_within sides i side e) ∙ ap (λ x. x ∷ drop (i + 1) sides) (get_or_from_slice_get sides i side side e)
+
+-- a path for a side, where there is one
+pub one-added : (globals : Globals) (obstacles : List Obstacle) (zones : List Zone) (ends : Ends) (o : Obstacle) (side : Side) (laid : Reflection) (m : Reflected) (found : List Reflected)
+    → mirror_of o side ends ≡ Some laid → m ≡ reflected_of globals ends (along_legs obstacles zones ends o side laid)
+    → found ++ m ∷ [] ≡ found ++ map (reflected_of globals ends) (option_to_list (reflected_in obstacles zones ends o side))
+one-added globals obstacles zones ends o side laid m found some is = rw (some, is) refl
+
+pub none-added : (globals : Globals) (obstacles : List Obstacle) (zones : List Zone) (ends : Ends) (o : Obstacle) (side : Side) (found : List Reflected)
+    → mirror_of o side ends ≡ None → found ≡ found ++ map (reflected_of globals ends) (option_to_list (reflected_in obstacles zones ends o side))
+none-added globals obstacles zones ends o side found none = rw none (sym (append-nil found))
+
+-- what is found, and what the sides behind give, is the same after a side
+pub side-added : (globals : Globals) (obstacles : List Obstacle) (zones : List Zone) (ends : Ends) (o : Obstacle) (sides : List Side) (i : ℕ) (side : Side) (found new all : List Reflected)
+    → slice_get sides i ≡ Some side → new ≡ found ++ map (reflected_of globals ends) (option_to_list (reflected_in obstacles zones ends o side))
+    → found ++ map (reflected_of globals ends) (by_sides obstacles zones ends o (drop i sides)) ≡ all
+    → new ++ map (reflected_of globals ends) (by_sides obstacles zones ends o (drop (i + 1) sides)) ≡ all
+side-added globals obstacles zones ends o sides i side found new all e added h =
+    let made = reflected_of globals ends in
+    let these = option_to_list (reflected_in obstacles zones ends o side) in
+    let rest = by_sides obstacles zones ends o (drop (i + 1) sides) in
+    let next : by_sides obstacles zones ends o (drop i sides) ≡ these ++ rest =
+    ap (by_sides obstacles zones ends o) (here sides i side e) ∙ filter_map-cons (reflected_in obstacles zones ends o) side (drop (i + 1) sides) in
+    ap (λ xs. xs ++ map made rest) added
+    ∙ append_assoc found (map made these) (map made rest)
+    ∙ ap (λ xs. found ++ xs) (sym (map-append made these rest))
+    ∙ ap (λ paths. found ++ map made paths) (sym next) ∙ h
+
+-- an obstacle that doesn't reflect
+none-of-sides : (obstacles : List Obstacle) (zones : List Zone) (ends : Ends) (o : Obstacle) (sides : List Side) → o.rho ≡ 0 → by_sides obstacles zones ends o sides ≡ []
+none-of-sides obstacles zones ends o [] is = refl
+none-of-sides obstacles zones ends o (side ∷ sides) is =
+    let none : mirror_of o side ends ≡ None = rw is refl in
+    rw none (none-of-sides obstacles zones ends o sides is)
+
+-- adds nothing
+pub nothing-reflected : (globals : Globals) (obstacles : List Obstacle) (zones : List Zone) (ends : Ends) (o : Obstacle) (found : List Reflected) → o.rho ≡ 0
+    → found ≡ found ++ map (reflected_of globals ends) (reflected_by obstacles zones ends o)
+nothing-reflected globals obstacles zones ends o found none =
+    sym (append-nil found) ∙ ap (λ paths. found ++ map (reflected_of globals ends) paths) (sym (none-of-sides obstacles zones ends o (sides_of o) none))
+
+obstacle-here : (obstacles : List Obstacle) (i : ℕ) (o : Obstacle) → i < length obstacles → o ≡ get_or obstacles i o → drop i obstacles ≡ o ∷ drop (i + 1) obstacles
+obstacle-here obstacles i o below is = drop_more obstacles i o below ∙ ap (λ x. x ∷ drop (i + 1) obstacles) (sym is)
+
+pub obstacle-added : (globals : Globals) (obstacles : List Obstacle) (zones : List Zone) (ends : Ends) (os : List Obstacle) (i : ℕ) (o : Obstacle) (found new all : List Reflected)
+    → i < length os → o ≡ get_or os i o → new ≡ found ++ map (reflected_of globals ends) (reflected_by obstacles zones ends o)
+    → found ++ map (reflected_of globals ends) (flat_map (reflected_by obstacles zones ends) (drop i os)) ≡ all
+    → new ++ map (reflected_of globals ends) (flat_map (reflected_by obstacles zones ends) (drop (i + 1) os)) ≡ all
+obstacle-added globals obstacles zones ends os i o found new all below is added h =
+    let rest = flat_map (reflected_by obstacles zones ends) (drop (i + 1) os) in
+    let these = reflected_by obstacles zones ends o in
+    let next : flat_map (reflected_by obstacles zones ends) (drop i os) ≡ these ++ rest = ap (flat_map (reflected_by obstacles zones ends)) (obstacle-here os i o below is) in
+    ap (λ xs. xs ++ map (reflected_of globals ends) rest) added
+    ∙ append_assoc found (map (reflected_of globals ends) these) (map (reflected_of globals ends) rest)
+    ∙ ap (λ xs. found ++ xs) (sym (map-append (reflected_of globals ends) these rest))
+    ∙ ap (λ paths. found ++ map (reflected_of globals ends) paths) (sym next) ∙ h
+
+-- ---- there are no more than sides
+
+few-of-sides : {X Y : Type 0} (f : X → Option Y) (xs : List X) → length (filter_map f xs) ≤ length xs
+few-of-sides f [] = omega arith
+few-of-sides f (x ∷ xs) = by (f x) refl (few-of-sides f xs) where
+  by : (found : Option _) → f x ≡ found → length (filter_map f xs) ≤ length xs → length (filter_map f (x ∷ xs)) ≤ length (x ∷ xs)
+  by None e h = rw e (omega (arith, h))
+  by (Some y) e h = rw e (omega (arith, h))
+
+few-of-obstacles : (obstacles : List Obstacle) (zones : List Zone) (ends : Ends) (os : List Obstacle) → length (flat_map (reflected_by obstacles zones ends) os) ≤ side_total os
+few-of-obstacles obstacles zones ends [] = omega arith
+few-of-obstacles obstacles zones ends (o ∷ os) =
+    let both = length-append (reflected_by obstacles zones ends o) (flat_map (reflected_by obstacles zones ends) os) in
+    omega (arith, both, few-of-sides (reflected_in obstacles zones ends o) (sides_of o), few-of-obstacles obstacles zones ends os)
+
+pub few-paths : (obstacles : List Obstacle) (zones : List Zone) (ends : Ends) → length (reflected_paths obstacles zones ends) ≤ side_total obstacles
+few-paths obstacles zones ends = few-of-obstacles obstacles zones ends obstacles
+
+-- so are those that are found
+pub few-found : (globals : Globals) (obstacles : List Obstacle) (zones : List Zone) (ends : Ends) (found : List Reflected) → found ≡ map (reflected_of globals ends) (reflected_paths obstacles zones ends) → length found ≤ side_total obstacles
+few-found globals obstacles zones ends found is = rw (is, length-map (reflected_paths obstacles zones ends) (reflected_of globals ends)) (few-paths obstacles zones ends)

@@ -1,0 +1,75 @@
+use Rattle.std.proofs.Common.{◌≡◌, ap, sym, subst, ◌∙◌, List, [], ◌∷◌, ◌++◌, map}
+use Rattle.std.specs.Prelude.{All, Option, flat_map}
+use Rattle.fix_interval.specs.Interval.{Interval}
+use Rattle.fix_interval.specs.Tree.{enc}
+use Rattle.scene_geom.specs.declared.band.Band.{Band}
+use Rattle.scene_geom.specs.Bands.{all_bands}
+use Rattle.scene_parts.specs.Views.{Source, Receiver, Obstacle}
+use Rattle.path_shape.specs.Shape.{direct_path}
+use Rattle.path_shape.specs.declared.path.Path.{Path}
+use Rattle.sight_cut.specs.declared.crossing.Crossing.{Crossing}
+use Rattle.sight_cut.specs.declared.ends.Ends.{Ends}
+use Rattle.sight_cut.specs.Cuts.{crossings_of}
+use Rattle.term_barrier.specs.Edges.{FitsEdge}
+use Rattle.path_calc.specs.Lengths.{distance}
+use Rattle.path_calc.specs.ReflectedPaths.{reflected_paths}
+use Rattle.path_calc.specs.Surroundings.{path_of, ends_of}
+use Rattle.path_calc.specs.Strings.{both_of, lateral_of, d_z_over}
+use Rattle.path_calc.specs.declared.segments.Seg.{Seg}
+use Rattle.path_calc.specs.declared.segments.Seg.TheVariants.{Straight}
+use Rattle.path_calc.specs.Propagations.{Reflected}
+use Rattle.path_calc.specs.Tracing.{segments_in_band}
+use Rattle.path_calc.specs.Hearing.{propagation_along, reflected_of}
+use Rattle.path_calc.proofs.Tracing.{trace-whole, walls-are}
+use Rattle.path_calc.proofs.Fitting.{edges-fit}
+use Rattle.path_calc.proofs.Heard.{direct-is, lateral-is}
+use Rattle.path_calc.proofs.paths.paths_between.Goals as goal
+
+pub along-requires-clause-edges : goal.along-requires-clause-edges
+along-requires-clause-edges c =
+    subst (λ (cs : List Crossing). All (λ (crossing : Crossing). FitsEdge crossing.edge) cs) (sym (c.as_slice.ensures.value ∙ c.in_ok-crossings.ensures))
+    (edges-fit (record { s = c.source.inside.at; hs = c.source.inside.h; r = c.receiver.inside.at; hr = c.receiver.inside.h }) c.obstacles-obstacles.result.now)
+
+pub returns-clause-value : goal.returns-clause-value
+returns-clause-value c =
+    let book = c.args.scene.now in
+    let s = c.args.source.now in
+    let r = c.args.receiver.now in
+    let d = c.distance-distance.result in
+    let found = c.as_slice.result.now in
+    let ends : record { s = c.source.inside.at; hs = c.source.inside.h; r = c.receiver.inside.at; hr = c.receiver.inside.h } ≡ ends_of s r =
+    ap (λ (s : Source). record { s = s.at; hs = s.h; r = c.receiver.inside.at; hr = c.receiver.inside.h }) c.source.view_is ∙ ap (λ (r : Receiver). ends_of s r) c.receiver.view_is in
+    let length : d ≡ enc (distance s.at s.h r.at r.h) =
+    c.distance-distance.ensures.value ∙ ap (λ (s : Source). enc (distance s.at s.h c.receiver.inside.at c.receiver.inside.h)) c.source.view_is ∙ ap (λ (r : Receiver). enc (distance s.at s.h r.at r.h)) c.receiver.view_is in
+    let path : c.direct-path.result ≡ path_of s r =
+    c.direct-path.ensures.value ∙ ap (λ (s : Source). direct_path s.at s.h c.receiver.inside.at c.receiver.inside.h) c.source.view_is ∙ ap (λ (r : Receiver). path_of s r) c.receiver.view_is in
+    record {
+      direct = direct-is c.in_ok-direct.direct book s r d found length
+          (c.as_slice.ensures.value ∙ c.in_ok-crossings.ensures ∙ ap (λ (e : Ends). crossings_of e c.obstacles-obstacles.result.now) ends ∙ ap (crossings_of (ends_of s r)) c.obstacles-obstacles.ensures.value)
+          (c.in_ok-direct.ensures.value ∙ ap (λ (p : Path). propagation_along book.globals book.zones p d found) path);
+      lateral = λ (band : Band). lateral-is (record { direct = c.in_ok-direct.direct; left = c.lefts.result; right = c.rights.result; reflected = c.in_ok-reflected.reflected }) book s r d band length (
+          ap (λ (is : List (Option Interval)). both_of (lateral_of is c.rights.result band)) c.lefts.ensures
+          ∙ ap (λ (is : List (Option Interval)). both_of (lateral_of c.in_ok-lateral.lateral.left is band)) c.rights.ensures
+          ∙ c.in_ok-lateral.ensures.value band
+          ∙ ap (λ (os : List Obstacle). d_z_over (record { s = c.source.inside.at; hs = c.source.inside.h; r = c.receiver.inside.at; hr = c.receiver.inside.h }) os d band) c.obstacles-obstacles.ensures.value
+          ∙ ap (λ (e : Ends). d_z_over e book.obstacles d band) ends);
+      reflected = c.in_ok-reflected.ensures.value ∙ ap (λ (e : Ends). map (reflected_of book.globals e) (reflected_paths book.obstacles book.zones e)) ends;
+    }
+
+pub returns-clause-trace : goal.returns-clause-trace
+returns-clause-trace c =
+    let book = c.args.scene.now in
+    let s = c.args.source.now in
+    let r = c.args.receiver.now in
+    let there : Ends = record { s = c.source.inside.at; hs = c.source.inside.h; r = c.receiver.inside.at; hr = c.receiver.inside.h } in
+    let ends : there ≡ ends_of s r =
+    ap (λ (s : Source). record { s = s.at; hs = s.h; r = c.receiver.inside.at; hr = c.receiver.inside.h }) c.source.view_is ∙ ap (λ (r : Receiver). ends_of s r) c.receiver.view_is in
+    trace-whole c.args.trace.now c.push.new.self c.lateral_screening.new.trace c.add_walls.new.trace book s r
+    (c.in_ok-push.ensures ∙ ap (λ (e : Ends). c.args.trace.now ++ Straight e.s e.r ∷ []) ends)
+    (c.in_ok-lateral.ensures.trace
+    ∙ ap (λ (os : List Obstacle). c.push.new.self ++ flat_map (segments_in_band there os) all_bands) c.obstacles-obstacles.ensures.value
+    ∙ ap (λ (e : Ends). c.push.new.self ++ flat_map (segments_in_band e book.obstacles) all_bands) ends)
+    (c.in_ok-add_walls.ensures
+    ∙ ap (λ (found : List Reflected). c.lateral_screening.new.trace ++ map (λ (path : Reflected). path.wall) found)
+    (c.as_slice-3.ensures.value ∙ c.in_ok-reflected.ensures.value ∙ ap (λ (e : Ends). map (reflected_of book.globals e) (reflected_paths book.obstacles book.zones e)) ends)
+    ∙ ap (λ (l : List Seg). c.lateral_screening.new.trace ++ l) (walls-are book.globals (ends_of s r) (reflected_paths book.obstacles book.zones (ends_of s r))))

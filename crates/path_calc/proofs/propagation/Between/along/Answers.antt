@@ -1,0 +1,24 @@
+use Rattle.std.proofs.Common.{rules, arith}
+use Rattle.path_shape.proofs.Lengths.{paths-have_lengths}
+use Rattle.energy_sum.specs.Weather.{IsLengthInPlan}
+use Rattle.path_calc.proofs.propagation.Between.along.Goals as goal
+
+pub returns-clause-range : goal.returns-clause-range
+returns-clause-range c =
+    let path = c.args.path.now in
+    let length = paths-have_lengths path c.requires.path in
+    let plan : IsLengthInPlan path.dp = record { bounds = length.bounds; close = length.close } in
+    record {
+      distance = c.requires.distance;
+      divergence = c.a_div.ensures.value;
+      ground = search rules;
+      bands = search rules;
+      screening = search rules;
+      screened_bands = search rules;
+      correction = c.c_met.ensures.bounds plan (record {
+        source = omega (arith, c.requires.source_height.high);
+        receiver = omega (arith, c.requires.receiver_height.high);
+        above_ground = omega (arith, c.requires.source_height.low);
+        most = omega (arith, c.globals.invariant.c0);
+      });
+    }

@@ -1,0 +1,5 @@
+use Rattle.path_calc.proofs.Bounds.{reflected-sent}
+use Rattle.path_calc.proofs.reflected.Reflected.sends.Goals as goal
+
+pub returns-clause-bounds : goal.returns-clause-bounds
+returns-clause-bounds c = rw c.add.ensures (reflected-sent c.args.emission c.self.inside.level c.requires c.self.invariant.level)

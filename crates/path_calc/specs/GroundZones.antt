@@ -1,0 +1,13 @@
+-- The zones of ground that a path meets, as they are read.
+use Rattle.std.specs.Prelude.{List, [], map}
+use Rattle.scene_parts.specs.Views.{Zone}
+use Rattle.path_shape.specs.declared.path.Path.{Path}
+use Rattle.term_ground.specs.Zones.{met_zones}
+
+-- a zone by its corners and its ground factor, whatever its name
+abbrev pub unnamed : Zone → Zone
+unnamed zone = record { name = []; points = zone.points; g = zone.g }
+
+-- the zones of ground that a path meets
+abbrev pub zones_on : Path → List Zone → List Zone
+zones_on path zones = map unnamed (met_zones path zones)

@@ -1,0 +1,47 @@
+-- What the bands share of a path: how its quantities are bounded, and what a path by way of a wall has beside them.
+use Rattle.std.specs.Prelude.{◌≡◌, ◌*◌, ◌^◌, pos, neg_ℤ, List, All, length, slice_index_or}
+use Rattle.fix_interval.specs.Interval.{Interval}
+use Rattle.fix_interval.specs.Bounds.{AreBetween}
+use Rattle.fix_interval.specs.declared.truth.Truth.{Truth}
+use Rattle.fix_interval.specs.declared.truth.Truth.TheVariants.{Unsure}
+use Rattle.fix_interval.specs.Tree.{Known, enc}
+use Rattle.scene_geom.specs.declared.band.Band.{Band}
+use Rattle.scene_geom.specs.Bands.{place_of}
+use Rattle.energy_sum.specs.Weather.{IsWeatherCorrection}
+use Rattle.term_div_atm.specs.Terms.{divergence}
+use Rattle.term_barrier.specs.Limits.{IsDistance, IsGroundEffect, IsScreening}
+use Rattle.path_calc.specs.declared.propagation.Propagation.{Propagation}
+use Rattle.path_calc.specs.declared.segments.Seg.{Seg}
+use Rattle.path_calc.specs.Segments.{FitsSegment}
+
+-- the divergence at the distance, the attenuations by the ground and by screening in each band, and C_met
+pub record IsPropagation (propagation : Propagation) : Type 0 where
+  pub distance : IsDistance propagation.distance
+  pub divergence : propagation.divergence ≡ enc (divergence (Known propagation.distance))
+  pub ground : All IsGroundEffect propagation.ground
+  pub bands : length propagation.ground ≡ 8
+  pub screening : All IsScreening propagation.screening
+  pub screened_bands : length propagation.screening ≡ 8
+  pub correction : IsWeatherCorrection propagation.correction
+
+-- a path by way of a wall (ISO 9613-2, 7.5): its legs, 10 lg of what the wall reflects, in dB, and for each band
+-- whether it is large enough
+pub record Reflected : Type 0 where
+  pub wall : Seg
+  pub path : Propagation
+  pub level : Interval
+  pub counts : List Truth
+
+-- the level of a reflection is from -10 dB to 0 dB
+abbrev pub IsReflectionLevel : Interval → Type 0
+IsReflectionLevel level = AreBetween (neg_ℤ (pos (10 * 2 ^ 32))) (pos 0) level
+
+pub record IsReflected (reflected : Reflected) : Type 0 where
+  pub wall : FitsSegment reflected.wall
+  pub path : IsPropagation reflected.path
+  pub level : IsReflectionLevel reflected.level
+  pub bands : length reflected.counts ≡ 8
+
+-- whether the wall is large enough in a band
+abbrev pub counts_at : Reflected → Band → Truth
+counts_at reflected band = slice_index_or reflected.counts (place_of band) Unsure

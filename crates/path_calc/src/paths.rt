@@ -1,0 +1,108 @@
+//! All paths from a source to a receiver: the direct one, those round the sides and those by way of walls.
+ghost use Rattle.std.specs.Prelude.{◌≡◌, ◌++◌, map, IfOk, OnOk};
+ghost use Rattle.path_calc.specs.Hearing.{ArePaths, lateral_at};
+ghost use Rattle.path_calc.specs.Ranges.{AreInRange, IsLateralScreening};
+ghost use Rattle.path_calc.specs.Strings.{both_of};
+ghost use Rattle.path_calc.specs.Trace.{trace_of};
+
+use crate::lateral::{LateralScreening, lateral_screening};
+use crate::lengths::distance;
+use crate::prepared::{PreparedReceiver, PreparedSource};
+use crate::propagation::{Between, Propagation};
+use crate::reflected::Reflected;
+use crate::segments::{Seg, Segs};
+use fix_interval::Iv;
+use path_shape::Path;
+use scene_book::Scene;
+use scene_geom::Band;
+use scene_parts::{NoMemory, PointSource, Receiver};
+use sight_cut::{Ends, crossings};
+use std::alloc::Global;
+
+/// What the bands share of all paths from a source to a receiver: of the direct one, which leads over the top of what
+/// screens it, D_z in dB in each band round the left and the right, where sound goes there, and of those by way of walls.
+#[derive(Drop)]
+pub(crate) struct Paths {
+    pub(crate) direct: Propagation,
+    pub(crate) left: [Option<Iv>; 8],
+    pub(crate) right: [Option<Iv>; 8],
+    pub(crate) reflected: Vec<Reflected>,
+}
+
+/// The paths from a source to a receiver, whose trace is added to a trace. One search finds the edges of all bands on a
+/// path.
+pub(crate) fn paths_between(
+    alloc: Global,
+    scene: &Scene,
+    source: &PointSource,
+    from: &PreparedSource,
+    receiver: &Receiver,
+    to: &PreparedReceiver,
+    trace: &mut Segs,
+) -> Result<Paths, NoMemory>
+    requires source { from.now.h ≡ source.now.h }
+    requires receiver { to.now ≡ receiver.now.h }
+    ensures value { IfOk result (λ paths. ArePaths paths scene.now source.now receiver.now) }
+    ensures range { IfOk result AreInRange }
+    ensures trace { OnOk result (trace.new ≡ trace.old ++ trace_of scene.now source.now receiver.now) }
+{
+    let ends = Ends {
+        s: source.at,
+        hs: source.h,
+        r: receiver.at,
+        hr: receiver.h,
+    };
+    let between = Between {
+        alloc,
+        scene,
+        ends,
+        from,
+        to,
+    };
+    let path = Path::direct(source.at, source.h, receiver.at, receiver.h);
+    let distance = distance(source.at, source.h, receiver.at, receiver.h);
+    let obstacles = scene.obstacles();
+    let crossings = crossings(alloc, obstacles, ends)?;
+    let direct = between.along(&path, distance, crossings.as_slice())?;
+    trace.push(Seg::Straight(source.at, receiver.at))?;
+    let lateral = lateral_screening(
+        alloc,
+        obstacles,
+        ends,
+        crossings.as_slice(),
+        distance,
+        trace,
+    )?;
+    let reflected = between.reflected()?;
+    add_walls(trace, reflected.as_slice())?;
+    Ok(Paths {
+        direct,
+        left: lateral.lefts(),
+        right: lateral.rights(),
+        reflected,
+    })
+}
+
+/// Adds the legs of paths by way of walls to a trace.
+fn add_walls(trace: &mut Segs, reflected: &[Reflected]) -> Result<(), NoMemory>
+    ensures { OnOk result (trace.new ≡ trace.old ++ map (λ path. path.wall) reflected.now) }
+{
+    for path in reflected {
+        trace.push(path.wall())?;
+    }
+    Ok(())
+}
+
+impl Paths {
+    /// The attenuation by screening round the sides in a band.
+    pub(crate) fn lateral_in(&self, band: Band) -> LateralScreening
+        requires { AreInRange self.now }
+        ensures value { both_of result ≡ lateral_at self.now band }
+        ensures bounds { IsLateralScreening result }
+    {
+        LateralScreening {
+            left: self.left[band.place()],
+            right: self.right[band.place()],
+        }
+    }
+}

@@ -1,0 +1,146 @@
+//! Paths by way of reflecting walls (ISO 9613-2, 7.5).
+ghost use Rattle.std.specs.Prelude.{◌≡◌, ◌≤◌, ◌<◌, ◌++◌, length, map, slice_get, Some, IfOk, OnOk};
+ghost use Rattle.std.specs.Option.{option_to_list};
+ghost use Rattle.scene_geom.specs.Reflection.{CanReflect};
+ghost use Rattle.scene_parts.specs.Ranges.{IsHeight};
+ghost use Rattle.scene_parts.specs.Sides.{sides_of};
+ghost use Rattle.scene_geom.specs.Reflection.{unfolded};
+ghost use Rattle.scene_book.specs.Limits.{most_sides};
+ghost use Rattle.fix_interval.specs.Tree.{enc};
+ghost use Rattle.path_calc.specs.Contributions.{reflection_level as level_form};
+ghost use Rattle.path_calc.specs.ReflectedPaths.{along_legs, reflected_in, reflected_by, reflected_paths};
+ghost use Rattle.path_calc.specs.Hearing.{reflected_of, crossings_on};
+ghost use Rattle.path_calc.specs.Propagations.{IsReflectionLevel};
+
+use crate::lengths::reflected_distance;
+use crate::propagation::Between;
+use crate::reflected::Reflected;
+use crate::segments::Seg;
+use enclose_log::lg;
+use fix_interval::{Iv, exact, mul, ratio};
+use image_source::{Leg, Mirror, big_enough_in_bands, leg_crossings, mirror};
+use path_shape::Path;
+use scene_geom::Side;
+use scene_parts::{NoMemory, Obstacle, side_of, sides};
+use sight_cut::{Crossing, Ends};
+use std::alloc::Global;
+
+impl<'a> Between<'a> {
+    /// All paths by way of walls, in the order of obstacles and sides. Obstacles that don't reflect are passed over.
+    pub(crate) fn reflected(&self) -> Result<Vec<Reflected>, NoMemory>
+        requires source { self.now.from.now.h ≡ self.now.ends.hs }
+        requires receiver { self.now.to.now ≡ self.now.ends.hr }
+        requires source_height { IsHeight self.now.ends.hs }
+        requires receiver_height { IsHeight self.now.ends.hr }
+        ensures value { IfOk result (λ found. let book = self.now.scene.now in found.items
+            ≡ map (reflected_of book.globals self.now.ends)
+            (reflected_paths book.obstacles book.zones self.now.ends)) }
+        ensures few { IfOk result (λ found. length found.items ≤ most_sides) }
+    {
+        let mut found = Vec::new(self.alloc);
+        for obstacle in self.scene.obstacles() {
+            self.add_reflected(&mut found, obstacle)?;
+        }
+        Ok(found)
+    }
+
+    /// Adds the paths by way of the sides of an obstacle, of which there are none where it doesn't reflect.
+    fn add_reflected(&self, found: &mut Vec<Reflected>, obstacle: &Obstacle) -> Result<(), NoMemory>
+        requires source { self.now.from.now.h ≡ self.now.ends.hs }
+        requires receiver { self.now.to.now ≡ self.now.ends.hr }
+        requires source_height { IsHeight self.now.ends.hs }
+        requires receiver_height { IsHeight self.now.ends.hr }
+        ensures { OnOk result (let book = self.now.scene.now in found.new.items
+            ≡ found.old.items ++ map (reflected_of book.globals self.now.ends)
+            (reflected_by book.obstacles book.zones self.now.ends obstacle.now)) }
+    {
+        if obstacle.rho == 0 {
+            return Ok(());
+        }
+        for i in 0..sides(obstacle) {
+            self.add_side(found, obstacle, i, side_of(obstacle, i))?;
+        }
+        Ok(())
+    }
+
+    /// Adds the path by way of a side of an obstacle, where the side reflects. Its number is `i`.
+    fn add_side(
+        &self,
+        found: &mut Vec<Reflected>,
+        obstacle: &Obstacle,
+        i: u32,
+        side: Side,
+    ) -> Result<(), NoMemory>
+        requires source { self.now.from.now.h ≡ self.now.ends.hs }
+        requires receiver { self.now.to.now ≡ self.now.ends.hr }
+        requires source_height { IsHeight self.now.ends.hs }
+        requires receiver_height { IsHeight self.now.ends.hr }
+        requires reflects { 0 < obstacle.now.rho }
+        requires number { i < length (sides_of obstacle.now) }
+        requires side { slice_get (sides_of obstacle.now) i ≡ Some side }
+        ensures { OnOk result (let book = self.now.scene.now in found.new.items
+            ≡ found.old.items ++ map (reflected_of book.globals self.now.ends)
+            (option_to_list (reflected_in book.obstacles book.zones self.now.ends obstacle.now side))) }
+    {
+        let Ends { s, hs, r, hr } = self.ends;
+        match mirror(obstacle, i, s, hs, r, hr) {
+            None => Ok(()),
+            Some(mirror) => {
+                found.push(self.by_way_of(obstacle, side, &mirror)?)?;
+                Ok(())
+            }
+        }
+    }
+
+    /// The path by way of a side of an obstacle.
+    fn by_way_of(
+        &self,
+        obstacle: &Obstacle,
+        side: Side,
+        mirror: &Mirror,
+    ) -> Result<Reflected, NoMemory>
+        requires source { self.now.from.now.h ≡ self.now.ends.hs }
+        requires receiver { self.now.to.now ≡ self.now.ends.hr }
+        requires source_height { IsHeight self.now.ends.hs }
+        requires receiver_height { IsHeight self.now.ends.hr }
+        requires reflects { 0 < obstacle.now.rho }
+        requires wall { CanReflect side self.now.ends.s self.now.ends.r }
+        requires mirror { mirror.now ≡ unfolded side self.now.ends.s self.now.ends.r }
+        ensures value { IfOk result (λ found. let book = self.now.scene.now in found
+            ≡ reflected_of book.globals self.now.ends
+            (along_legs book.obstacles book.zones self.now.ends obstacle.now side mirror.now)) }
+    {
+        let ends = self.ends;
+        let path = Path::reflected(side, ends.s, ends.hs, ends.r, ends.hr);
+        let distance = reflected_distance(mirror.plan2, ends.hs, ends.hr);
+        let legs = leg_crossings(self.alloc, self.scene.obstacles(), mirror, ends)?;
+        let crossings = crossings_on_legs(self.alloc, legs.as_slice())?;
+        let path = self.along(&path, distance, crossings.as_slice())?;
+        let level = reflection_level(obstacle.rho);
+        let counts = big_enough_in_bands(side, obstacle.h, mirror, distance);
+        let wall = Seg::Legs(side, ends.s, ends.r);
+        Ok(Reflected::of(wall, path, level, counts))
+    }
+}
+
+/// The crossings of both legs, whatever leg each is of.
+fn crossings_on_legs(alloc: Global, legs: &[(Leg, Crossing)]) -> Result<Vec<Crossing>, NoMemory>
+    ensures { IfOk result (λ crossings. crossings.items ≡ crossings_on legs.now) }
+{
+    let mut crossings = Vec::new(alloc);
+    for (_, crossing) in legs {
+        crossings.push(*crossing)?;
+    }
+    Ok(crossings)
+}
+
+/// 10 lg rho, of what a wall reflects per mille, in dB.
+#[tactic(auto, unfolding(crate::specs::Contributions::reflection_level))]
+fn reflection_level(rho: u16) -> Iv
+    requires reflects { 0 < rho }
+    requires no_more { rho ≤ 1000 }
+    ensures value { result ≡ enc (level_form rho) }
+    ensures bounds { 200 < rho → IsReflectionLevel result }
+{
+    mul(exact(10), lg(ratio(rho.into(), 1000)))
+}
