@@ -1,0 +1,8 @@
+mod Lists
+mod Trace
+mod Quiet
+mod Stays
+mod Untouched
+mod Pieces
+mod Edits
+mod Receivers

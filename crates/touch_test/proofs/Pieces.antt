@@ -1,0 +1,53 @@
+-- What the code asks of a part, in another order than the definitions.
+use Rattle.std.proofs.Common.{◌≡◌, refl, sym, ap, ◌∙◌, Bool, true, false, ◌||◌, List}
+use Rattle.std.specs.Prelude.{Option, Some, None, is_some, IfSome}
+use Rattle.std.specs.Bool.{then_some}
+use Rattle.std.specs.List.{list_any}
+use Rattle.scene_geom.specs.declared.plan.Side.{Side}
+use Rattle.scene_geom.specs.declared.reflection.Reflection.{Reflection}
+use Rattle.scene_geom.specs.Reflection.{unfolded}
+use Rattle.scene_parts.specs.Views.{Obstacle}
+use Rattle.scene_parts.specs.Sides.{sides_of}
+use Rattle.sight_cut.specs.declared.ends.Ends.{Ends}
+use Rattle.image_source.specs.Mirrors.{has_mirror, mirror_of}
+use Rattle.path_calc.specs.declared.segments.Seg.{Seg}
+use Rattle.touch_test.specs.Crossings.{crosses_segment}
+use Rattle.touch_test.specs.Touches.{obstacle_touches}
+use Rattle.touch_test.proofs.Lists.{none-passes, any-or, exchanged}
+
+-- ---- one test or another
+
+pub first-of : (r p q whole : Bool) → r ≡ p → r ≡ true → (p || q) ≡ whole → r ≡ whole
+first-of r true q whole e h is = h ∙ is
+first-of r false q whole e h is = cc
+
+pub second-of : (r s p q whole : Bool) → r ≡ p → r ≡ false → s ≡ q → (p || q) ≡ whole → s ≡ whole
+second-of r s true q whole e h k is = cc
+second-of r s false q whole e h k is = k ∙ is
+
+-- ---- mirrors
+
+there-if : {A : Type 0} (b : Bool) (x : A) → is_some (then_some b x) ≡ b
+there-if true x = refl
+there-if false x = refl
+
+pub mirrors-at : (o : Obstacle) (ends : Ends) (at : Option Side) (side : Side) (found : Option Reflection) (answer : Bool)
+    → at ≡ Some side → answer ≡ is_some found → IfSome at (λ side. found ≡ mirror_of o side ends) → answer ≡ has_mirror o side ends
+mirrors-at o ends None side found answer there e h = cc
+mirrors-at o ends (Some other) side found answer there e h =
+    let same : other ≡ side = cc in
+    e ∙ ap is_some h ∙ there-if (has_mirror o other ends) (unfolded other ends.s ends.r) ∙ ap (λ (side : Side). has_mirror o side ends) same
+
+-- an obstacle that is taken as absorbing mirrors nothing
+pub absorbs : (o : Obstacle) (ends : Ends) → o.rho ≡ 0 → list_any (λ side. has_mirror o side ends) (sides_of o) ≡ false
+absorbs o ends e = none-passes (λ side. has_mirror o side ends) (sides_of o) (λ side i. rw e refl)
+
+-- ---- obstacles
+
+pub by-segments : (ends : Ends) (trace : List Seg) (o : Obstacle)
+    → (list_any (λ segment. list_any (λ side. crosses_segment side segment) (sides_of o)) trace
+    || list_any (λ side. has_mirror o side ends) (sides_of o)) ≡ obstacle_touches ends trace o
+by-segments ends trace o =
+    ap (λ (b : Bool). b || list_any (λ (side : Side). has_mirror o side ends) (sides_of o))
+    (exchanged (λ (segment : Seg) (side : Side). crosses_segment side segment) trace (sides_of o))
+    ∙ sym (any-or (λ (side : Side). list_any (crosses_segment side) trace) (λ (side : Side). has_mirror o side ends) (sides_of o))

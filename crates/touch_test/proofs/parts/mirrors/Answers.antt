@@ -1,0 +1,23 @@
+use Rattle.std.proofs.Common.{ap, sym, ◌∙◌}
+use Rattle.scene_geom.specs.declared.plan.Side.{Side}
+use Rattle.scene_parts.specs.Views.{Obstacle}
+use Rattle.scene_parts.specs.Sides.{sides_of}
+use Rattle.image_source.specs.Mirrors.{has_mirror}
+use Rattle.touch_test.proofs.Lists.{passes-there, fails-too}
+use Rattle.touch_test.proofs.Pieces.{absorbs}
+use Rattle.touch_test.proofs.parts.mirrors.Goals as goal
+
+pub returns-then-obstacle-eq0 : goal.returns-then-obstacle-eq0
+returns-then-obstacle-eq0 c =
+    sym (absorbs c.args.obstacle.now c.args.ends
+    (sym (ap (λ (o : Obstacle). o.rho) c.obstacle.view_is) ∙ c.if-obstacle-eq0.true))
+
+pub returns-then-reflects : goal.returns-then-reflects
+returns-then-reflects c =
+    passes-there (λ (side : Side). has_mirror c.args.obstacle.now side c.args.ends) (sides_of c.args.obstacle.now) c.loop-i.i c.side_of.result _
+    c.side_of.ensures c.reflects.ensures c.if-reflects.true
+
+pub loop-i-preserved : goal.loop-i-preserved
+loop-i-preserved c =
+    fails-too (λ (side : Side). has_mirror c.args.obstacle.now side c.args.ends) (sides_of c.args.obstacle.now) c.loop-i.i c.side_of.result _
+    c.side_of.ensures c.reflects.ensures c.if-reflects.false c.loop-i.invariant

@@ -1,0 +1,4 @@
+pub mod Crossings
+pub mod Numbers
+pub mod Touches
+pub mod Laws

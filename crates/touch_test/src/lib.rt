@@ -1,0 +1,12 @@
+//! Which receivers an edit touches, and the law that all others keep their levels.
+#![tactic(auto)]
+
+mod crossings;
+mod grids;
+pub mod laws;
+mod parts;
+#[cfg(test)]
+mod tests;
+mod touching;
+
+pub use touching::{names_receiver, touches, touches_row};

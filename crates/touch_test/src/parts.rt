@@ -1,0 +1,108 @@
+//! Parts that touch a path or a receiver where they are put or removed.
+ghost use Rattle.std.specs.Prelude.{◌≡◌, ◌<◌, length, slice_get, All, Some};
+ghost use Rattle.std.specs.List.{list_any};
+ghost use Rattle.scene_parts.specs.Sides.{sides_of};
+ghost use Rattle.image_source.specs.Mirrors.{has_mirror};
+ghost use Rattle.path_calc.specs.Segments.{FitsSegment};
+ghost use Rattle.touch_test.specs.Touches as form;
+ghost use Rattle.touch_test.specs.Touches.{bundled};
+
+use crate::crossings::{crosses_any, meets_any_leg, meets_line};
+use image_source::mirror;
+use path_calc::{Bundle, Seg, within};
+use scene_geom::Side;
+use scene_parts::{Obstacle, Part, Receiver, Zone, side_of, sides};
+use sight_cut::Ends;
+
+/// Whether a part touches the path of a bundle where it is put or removed.
+pub(crate) fn part_touches(part: &Part, bundle: &Bundle, receiver: &Receiver) -> bool
+    ensures { result ≡ form.part_touches (bundled receiver.now bundle.now) part.now }
+{
+    match part {
+        Part::Source(source) => source.name.items() == bundle.source.items(),
+        Part::Obstacle(obstacle) => {
+            obstacle_touches(
+                obstacle,
+                ends_between(bundle, receiver),
+                bundle.segs.items(),
+            )
+        }
+        Part::Zone(zone) => {
+            zone_touches(zone, ends_between(bundle, receiver), bundle.segs.items())
+        }
+        Part::Receiver(other) => other.name.items() == receiver.name.items(),
+    }
+}
+
+/// The ends of the path of a bundle.
+fn ends_between(bundle: &Bundle, receiver: &Receiver) -> Ends
+    ensures { result ≡ (bundled receiver.now bundle.now).ends }
+{
+    Ends {
+        s: bundle.at,
+        hs: bundle.h,
+        r: receiver.at,
+        hr: receiver.h,
+    }
+}
+
+/// Whether a side of an obstacle crosses a segment of a trace, or mirrors the source to the receiver.
+fn obstacle_touches(obstacle: &Obstacle, ends: Ends, trace: &[Seg]) -> bool
+    requires { All FitsSegment trace.now }
+    ensures { result ≡ form.obstacle_touches ends trace.now obstacle.now }
+{
+    crosses_any(obstacle, trace) || mirrors(obstacle, ends)
+}
+
+/// Whether a side of an obstacle mirrors a source to a receiver.
+fn mirrors(obstacle: &Obstacle, ends: Ends) -> bool
+    ensures { result ≡ list_any (λ side. has_mirror obstacle.now side ends) (sides_of obstacle.now) }
+{
+    if obstacle.rho == 0 {
+        return false;
+    }
+    for i in 0..sides(obstacle) {
+        if reflects(obstacle, i, side_of(obstacle, i), ends) {
+            return true;
+        }
+    }
+    false
+}
+
+/// Whether side `i` of an obstacle mirrors a source to a receiver.
+fn reflects(obstacle: &Obstacle, i: u32, side: Side, ends: Ends) -> bool
+    requires within { i < length (sides_of obstacle.now) }
+    requires side { slice_get (sides_of obstacle.now) i ≡ Some side }
+    ensures { result ≡ has_mirror obstacle.now side ends }
+{
+    mirror(obstacle, i, ends.s, ends.hs, ends.r, ends.hr).is_some()
+}
+
+/// Whether the outline of a zone meets the direct line or a leg of a trace.
+fn zone_touches(zone: &Zone, ends: Ends, trace: &[Seg]) -> bool
+    requires { All FitsSegment trace.now }
+    ensures { result ≡ form.zone_touches ends trace.now zone.now }
+{
+    let outline = zone.points.items();
+    meets_line(outline, ends.s, ends.r) || meets_any_leg(outline, trace)
+}
+
+/// Whether a part is the receiver of a name.
+pub(crate) fn is_receiver(part: &Part, name: &[u8]) -> bool
+    ensures { result ≡ form.is_receiver name.now part.now }
+{
+    match part {
+        Part::Receiver(receiver) => receiver.name.items() == name,
+        _ => false,
+    }
+}
+
+/// Whether a part is a source within reach of a receiver.
+pub(crate) fn is_source_within(part: &Part, reach: u32, receiver: &Receiver) -> bool
+    ensures { result ≡ form.is_source_within reach receiver.now part.now }
+{
+    match part {
+        Part::Source(source) => within(reach, source.at, receiver.at),
+        _ => false,
+    }
+}
