@@ -1,0 +1,3 @@
+pub mod CommaLemmas
+pub mod DrawnLemmas
+pub mod Lengths

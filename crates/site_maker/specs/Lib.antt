@@ -1,0 +1,5 @@
+pub mod Draws
+pub mod Json
+pub mod Parts
+pub mod Site
+pub mod Making
