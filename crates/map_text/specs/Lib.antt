@@ -1,0 +1,3 @@
+pub mod Rounding
+pub mod Faults
+pub mod Rows

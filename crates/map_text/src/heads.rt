@@ -1,0 +1,44 @@
+//! The rows at the head of settles and looks.
+ghost use Rattle.std.specs.Prelude.{◌≡◌, IfOk};
+ghost use Rattle.map_text.specs.Rows.{head_word, head_row};
+
+use crate::rows::row_text;
+use scene_parts::NoMemory;
+use std::alloc::Global;
+
+/// What was asked for.
+#[derive(Clone, Copy, Debug, PartialEq, Eq)]
+pub enum Head {
+    /// To calculate all levels and to show them.
+    Settle,
+    /// To show what is known.
+    Look,
+}
+
+fn word(head: Head) -> &'static [u8]
+    ensures { result.now ≡ head_word head }
+{
+    match head {
+        Head::Settle => b"settle",
+        Head::Look => b"look",
+    }
+}
+
+/// The row at the head of a settle or a look: the version, and how many receivers there are.
+#[tactic(auto, unfolding(crate::specs::Rows::head_row))]
+pub fn head_text(alloc: Global, kind: Head, version: u64, rows: u32) -> Result<Vec<u8>, NoMemory>
+    ensures { IfOk result (λ text. text.items ≡ head_row kind version rows) }
+{
+    let version = format!(in alloc; "{version}")?;
+    let rows = format!(in alloc; "{rows}")?;
+    row_text(
+        alloc,
+        word(kind),
+        version.as_bytes(),
+        rows.as_bytes(),
+        b"",
+        b"",
+        b"",
+        b"",
+    )
+}

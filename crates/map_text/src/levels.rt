@@ -1,0 +1,141 @@
+//! The rows that show levels.
+ghost use Rattle.std.specs.Prelude.{◌≡◌, ◌<◌, ◌^◌, Some, IfOk, IsSomeAnd, string_bytes};
+ghost use Rattle.energy_sum.specs.Sums.{units_of};
+ghost use Rattle.map_text.specs.Rounding.{IsPrintable, IsPrintableLevel};
+ghost use Rattle.map_text.specs.Rows.{hundredths_text, low_text, high_text, level_row, current_row, band_row, made_row};
+
+use crate::rounding::{high_hundredths, low_hundredths};
+use crate::rows::row_text;
+use fix_interval::Iv;
+use scene_geom::Band;
+use scene_parts::{Name, NoMemory};
+use std::alloc::Global;
+
+#[tactic(auto, unfolding(crate::specs::Rows::hundredths_text))]
+fn decibels(alloc: Global, hundredths: u64) -> Result<String, NoMemory>
+    ensures { IfOk result (λ text. string_bytes text ≡ hundredths_text hundredths) }
+{
+    let whole = hundredths / 100;
+    let tenths = hundredths / 10 % 10;
+    let last = hundredths % 10;
+    Ok(format!(in alloc; "{whole}.{tenths}{last}")?)
+}
+
+/// The text of a low end, which is rounded down.
+fn low_text(alloc: Global, end: i128) -> Result<String, NoMemory>
+    requires { IsPrintable end }
+    ensures { IfOk result (λ text. string_bytes text ≡ low_text (Some end)) }
+{
+    decibels(alloc, low_hundredths(end as u64))
+}
+
+/// The text of a high end, which is rounded up.
+fn high_text(alloc: Global, end: i128) -> Result<String, NoMemory>
+    requires { IsPrintable end }
+    ensures { IfOk result (λ text. string_bytes text ≡ high_text (Some end)) }
+{
+    decibels(alloc, high_hundredths(end as u64))
+}
+
+/// An end that is known to be there.
+fn end_of(end: Option<i128>) -> i128
+    requires { IsSomeAnd end IsPrintable }
+    ensures value { end ≡ Some result }
+    ensures printable { IsPrintable result }
+{
+    end.unwrap()
+}
+
+// A row that shows a level.
+#[tactic(auto, unfolding(crate::specs::Rows::level_row))]
+fn level_text(
+    alloc: Global,
+    kind: &[u8],
+    version: u64,
+    name: &Name,
+    state: &[u8],
+    level: Iv,
+) -> Result<Vec<u8>, NoMemory>
+    requires { IsPrintableLevel level }
+    ensures { IfOk result (λ text. text.items
+        ≡ level_row kind.now version name.now state.now level) }
+{
+    let version = format!(in alloc; "{version}")?;
+    let low = low_text(alloc, end_of(level.low()))?;
+    let high = high_text(alloc, end_of(level.high()))?;
+    row_text(
+        alloc,
+        kind,
+        version.as_bytes(),
+        name.items(),
+        state,
+        b"",
+        low.as_bytes(),
+        high.as_bytes(),
+    )
+}
+
+/// The row of a receiver that is current, with its A-weighted long-term level, whose ends are from 0 dB to below 2^32 dB.
+pub fn current_text(
+    alloc: Global,
+    version: u64,
+    name: &Name,
+    total: Iv,
+) -> Result<Vec<u8>, NoMemory>
+    requires { IsPrintableLevel total }
+    ensures { IfOk result (λ text. text.items ≡ current_row version name.now total) }
+{
+    level_text(alloc, b"row", version, name, b"current", total)
+}
+
+/// The row of a band of a receiver, with its level there, which isn't weighted, and whose ends are from 0 dB to below
+/// 2^32 dB.
+pub fn band_text(
+    alloc: Global,
+    version: u64,
+    name: &Name,
+    band: Band,
+    level: Iv,
+) -> Result<Vec<u8>, NoMemory>
+    requires { IsPrintableLevel level }
+    ensures { IfOk result (λ text. text.items ≡ band_row version name.now band level) }
+{
+    let frequency = band.frequency();
+    let frequency = format!(in alloc; "{frequency}")?;
+    level_text(alloc, b"band", version, name, frequency.as_bytes(), level)
+}
+
+/// The row of the run of a generated site: the last version, how many receivers there are, the number `n` of the site,
+/// how many of its lines were refused, and the least low end and the greatest high end of the last settle, in units of
+/// 2^-32 dB.
+#[tactic(auto, unfolding(crate::specs::Rows::made_row))]
+pub fn made_text(
+    alloc: Global,
+    version: u64,
+    rows: u32,
+    n: u32,
+    refused: u64,
+    low: i128,
+    high: i128,
+) -> Result<Vec<u8>, NoMemory>
+    requires low { IsPrintable low }
+    requires high { IsPrintable high }
+    ensures { IfOk result (λ text. text.items ≡ made_row version rows n refused low high) }
+{
+    let version = format!(in alloc; "{version}")?;
+    let rows = format!(in alloc; "{rows}")?;
+    let n = format!(in alloc; "{n}")?;
+    let refused = format!(in alloc; "{refused}")?;
+    let low = low_text(alloc, low)?;
+    let high = high_text(alloc, high)?;
+    row_text(
+        alloc,
+        b"made",
+        version.as_bytes(),
+        rows.as_bytes(),
+        n.as_bytes(),
+        refused.as_bytes(),
+        low.as_bytes(),
+        high.as_bytes(),
+    )
+}
