@@ -1,0 +1,7 @@
+mod Spelling
+mod Meaning
+mod Rows
+mod Walking
+mod Reading
+mod Ending
+mod Digits

@@ -1,0 +1,10 @@
+//! The words of the command line, and what they say.
+#![tactic(auto)]
+
+mod line;
+mod matching;
+#[cfg(test)]
+mod tests;
+mod values;
+
+pub use line::{CommandLine, WordsFault, command_line};
