@@ -4,4 +4,4 @@ pub mod Versions
 pub mod Refusing
 pub mod Steps
 pub mod Told
-pub mod Rounding
+pub mod Sites

@@ -1,6 +1,6 @@
 -- Which faults a status tells, and that a run without them comes to its end.
 use Rattle.std.proofs.Common.{◌≡◌, ◌≢◌, ◌≤◌, ℕ, Bool, true, false, List, [], ◌∷◌, ◌++◌, length, refl, ap, sym, ◌∙◌, subst, arith, length-append}
-use Rattle.std.specs.Prelude.{Option, Some, None, Err}
+use Rattle.std.specs.Prelude.{Option, Some, None, Err, IfSome}
 use Rattle.map_io.specs.Causes.{Rose}
 use Rattle.map_io.specs.declared.reader.Stop.{Stop}
 use Rattle.map_io.specs.declared.reader.Stop.TheVariants.{Going, AtEnd, AfterFault, AtLimit}
@@ -13,7 +13,10 @@ use Rattle.noise_map.specs.declared.status.Status.{Status}
 use Rattle.noise_map.specs.declared.status.Status.TheVariants as status
 use Rattle.noise_map.specs.declared.project.Project.{Project}
 use Rattle.noise_map.specs.Taking.{CausedByWriteFault}
-use Rattle.noise_map.specs.Outcome.{Outcome, CoversLimit, TellsFault, IsUnbroken, RunsToTheEnd}
+use Rattle.noise_map.specs.Outcome.{Outcome, CoversLimit, TellsFault, IsUnbroken, RunsToTheEnd, OutcomeOf, RunOutcome}
+use Rattle.noise_map.specs.Making.{Makes}
+use Rattle.command_words.specs.declared.line.CommandLine.{CommandLine}
+use Rattle.noise_map.proofs.Steps.{never_begun}
 use Rattle.noise_map.specs.Progress.{status_of, ending_of, HandedOut, Progress}
 
 same_some : {X : Type 0} {x y : X} → Some x ≡ Some y → x ≡ y
@@ -114,3 +117,38 @@ pub complete : (bands : Bool) (end : Status) (count : ℕ) (left after taken_bef
 complete bands end count None after taken_before taken_after reads reads_after writes writes_after outcome read write no_read no_write = tt
 complete bands end count (Some bytes) after taken_before taken_after reads reads_after writes writes_after outcome read write no_read no_write =
     complete_within bands end count bytes after taken_before taken_after reads reads_after writes writes_after outcome read write no_read no_write
+
+made_within : (number : ℕ) (end : Status) (count : ℕ) (bytes : List ℕ) (taken_before taken_after : Option (List ℕ)) (writes writes_after : ℕ)
+    → Makes number end count taken_before taken_after → TellsFault status.WriteFault end writes writes_after → (Rose writes writes_after → ⊥) → IsUnbroken end
+made_within number status.Done count bytes taken_before taken_after writes writes_after made write no_write = tt
+made_within number status.SomeRefused count bytes taken_before taken_after writes writes_after made write no_write = tt
+made_within number status.Usage count bytes taken_before taken_after writes writes_after made write no_write = made
+made_within number status.ReadFault count bytes taken_before taken_after writes writes_after made write no_write = made
+made_within number status.WriteFault count bytes taken_before taken_after writes writes_after made write no_write = no_write (write.rose refl)
+made_within number status.NoMemory count bytes taken_before taken_after writes writes_after made write no_write = tt
+made_within number status.InputLimit count bytes taken_before taken_after writes writes_after made write no_write = made
+
+made_complete : (number : ℕ) (end : Status) (count : ℕ) (left taken_before taken_after : Option (List ℕ)) (writes writes_after : ℕ)
+    → Makes number end count taken_before taken_after → TellsFault status.WriteFault end writes writes_after → (Rose writes writes_after → ⊥) → RunsToTheEnd end left
+made_complete number end count None taken_before taken_after writes writes_after made write well = tt
+made_complete number end count (Some bytes) taken_before taken_after writes writes_after made write well = λ few.
+    made_within number end count bytes taken_before taken_after writes writes_after made write well
+
+-- over the input, and over a generated site
+pub asked_complete : (make : Option ℕ) (bands : Bool) (end : Status) (count : ℕ) (left after taken_before taken_after : Option (List ℕ)) (reads reads_after writes writes_after : ℕ)
+    → OutcomeOf make bands end count left after taken_before taken_after
+    → TellsFault status.ReadFault end reads reads_after → TellsFault status.WriteFault end writes writes_after
+    → (Rose reads reads_after → ⊥) → (Rose writes writes_after → ⊥) → RunsToTheEnd end left
+asked_complete None bands end count left after taken_before taken_after reads reads_after writes writes_after outcome read write no_read no_write =
+    complete bands end count left after taken_before taken_after reads reads_after writes writes_after outcome read write no_read no_write
+asked_complete (Some number) bands end count left after taken_before taken_after reads reads_after writes writes_after outcome read write no_read no_write =
+    made_complete number end count left taken_before taken_after writes writes_after outcome write no_write
+
+-- a run that has not begun
+pub none_asked : (make : Option ℕ) (bands : Bool) (left taken : Option (List ℕ)) → OutcomeOf make bands status.NoMemory 0 left left taken taken
+none_asked None bands left taken = never_begun bands left taken
+none_asked (Some number) bands left taken = (omega arith, refl)
+
+pub asked_or_not : (asked : Option CommandLine) (left taken : Option (List ℕ)) → IfSome asked (λ line. RunOutcome line status.NoMemory 0 left left taken taken)
+asked_or_not None left taken = tt
+asked_or_not (Some line) left taken = none_asked line.make line.bands left taken

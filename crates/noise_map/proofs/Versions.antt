@@ -12,8 +12,8 @@ use Rattle.command_lines.specs.declared.faults.LineFault.{LineFault}
 use Rattle.command_lines.specs.Lines.{command_of}
 use Rattle.map_io.specs.Reading.{line_limit}
 use Rattle.noise_map.specs.declared.project.Project.{Project}
-use Rattle.noise_map.specs.declared.refusal.Refusal.TheVariants.{LongLine, NotBuilt}
-use Rattle.noise_map.specs.Run.{Effect, no_effect, refusal, apply_effect, edit_effect, command_effect, answer_effect, is_blank, is_unbuilt, line_effect, line_course}
+use Rattle.map_text.specs.declared.refusals.Refusal.TheVariants.{LongLine}
+use Rattle.noise_map.specs.Run.{Effect, no_effect, refusal, apply_effect, edit_effect, command_effect, answer_effect, is_blank, line_effect, line_course}
 
 either : (test : Bool) (one other : Effect) (n : ℕ) → one.project.version ≤ n → other.project.version ≤ n → (if test then one else other).project.version ≤ n
 either true one other n h k = h
@@ -25,9 +25,7 @@ apply_effect-version project (Err fault) = omega arith
 
 edit_effect-version : (project : Project) (edit : Edit) → (edit_effect project edit).project.version ≤ project.version + 1
 unfolding edit_effect
-edit_effect-version project edit =
-    either (is_unbuilt edit) (refusal project NotBuilt) (apply_effect project (apply_of edit project.scene)) (project.version + 1)
-    (omega arith) (apply_effect-version project (apply_of edit project.scene))
+edit_effect-version project edit = apply_effect-version project (apply_of edit project.scene)
 
 command_effect-version : (project : Project) (command : Command) → (command_effect project command).project.version ≤ project.version + 1
 unfolding command_effect
@@ -40,7 +38,7 @@ unfolding answer_effect
 answer_effect-version project (Ok command) = command_effect-version project command
 answer_effect-version project (Err fault) = omega arith
 
-line_effect-version : (project : Project) (line : List ℕ) → (line_effect project line).project.version ≤ project.version + 1
+pub line_effect-version : (project : Project) (line : List ℕ) → (line_effect project line).project.version ≤ project.version + 1
 unfolding line_effect
 line_effect-version project line =
     either (nat_lt line_limit (length line)) (refusal project LongLine) (if is_blank line then no_effect project else answer_effect project (command_of line)) (project.version + 1)

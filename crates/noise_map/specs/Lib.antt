@@ -1,10 +1,9 @@
-pub mod Faults
-pub mod Rows
 pub mod Heard
-pub mod Level
 pub mod Run
 pub mod Outcome
 pub mod Taking
 pub mod Progress
 pub mod Words
+pub mod Making
+pub mod FirstLine
 pub mod Status

@@ -1,6 +1,6 @@
 -- What a run promises for each of its statuses.
 use Rattle.std.specs.Prelude.{◌≡◌, ◌≢◌, ℕ, ◌≤◌, ◌⊎◌, Bool, true, false, List}
-use Rattle.std.specs.Prelude.{[], ◌∷◌, ◌++◌, length, take, Option, IfSome}
+use Rattle.std.specs.Prelude.{[], ◌∷◌, ◌++◌, length, take, Option, None, Some, IfSome}
 use Rattle.std.specs.Io.KnownBytes.{Consumes, Appends, IsAtEnd}
 use Rattle.map_io.specs.Causes.{Rose}
 use Rattle.map_io.specs.Lines.{lines, whole_lines, all_but_last, ended}
@@ -8,6 +8,8 @@ use Rattle.map_io.specs.Reading.{input_limit, read_size}
 use Rattle.noise_map.specs.declared.status.Status.{Status}
 use Rattle.noise_map.specs.declared.status.Status.TheVariants.{Done, SomeRefused, Usage}
 use Rattle.noise_map.specs.declared.status.Status.TheVariants.{ReadFault, WriteFault, NoMemory, InputLimit}
+use Rattle.command_words.specs.declared.line.CommandLine.{CommandLine}
+use Rattle.noise_map.specs.Making.{Makes}
 use Rattle.noise_map.specs.Run.{Course, empty_project, lines_course}
 
 -- what these lines do, from an empty scene on, where the rows of bands are asked for or not
@@ -88,7 +90,7 @@ TellsRefused WriteFault refused = Unit {0}
 TellsRefused NoMemory refused = Unit {0}
 TellsRefused InputLimit refused = Unit {0}
 
--- A run over the words of a command line: it did some lines of the input, and wrote their rows.
+-- A run over an input: it did some lines of it, and wrote their rows.
 pub record Outcome (bands : Bool) (status : Status) (count : ℕ)
     (left_before left_after taken_before taken_after : Option (List ℕ)) : Type 0 where
   pub done : List (List ℕ)
@@ -96,6 +98,19 @@ pub record Outcome (bands : Bool) (status : Status) (count : ℕ)
   pub covers : Covers status left_before left_after done
   pub refused : TellsRefused status (run_of bands done).refused
   pub writes : Writes bands status taken_before taken_after done
+
+-- A run over the words of a command line: over the input, or over a generated site where one is asked for
+abbrev pub OutcomeOf : Option ℕ → Bool → Status → ℕ → Option (List ℕ) → Option (List ℕ) → Option (List ℕ)
+    → Option (List ℕ) → Type 0
+OutcomeOf None bands status count left_before left_after taken_before taken_after =
+    Outcome bands status count left_before left_after taken_before taken_after
+OutcomeOf (Some number) bands status count left_before left_after taken_before taken_after =
+    Makes number status count taken_before taken_after
+
+abbrev pub RunOutcome : CommandLine → Status → ℕ → Option (List ℕ) → Option (List ℕ) → Option (List ℕ)
+    → Option (List ℕ) → Type 0
+RunOutcome asked status count left_before left_after taken_before taken_after =
+    OutcomeOf asked.make asked.bands status count left_before left_after taken_before taken_after
 
 -- This fault is the status only where its count rose in this run, and with every other status the count is as before.
 pub record TellsFault (fault status : Status) (before after : ℕ) : Type 0 where

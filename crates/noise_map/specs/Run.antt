@@ -1,31 +1,29 @@
 -- What lines do to a scene, and what they write.
-use Rattle.std.specs.Prelude.{ℕ, ◌+◌, Bool, true, false, ◌||◌, ◌==◌, nat_lt, List, [], ◌∷◌, ◌++◌}
-use Rattle.std.specs.Prelude.{length, Option, Result, Ok, Err, if◌then◌else◌, slice_index_or, unwrap_or}
+use Rattle.std.specs.Prelude.{ℕ, ◌+◌, Bool, true, false, ◌||◌, ◌==◌, nat_lt, List, [], ◌∷◌, ◌++◌, decimal, codes}
+use Rattle.std.specs.Prelude.{length, Option, Result, Ok, Err, if◌then◌else◌}
 use Rattle.std.specs.List.{list_all, flat_map}
-use Rattle.scene_parts.specs.Views.{Receiver, Setting}
+use Rattle.scene_parts.specs.Views.{Receiver}
 use Rattle.scene_parts.specs.declared.parts.Part.{Part}
-use Rattle.scene_parts.specs.declared.parts.Part.TheVariants as parts
 use Rattle.scene_book.specs.Book.{Book, empty_book}
 use Rattle.scene_book.specs.Applying.{apply_of}
 use Rattle.scene_book.specs.declared.edits.Edit.{Edit}
-use Rattle.scene_book.specs.declared.edits.Edit.TheVariants as edits
 use Rattle.scene_book.specs.declared.edits.EditFault.{EditFault}
 use Rattle.command_lines.specs.declared.commands.Command.{Command}
 use Rattle.command_lines.specs.declared.commands.Command.TheVariants as commands
 use Rattle.command_lines.specs.declared.faults.LineFault.{LineFault}
 use Rattle.command_lines.specs.Lines.{command_of}
-use Rattle.scene_geom.specs.Bands.{all_bands, place_of, frequency_of}
+use Rattle.scene_geom.specs.Bands.{all_bands}
 use Rattle.scene_geom.specs.declared.band.Band.{Band}
-use Rattle.path_calc.specs.Levels.{Levels}
+use Rattle.path_calc.specs.Levels.{Levels, level_in}
 use Rattle.path_calc.specs.Show.{show_of}
-use Rattle.fix_interval.specs.Interval.{Interval}
 use Rattle.map_io.specs.Reading.{line_limit}
 use Rattle.noise_map.specs.declared.project.Project.{Project}
-use Rattle.noise_map.specs.declared.refusal.Refusal.{Refusal}
-use Rattle.noise_map.specs.declared.refusal.Refusal.TheVariants.{LongLine, Line, NotBuilt, Edit as OfEdit}
+use Rattle.map_text.specs.declared.heads.Head.TheVariants.{Settle}
+use Rattle.map_text.specs.declared.refusals.Refusal.{Refusal}
+use Rattle.map_text.specs.declared.refusals.Refusal.TheVariants.{LongLine, Line, Edit as OfEdit}
+use Rattle.map_text.specs.Rows.{head_row, current_row, band_row, refused_row}
 use Rattle.noise_map.specs.declared.answer.Answer.{Answer}
-use Rattle.noise_map.specs.declared.answer.Answer.TheVariants.{Nothing, Settled, Refused}
-use Rattle.noise_map.specs.Rows.{settle_row, level_row, band_level_row, refused_row}
+use Rattle.noise_map.specs.declared.answer.Answer.TheVariants.{Nothing, Settled, Refused, NotBuilt}
 
 -- a scene without parts, of version 0
 abbrev pub empty_project : Project
@@ -46,21 +44,17 @@ refusal project fault = record { project = project; answer = Refused fault }
 
 -- ---- settles
 
--- the level of a band
-abbrev pub level_in : Levels → Band → Interval
-level_in levels band = slice_index_or levels.bands (place_of band) levels.total
+-- the row of a band of a receiver
+abbrev pub row_of_band : ℕ → List ℕ → Levels → Band → List ℕ
+row_of_band version name levels band = band_row version name band (level_in band levels)
 
--- the row of one of its bands
-abbrev pub band_row : ℕ → List ℕ → Levels → Band → List ℕ
-band_row version name levels band = band_level_row version name (frequency_of band) (level_in levels band)
-
--- the rows of its bands, where they are asked for
+-- those of all its bands, where they are asked for
 abbrev pub band_rows : Bool → ℕ → List ℕ → Levels → List ℕ
 band_rows false version name levels = []
-band_rows true version name levels = flat_map (band_row version name levels) all_bands
+band_rows true version name levels = flat_map (row_of_band version name levels) all_bands
 
 abbrev pub level_rows : Bool → ℕ → List ℕ → Levels → List ℕ
-level_rows bands version name levels = level_row version name levels.total ++ band_rows bands version name levels
+level_rows bands version name levels = current_row version name levels.total ++ band_rows bands version name levels
 
 -- the rows of a receiver: the levels that the whole scene gives there
 unfoldable pub receiver_rows : Bool → ℕ → Book → Receiver → List ℕ
@@ -69,25 +63,9 @@ receiver_rows bands version book r = level_rows bands version r.name (show_of bo
 -- the rows of a settle: its head, and those of each receiver
 unfoldable pub settle_rows : Bool → ℕ → Book → List ℕ
 settle_rows bands version book =
-    settle_row version (length book.receivers) ++ flat_map (receiver_rows bands version book) book.receivers
+    head_row Settle version (length book.receivers) ++ flat_map (receiver_rows bands version book) book.receivers
 
 -- ---- edits
-
--- what the calculation doesn't have yet: barriers and buildings that reflect, and the meteorological correction
-abbrev pub is_unbuilt_part : Part → Bool
-is_unbuilt_part (parts.Source source) = false
-is_unbuilt_part (parts.Obstacle obstacle) = nat_lt 0 obstacle.rho
-is_unbuilt_part (parts.Zone zone) = false
-is_unbuilt_part (parts.Receiver receiver) = false
-
-abbrev pub is_unbuilt_setting : Setting → Bool
-is_unbuilt_setting setting = nat_lt 0 (unwrap_or setting.c0 0)
-
-abbrev pub is_unbuilt : Edit → Bool
-is_unbuilt (edits.Put part) = is_unbuilt_part part
-is_unbuilt (edits.Remove name) = false
-is_unbuilt (edits.Grid grid) = false
-is_unbuilt (edits.Set setting) = is_unbuilt_setting setting
 
 -- the scene after an edit is the next version; a refused edit changes nothing
 abbrev pub apply_effect : Project → Result (Book × Option Part) EditFault → Effect
@@ -95,8 +73,7 @@ apply_effect project (Ok after) = no_effect (record { scene = after.0; version =
 apply_effect project (Err fault) = refusal project (OfEdit fault)
 
 unfoldable pub edit_effect : Project → Edit → Effect
-edit_effect project edit =
-    if is_unbuilt edit then refusal project NotBuilt else apply_effect project (apply_of edit project.scene)
+edit_effect project edit = apply_effect project (apply_of edit project.scene)
 
 -- ---- lines
 
@@ -104,7 +81,7 @@ edit_effect project edit =
 unfoldable pub command_effect : Project → Command → Effect
 command_effect project (commands.Edit edit) = edit_effect project edit
 command_effect project commands.Settle = record { project = project; answer = Settled }
-command_effect project commands.Look = refusal project NotBuilt
+command_effect project commands.Look = record { project = project; answer = NotBuilt }
 
 -- spaces, tabs and carriage returns alone
 abbrev pub is_blank_byte : ℕ → Bool
@@ -131,16 +108,22 @@ pub record Course : Type 0 where
   pub text : List ℕ
   pub refused : Bool
 
+-- the row of a line that asks for what the program doesn't do yet
+unfoldable pub unbuilt_row : ℕ → ℕ → List ℕ
+unbuilt_row version line = codes "refused," ++ (decimal version ++ 44 ∷ (decimal line ++ codes ",NotBuilt,,,\n"))
+
 -- the rows of the line of this number, after which the scene is this
 abbrev pub rows_of : Bool → ℕ → Project → Answer → List ℕ
 rows_of bands number project Nothing = []
 rows_of bands number project Settled = settle_rows bands project.version project.scene
 rows_of bands number project (Refused fault) = refused_row project.version number fault
+rows_of bands number project NotBuilt = unbuilt_row project.version number
 
 abbrev pub is_refusal : Answer → Bool
 is_refusal Nothing = false
 is_refusal Settled = false
 is_refusal (Refused fault) = true
+is_refusal NotBuilt = true
 
 abbrev pub course_of : Bool → ℕ → Effect → Course
 course_of bands number effect = record {

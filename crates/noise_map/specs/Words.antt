@@ -1,10 +1,12 @@
--- The words of a command line.
-use Rattle.std.specs.Prelude.{ℕ, List, [], ◌∷◌, Bool, true, false, Option, Some, None, if◌then◌else◌, bytes_eq, codes}
+-- What the words of the command line ask for.
+use Rattle.std.specs.Prelude.{ℕ, List, Option, Some, None, if◌then◌else◌, option_and_then}
+use Rattle.command_words.specs.Words.{command_line_of}
+use Rattle.command_words.specs.declared.line.CommandLine.{CommandLine}
 
--- Whether the rows of bands are asked for, where the words are a command line: the program's name, whatever it is, and
--- then nothing, or `--bands` once.
-abbrev pub bands_asked : List (List ℕ) → Option Bool
-bands_asked [] = None
-bands_asked (name ∷ []) = Some false
-bands_asked (name ∷ word ∷ []) = if bytes_eq word (codes "--bands") then Some true else None
-bands_asked (name ∷ word ∷ next ∷ more) = None
+-- that for which there is something to do: not yet for the rows of counts
+abbrev pub unless_counts : CommandLine → Option CommandLine
+unless_counts line = if line.counts then None else Some line
+
+-- what the words ask for, where they are a command line
+abbrev pub asked_by : List (List ℕ) → Option CommandLine
+asked_by words = option_and_then unless_counts (command_line_of words)

@@ -2,7 +2,7 @@
 ghost use Rattle.std.specs.Prelude.{◌≡◌};
 ghost use Rattle.noise_map.specs.Run.{is_refusal};
 
-use crate::refusal::Refusal;
+use map_text::Refusal;
 
 /// What is shown of a line that was done.
 #[derive(Debug, Drop)]
@@ -13,6 +13,8 @@ pub enum Answer {
     Settled,
     /// The row of its refusal.
     Refused(Refusal),
+    /// The row of a refusal, since it asks for what this program doesn't do yet.
+    NotBuilt,
 }
 
 impl Answer {
@@ -20,6 +22,6 @@ impl Answer {
     pub fn is_refusal(&self) -> bool
         ensures { result ≡ is_refusal self.now }
     {
-        matches!(self, Answer::Refused(_))
+        matches!(self, Answer::Refused(_) | Answer::NotBuilt)
     }
 }

@@ -2,17 +2,17 @@
 #![tactic(auto)]
 
 mod answer;
-mod faults;
 mod heard;
-mod laws;
-mod level;
+mod make;
+mod making;
 mod project;
-mod refusal;
 mod rows;
 mod run;
 mod status;
 mod step;
 mod stopped;
+#[cfg(test)]
+mod test_make;
 #[cfg(test)]
 mod test_rows;
 #[cfg(test)]
@@ -20,10 +20,11 @@ mod test_screens;
 #[cfg(test)]
 mod test_sides;
 #[cfg(test)]
+mod test_walls;
+#[cfg(test)]
+mod test_weather;
+#[cfg(test)]
 mod tests;
-mod texts;
-mod unbuilt;
-mod words;
 
 use crate::status::{Report, Status};
 use map_io::{OpenGate, StdSink, StdSource};

@@ -1,19 +1,53 @@
 //! The rows of a line on their way to the sink.
 ghost use Rattle.std.specs.Prelude.{◌≡◌, flat_map, length};
 ghost use Rattle.noise_map.specs.Taking.{Takes, CausedByWriteFault, IsOfSameLine};
-ghost use Rattle.noise_map.specs.Rows.{refused_row, settle_row};
-ghost use Rattle.noise_map.specs.Run.{band_row, band_rows, level_rows, receiver_rows, settle_rows};
+ghost use Rattle.std.specs.Prelude.{IfOk, string_bytes};
+ghost use Rattle.map_text.specs.Rows.{head_row, current_row, refused_row};
+ghost use Rattle.map_text.specs.declared.heads.Head.TheVariants as heads;
+ghost use Rattle.noise_map.specs.Run.{row_of_band, band_rows, level_rows, receiver_rows, settle_rows, unbuilt_row};
 
-use crate::faults::refused_text;
 use crate::heard::PreparedScene;
-use crate::refusal::Refusal;
 use crate::stopped::Stopped;
-use crate::texts::{band_text, level_text, settle_text};
 use map_io::{Sink, put_all};
+use map_text::{Head, Refusal, band_text, current_text, head_text, refused_text};
 use path_calc::{Band, Levels};
 use scene_book::Scene;
-use scene_parts::Receiver;
+use scene_parts::{Name, NoMemory, Receiver};
 use std::alloc::Global;
+
+/// The row of a line that asks for what this program doesn't do yet, by the line's number from 1 and the version then.
+#[tactic(auto, unfolding(crate::specs::Run::unbuilt_row))]
+fn unbuilt_text(alloc: Global, version: u64, line: u64) -> Result<String, NoMemory>
+    ensures { IfOk result (λ text. string_bytes text ≡ unbuilt_row version line) }
+{
+    Ok(format!(in alloc; "refused,{version},{line},NotBuilt,,,\n")?)
+}
+
+/// The row of a receiver that is current.
+fn receiver_text(
+    alloc: Global,
+    version: u64,
+    name: &Name,
+    levels: &Levels,
+) -> Result<Vec<u8>, NoMemory>
+    ensures { IfOk result (λ text. text.items ≡ current_row version name.now levels.now.total) }
+{
+    current_text(alloc, version, name, levels.total)
+}
+
+/// The row of a band of a receiver.
+fn text_of_band(
+    alloc: Global,
+    version: u64,
+    name: &Name,
+    levels: &Levels,
+    band: Band,
+) -> Result<Vec<u8>, NoMemory>
+    ensures { IfOk result (λ text. text.items ≡ row_of_band version name.now levels.now band) }
+{
+    let level = levels.bands[band.place()];
+    band_text(alloc, version, name, band, level)
+}
 
 /// Where the rows of one line go, and what they show of it: the version and the line's number from 1.
 #[derive(Drop)]
@@ -47,6 +81,17 @@ impl<'a, K: Sink> Rows<'a, K> {
         self.put(row.as_slice())
     }
 
+    /// Writes the row of a line that asks for what this program doesn't do yet.
+    pub fn refuse_unbuilt(&mut self) -> Result<(), Stopped>
+        ensures taken { Takes result (K.taken self.old.out.now) (K.taken self.new.out.now)
+            (unbuilt_row self.old.version self.old.number) }
+        ensures cause { CausedByWriteFault result (K.faults self.old.out.now) (K.faults self.new.out.now) }
+        ensures same { IsOfSameLine self.old self.new }
+    {
+        let row = unbuilt_text(self.alloc, self.version, self.number)?;
+        self.put(row.as_bytes())
+    }
+
     /// Writes the rows of a settle, each as soon as it is there.
     #[tactic(auto, unfolding(crate::specs::Run::settle_rows))]
     pub fn settle(&mut self, bands: bool, scene: &Scene) -> Result<(), Stopped>
@@ -62,11 +107,12 @@ impl<'a, K: Sink> Rows<'a, K> {
 
     fn head(&mut self, scene: &Scene) -> Result<(), Stopped>
         ensures taken { Takes result (K.taken self.old.out.now) (K.taken self.new.out.now)
-            (settle_row self.old.version (length scene.now.receivers)) }
+            (head_row heads.Settle self.old.version (length scene.now.receivers)) }
         ensures cause { CausedByWriteFault result (K.faults self.old.out.now) (K.faults self.new.out.now) }
         ensures same { IsOfSameLine self.old self.new }
     {
-        let head = settle_text(self.alloc, self.version, scene.receivers().len())?;
+        let count = scene.receivers().len() as u32;
+        let head = head_text(self.alloc, Head::Settle, self.version, count)?;
         self.put(head.as_slice())
     }
 
@@ -97,22 +143,22 @@ impl<'a, K: Sink> Rows<'a, K> {
         ensures same { IsOfSameLine self.old self.new }
     {
         let levels = prepared.levels_at(self.alloc, receiver)?;
-        self.levels(bands, receiver.name.items(), &levels)
+        self.levels(bands, &receiver.name, &levels)
     }
 
     /// Writes the row of a receiver, and those of its bands where they are asked for.
-    fn levels(&mut self, bands: bool, name: &[u8], levels: &Levels) -> Result<(), Stopped>
+    fn levels(&mut self, bands: bool, name: &Name, levels: &Levels) -> Result<(), Stopped>
         ensures taken { Takes result (K.taken self.old.out.now) (K.taken self.new.out.now)
             (level_rows bands self.old.version name.now levels.now) }
         ensures cause { CausedByWriteFault result (K.faults self.old.out.now) (K.faults self.new.out.now) }
         ensures same { IsOfSameLine self.old self.new }
     {
-        let row = level_text(self.alloc, self.version, name, levels)?;
+        let row = receiver_text(self.alloc, self.version, name, levels)?;
         self.put(row.as_slice())?;
         self.bands_asked(bands, name, levels)
     }
 
-    fn bands_asked(&mut self, bands: bool, name: &[u8], levels: &Levels) -> Result<(), Stopped>
+    fn bands_asked(&mut self, bands: bool, name: &Name, levels: &Levels) -> Result<(), Stopped>
         ensures taken { Takes result (K.taken self.old.out.now) (K.taken self.new.out.now)
             (band_rows bands self.old.version name.now levels.now) }
         ensures cause { CausedByWriteFault result (K.faults self.old.out.now) (K.faults self.new.out.now) }
@@ -126,14 +172,14 @@ impl<'a, K: Sink> Rows<'a, K> {
         }
     }
 
-    fn bands(&mut self, bands: &[Band], name: &[u8], levels: &Levels) -> Result<(), Stopped>
+    fn bands(&mut self, bands: &[Band], name: &Name, levels: &Levels) -> Result<(), Stopped>
         ensures taken { Takes result (K.taken self.old.out.now) (K.taken self.new.out.now)
-            (flat_map (band_row self.old.version name.now levels.now) bands.now) }
+            (flat_map (row_of_band self.old.version name.now levels.now) bands.now) }
         ensures cause { CausedByWriteFault result (K.faults self.old.out.now) (K.faults self.new.out.now) }
         ensures same { IsOfSameLine self.old self.new }
     {
         for band in bands {
-            let row = band_text(self.alloc, self.version, name, levels, *band)?;
+            let row = text_of_band(self.alloc, self.version, name, levels, *band)?;
             self.put(row.as_slice())?;
         }
         Ok(())

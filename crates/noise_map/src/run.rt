@@ -2,19 +2,22 @@
 ghost use Rattle.std.specs.Prelude.{◌≡◌, ◌≢◌, ◌↔◌, ◌-◌, ◌≤◌, ◌<◌, ◌^◌, ℕ, List, length, map, string_bytes, None, IfSome};
 ghost use Rattle.map_io.specs.Causes.{Rose};
 ghost use Rattle.map_io.specs.Reading.{fresh};
-ghost use Rattle.noise_map.specs.Words as command_words;
+ghost use Rattle.std.specs.Prelude.{◌⊎◌, IsSome};
+ghost use Rattle.command_words.specs.Answers.{ReadsUnlessMemory};
+ghost use Rattle.noise_map.specs.Words.{asked_by};
 ghost use Rattle.noise_map.specs.Run.{empty_project, line_effect, line_course, rows_of};
 ghost use Rattle.noise_map.specs.Taking.{Takes, HasCourse, HasEffect, CausedByWriteFault};
 ghost use Rattle.noise_map.specs.Progress.{ending_of, status_of, IsLineOf, IsTextOf};
-ghost use Rattle.noise_map.specs.Outcome.{Outcome, TellsFault, RunsToTheEnd};
+ghost use Rattle.noise_map.specs.Outcome.{Outcome, RunOutcome, TellsFault, RunsToTheEnd};
 
 use crate::answer::Answer;
+use crate::make::make;
 use crate::project::Project;
 use crate::rows::Rows;
 use crate::status::{Report, Status};
 use crate::step::{do_line, refuse_long};
 use crate::stopped::Stopped;
-use crate::words::bands_asked;
+use command_words::{CommandLine, WordsFault, command_line};
 use map_io::{Gate, LineReader, Next, Sink, Source};
 use scene_parts::NoMemory;
 use std::alloc::Global;
@@ -64,6 +67,7 @@ fn show<K: Sink>(
         Answer::Nothing => Ok(()),
         Answer::Settled => rows.settle(bands, &project.scene),
         Answer::Refused(fault) => rows.refuse(fault),
+        Answer::NotBuilt => rows.refuse_unbuilt(),
     }
 }
 
@@ -166,8 +170,27 @@ fn run_lines<S: Source, K: Sink>(alloc: Global, bands: bool, input: &mut S, out:
     do_lines(alloc, bands, &mut reader, &mut project, input, out)
 }
 
+/// What there is to do, and where: a run over the input, or over a generated site in its place.
+fn run_asked<S: Source, K: Sink>(
+    alloc: Global,
+    asked: CommandLine,
+    input: &mut S,
+    out: &mut K,
+) -> Report
+    ensures outcome { RunOutcome asked result.status result.lines
+        (S.left input.old) (S.left input.new) (K.taken out.old) (K.taken out.new) }
+    ensures read_fault { TellsFault Status.ReadFault result.status (S.faults input.old) (S.faults input.new) }
+    ensures write_fault { TellsFault Status.WriteFault result.status (K.faults out.old) (K.faults out.new) }
+    ensures unread { IsSome asked.make → input.new ≡ input.old }
+{
+    match asked.make {
+        Some(number) => make(alloc, number, out),
+        None => run_lines(alloc, asked.bands, input, out),
+    }
+}
+
 /// All that the program does: it reads the words of the command line, then line after line of the input, and writes the
-/// rows of each line before the next is read.
+/// rows of each line before the next is read; or it does the lines of a generated site, and writes one row.
 pub fn run<S: Source + Send, K: Sink + Send, G: Gate + Sync>(
     alloc: Global,
     words: &[String],
@@ -176,31 +199,49 @@ pub fn run<S: Source + Send, K: Sink + Send, G: Gate + Sync>(
     _gate: &G,
 ) -> Report
     // The words are no command line: nothing is read or written.
-    ensures usage { (result.status ≡ Status.Usage)
-        ↔ (command_words.bands_asked (map string_bytes words.now) ≡ None) }
-    ensures untouched { result.status ≡ Status.Usage
-        → (input.new ≡ input.old) × (out.new ≡ out.old) × (result.lines ≡ 0) }
+    ensures usage { result.status ≡ Status.Usage → asked_by (map string_bytes words.now) ≡ None }
+    ensures no_command { asked_by (map string_bytes words.now) ≡ None
+        → ((result.status ≡ Status.Usage) ⊎ (result.status ≡ Status.NoMemory))
+        × (input.new ≡ input.old) × (out.new ≡ out.old) × (result.lines ≡ 0) }
 
-    // Else the lines done, by the status, and what the sink has taken of their text, with the rows of bands where they are
-    // asked for.
-    ensures outcome { IfSome (command_words.bands_asked (map string_bytes words.now)) (λ bands.
-        Outcome bands result.status result.lines
+    // Else the lines done, by the status, and what the sink has taken of their text: with the rows of bands where they are
+    // asked for, or the one row of a generated site, for which nothing of the input is read.
+    ensures outcome { IfSome (asked_by (map string_bytes words.now)) (λ asked.
+        RunOutcome asked result.status result.lines
         (S.left input.old) (S.left input.new) (K.taken out.old) (K.taken out.new)) }
+    ensures unread { IfSome (asked_by (map string_bytes words.now)) (λ asked.
+        IsSome asked.make → input.new ≡ input.old) }
 
-    // A fault is answered exactly where the source or the sink has failed in this call.
+    // A fault is answered only where the source or the sink has failed in this call.
     ensures read_fault { TellsFault Status.ReadFault result.status (S.faults input.old) (S.faults input.new) }
     ensures write_fault { TellsFault Status.WriteFault result.status (K.faults out.old) (K.faults out.new) }
 
     // Without a fault the run comes to the end of an input within the limit, unless there is no memory.
-    ensures complete { command_words.bands_asked (map string_bytes words.now) ≢ None
+    ensures complete { asked_by (map string_bytes words.now) ≢ None
         → (Rose (S.faults input.old) (S.faults input.new) → ⊥) → (Rose (K.faults out.old) (K.faults out.new) → ⊥)
         → RunsToTheEnd result.status (S.left input.old) }
 {
-    let Some(bands) = bands_asked(words) else {
-        return Report {
+    match asked_in(alloc, words) {
+        Ok(asked) => run_asked(alloc, asked, input, out),
+        Err(WordsFault::Usage) => Report {
             status: Status::Usage,
             lines: 0,
-        };
-    };
-    run_lines(alloc, bands, input, out)
+        },
+        Err(WordsFault::NoMemory) => Report {
+            status: Status::NoMemory,
+            lines: 0,
+        },
+    }
+}
+
+/// What the words ask for. The rows of counts aren't there yet.
+fn asked_in(alloc: Global, words: &[String]) -> Result<CommandLine, WordsFault>
+    ensures { ReadsUnlessMemory result (asked_by (map string_bytes words.now)) }
+{
+    let line = command_line(alloc, words)?;
+    if line.counts {
+        Err(WordsFault::Usage)
+    } else {
+        Ok(line)
+    }
 }

@@ -74,6 +74,7 @@ pub enum Fault {
 pub struct Report {
     /// How it ended.
     pub status: Status,
-    /// How many lines the reader handed out, blank and refused ones among them.
+    /// How many lines were done, blank and refused ones among them: lines of the input that the reader handed out, or lines
+    /// of a generated site; 0 with `Usage`.
     pub lines: u64,
 }

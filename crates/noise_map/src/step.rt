@@ -15,9 +15,8 @@ ghost use Rattle.noise_map.specs.Run.{apply_effect, edit_effect, command_effect,
 
 use crate::answer::Answer;
 use crate::project::Project;
-use crate::refusal::Refusal;
-use crate::unbuilt::is_unbuilt;
 use command_lines::{Command, LineFault, command};
+use map_text::Refusal;
 use scene_book::{Edit, EditFault};
 use scene_parts::NoMemory;
 use std::alloc::Global;
@@ -40,10 +39,10 @@ fn refuse_edit(fault: EditFault) -> Result<Answer, NoMemory>
 }
 
 /// Applies an edit: where the scene takes it, this is the next version.
+#[tactic(auto, unfolding(crate::specs::Run::edit_effect))]
 fn apply(alloc: Global, project: &mut Project, edit: &Edit) -> Result<Answer, NoMemory>
     requires { project.old.version < 2 ^ 64 - 1 }
-    ensures { HasEffect result (apply_effect project.old (apply_of edit.now project.old.scene))
-        project.old project.new }
+    ensures { HasEffect result (edit_effect project.old edit.now) project.old project.new }
 {
     match project.scene.apply(alloc, edit) {
         Ok(_) => {
@@ -54,28 +53,15 @@ fn apply(alloc: Global, project: &mut Project, edit: &Edit) -> Result<Answer, No
     }
 }
 
-/// Applies an edit, or refuses one that asks for what the calculation doesn't have yet.
-#[tactic(auto, unfolding(crate::specs::Run::edit_effect))]
-fn edit(alloc: Global, project: &mut Project, edit: &Edit) -> Result<Answer, NoMemory>
-    requires { project.old.version < 2 ^ 64 - 1 }
-    ensures { HasEffect result (edit_effect project.old edit.now) project.old project.new }
-{
-    if is_unbuilt(edit) {
-        Ok(Answer::Refused(Refusal::NotBuilt))
-    } else {
-        apply(alloc, project, edit)
-    }
-}
-
 #[tactic(auto, unfolding(crate::specs::Run::command_effect))]
 fn execute(alloc: Global, project: &mut Project, command: &Command) -> Result<Answer, NoMemory>
     requires { project.old.version < 2 ^ 64 - 1 }
     ensures { HasEffect result (command_effect project.old command.now) project.old project.new }
 {
     match command {
-        Command::Edit(change) => edit(alloc, project, change),
+        Command::Edit(edit) => apply(alloc, project, edit),
         Command::Settle => Ok(Answer::Settled),
-        Command::Look => Ok(Answer::Refused(Refusal::NotBuilt)),
+        Command::Look => Ok(Answer::NotBuilt),
     }
 }
 

@@ -217,7 +217,7 @@ const RUNS: [Run; 35] = [
         "not built",
         false,
         "{\"do\":\"source\",\"name\":\"s\",\"kind\":\"industry\",\"x\":0,\"y\":0,\"h\":2000,\"lw\":[null,null,null,null,10000,null,null,null]}\n{\"do\":\"receiver\",\"name\":\"r\",\"x\":100000,\"y\":0,\"h\":2000}\n{\"do\":\"look\"}\n{\"do\":\"barrier\",\"name\":\"s\",\"points\":[[0,0],[1000,0]],\"h\":4000,\"density\":10,\"rho\":500}\n{\"do\":\"building\",\"name\":\"b\",\"points\":[[0,0],[1000,0],[1000,1000]],\"h\":4000,\"rho\":201}\n{\"do\":\"set\",\"c0\":1}\n{\"do\":\"set\",\"reach\":1,\"c0\":1}\n{\"do\":\"set\",\"c0\":0,\"reach\":100000}\n{\"do\":\"zone\",\"name\":\"s\",\"points\":[[-50000,-50000],[150000,-50000],[150000,50000],[-50000,50000]],\"g\":100}\n{\"do\":\"zone\",\"name\":\"z\",\"points\":[[-50000,-50000],[150000,-50000],[150000,50000],[-50000,50000]],\"g\":100}\n{\"do\":\"set\",\"g\":1}\n{\"do\":\"set\",\"g\":0}\n{\"do\":\"settle\"}\n",
-        "refused,2,3,NotBuilt,,,\nrefused,2,4,NotBuilt,,,\nrefused,2,5,NotBuilt,,,\nrefused,2,6,NotBuilt,,,\nrefused,2,7,NotBuilt,,,\nrefused,3,9,OtherClass,s,source,\nsettle,6,1,,,,\nrow,6,r,current,,48.39,48.40\n",
+        "refused,2,3,NotBuilt,,,\nrefused,2,4,OtherClass,s,source,\nrefused,6,9,OtherClass,s,source,\nsettle,9,1,,,,\nrow,9,r,current,,35.42,35.43\n",
         Status::SomeRefused,
     ),
     (

@@ -249,7 +249,17 @@ fn other_words_are_no_command_line(rt: HostRuntime) -> Result<(), Fail> {
         String::from_str(alloc, "--bands")?,
         String::from_str(alloc, "--bands")?,
     ]?;
-    for words in [none.as_slice(), two.as_slice(), twice.as_slice()] {
+    // The rows of counts aren't there yet.
+    let counts = vec![in alloc;
+        String::from_str(alloc, "noisemap")?,
+        String::from_str(alloc, "--counts")?,
+    ]?;
+    for words in [
+        none.as_slice(),
+        two.as_slice(),
+        twice.as_slice(),
+        counts.as_slice(),
+    ] {
         let mut source = FreeSource::new(SETTLE.as_bytes().to_vec(alloc)?);
         let report = run(alloc, words, &mut source, &mut FreeSink::new(), &OpenGate);
         assert_eq!(rt; (report.status, report.lines), (Status::Usage, 0));

@@ -1,4 +1,4 @@
-use Rattle.std.proofs.Common.{◌∙◌, arith}
+use Rattle.std.proofs.Common.{◌∙◌}
 use Rattle.std.proofs.lemmas.List.{take_all}
 use Rattle.noise_map.proofs.Hearing.{heard_by, few_heard}
 use Rattle.noise_map.proofs.heard.PreparedScene.bundles_at.Goals as goal
