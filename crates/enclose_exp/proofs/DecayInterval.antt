@@ -1,5 +1,5 @@
 -- The decay of a whole interval, from those of its ends.
-use Rattle.std.proofs.Common.{◌≡◌, ◌^◌, ◌≤◌, ◌⊎◌, inl, inr, true, refl, sym, arith, ℤ, pos, negsuc, ◌≤ℤ◌, unsigned_abs, Option, Some, None, IsSomeAnd, min, ◌*◌, ap}
+use Rattle.std.proofs.Common.{◌≡◌, ◌^◌, ◌⊎◌, inl, inr, true, refl, sym, arith, ℤ, pos, negsuc, ◌≤ℤ◌, unsigned_abs, Option, Some, None, IsSomeAnd, min, ◌*◌, ap}
 use Rattle.std.proofs.lemmas.Int.{ints}
 use Rattle.std.specs.Option.{option_map, option_map_or}
 use Rattle.std.specs.Prelude.{int_le}
@@ -7,6 +7,7 @@ use Rattle.fix_interval.specs.Interval.{Interval, IsInterval}
 use Rattle.fix_interval.specs.Powers.{IsAtMostDecay, IsAtLeastDecay}
 use Rattle.fix_interval.specs.Rules.{HoldsDecay}
 use Rattle.fix_interval.specs.ExpNeg.{exp_neg_low, exp_neg_high, exp_neg_of}
+use Rattle.fix_interval.proofs.Widening.{unsigned_abs-mono}
 use Rattle.enclose_exp.proofs.DecayLaw.{low_end-law, high_end-law, ends-ordered, exp_neg_high-le, exp_neg_low-past, exp_neg_low-kept, exp_neg_high-kept}
 
 abbrev pub IsNotNegative : Option ℤ → Type 0
@@ -25,11 +26,6 @@ exp_neg_of-ends None hi start = absurd start
 exp_neg_of-ends (Some z) hi start = (let e : int_le (pos 0) z ≡ true = grind (arith, ints) in rw e refl)
 
 -- the lower exponent as a natural number
-ordered-abs : (x y : ℤ) → pos 0 ≤ℤ x → x ≤ℤ y → unsigned_abs x ≤ unsigned_abs y
-ordered-abs (pos m) (pos n) h le = omega (arith, ints, h, le)
-ordered-abs (pos m) (negsuc n) h le = absurd (omega (arith, ints, h, le))
-ordered-abs (negsuc m) y h le = absurd (omega (arith, ints, h, le))
-
 ends-interval : (lo hi : Option ℤ) → IsInterval (record { lo = lo; hi = hi }) → IsNotNegative lo → IsInterval (ends lo hi)
 ends-interval None hi i start = absurd start
 ends-interval (Some l) None i start =
@@ -37,7 +33,7 @@ ends-interval (Some l) None i start =
     record { low_end = omega arith; high_end = omega (arith, high); ordered = omega (arith, ints) }
 ends-interval (Some l) (Some h) i start =
     let high = exp_neg_high-le (unsigned_abs l) in
-    let order = ends-ordered (unsigned_abs l) (unsigned_abs h) (ordered-abs l h start i.ordered) in
+    let order = ends-ordered (unsigned_abs l) (unsigned_abs h) (unsigned_abs-mono l h start i.ordered) in
     record { low_end = omega (arith, high, order); high_end = omega (arith, high); ordered = omega (arith, ints, order) }
 
 -- the ends against the powers of the two fractions next to e

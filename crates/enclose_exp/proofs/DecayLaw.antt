@@ -2,17 +2,20 @@
 use Rattle.std.proofs.Common.{◌≡◌, ℕ, zero, suc, ◌+◌, ◌-◌, ◌*◌, ◌/◌, ◌%◌, ◌^◌, ◌<◌, ◌≤◌, ◌⊎◌, true, false, nat_le, inl, inr, refl, sym, ap, ◌∙◌, subst, arith, rules, tests, get_or, lit<, lit≤, min}
 use Rattle.std.proofs.lemmas.Bool.{cases_lt}
 use Rattle.std.specs.Int.{div_ceil}
-use Rattle.std.proofs.lemmas.Nat.{mul-le, pow-add, mul-pow, div-add-mod', mod_below}
+use Rattle.std.proofs.lemmas.Nat.{mul-le, pow-add, mul-pow}
 use Rattle.std.proofs.lemmas.Grind.{div_ceil_times}
-use Rattle.std.proofs.Math.Nat.{pow-suc, pow-zero, one-le-pow, pow-le-pow_left, pow-lt-pow_left, mul-le-mul_left, mul-le-mul_right, le_of_mul-le-mul_right, div-mul-le_self}
+use Rattle.std.proofs.Math.Nat.{pow-suc, pow-zero, one-le-pow, pow-le-pow_left, mul-le-mul_left, mul-le-mul_right, le_of_mul-le-mul_right, div-mul-le_self}
 use Rattle.fix_interval.specs.Units.{unit, unit-is}
 use Rattle.fix_interval.specs.Powers.{factorial_20, exponential_sum}
 use Rattle.fix_interval.specs.Roots.{one_factor, times_low, times_high, product}
 use Rattle.fix_interval.specs.ExpNeg.{inverse_e_low, inverse_e_high, whole_decay_low, whole_decay_high, decay_factor_low, decay_factor_high, decay_low, decay_high, exp_neg_low, exp_neg_high}
 use Rattle.enclose_exp.specs.declared.tables.TheConstants.{WHOLE_LOW, WHOLE_HIGH}
-use Rattle.fix_interval.proofs.Powers.{pow-mul, one-pow}
-use Rattle.enclose_exp.proofs.Law.{root_low-law, root_high-law, all_low-law, all_high-law}
-use Rattle.enclose_exp.proofs.TableLemmas.{whole_low-at, whole_high-at, decay_high-le, quotient_up-le}
+use Rattle.fix_interval.proofs.Powers.{pow-mul, one-pow, bases}
+use Rattle.fix_interval.proofs.Spans.{unit-pos}
+use Rattle.fix_interval.proofs.TenLaw.{one_factor-split, parts, fraction-small}
+use Rattle.fix_interval.proofs.PowerLaw.{root_low-law, root_high-law, all_low-law, all_high-law}
+use Rattle.enclose_exp.proofs.TableLemmas.{whole_low-at, whole_high-at, decay_high-le}
+use Rattle.fix_interval.proofs.Ceilings.{quotient_up-le}
 
 -- ---- the code's values
 
@@ -96,10 +99,6 @@ roots_high j =
     root_high-law factorial_20 exponential_sum inverse_e_high (suc j)
     (omega (arith, (div_ceil_times (one_factor * factorial_20) exponential_sum sum-positive).0))
 
--- a factor of 2^-60 and a number of 2^-32
-one_factor-split : (u : ℕ) → u ≡ 2 ^ 32 → one_factor ≡ 2 ^ 28 * u
-one_factor-split u e = rw e refl
-
 -- the last rounding, with everything raised to u
 rounded-low : (u c g h n p x : ℕ) → x * c ≤ p → 0 < c → one_factor ≡ c * u → p ^ u * h ^ n ≤ g ^ n * one_factor ^ u →
     x ^ u * h ^ n ≤ u ^ u * g ^ n
@@ -118,12 +117,6 @@ rounded-high u c g h n p x scaled positive split before =
     let factor : one_factor ^ u ≡ c ^ u * u ^ u = ap (λ y. y ^ u) split ∙ mul-pow c u u in
     let after = mul-le-mul_right (h ^ n) powers in
     le_of_mul-le-mul_right {k = c ^ u} (omega (arith, after, before, ap (λ y. y * h ^ n) left, ap (λ y. g ^ n * y) factor)) (one-le-pow u c positive)
-
-parts : (n : ℕ) → n / unit * unit + n % unit ≡ n
-parts n = div-add-mod' n unit
-
-fraction-small : (n : ℕ) → n % unit < 2 ^ 32
-fraction-small n = rw unit-is (mod_below n (2 ^ 32) (omega arith))
 
 -- both ends of the decay of a number within the range
 pub low-law : (n : ℕ) → (decay_low n / 2 ^ 28) ^ unit * suc exponential_sum ^ n ≤ unit ^ unit * factorial_20 ^ n
@@ -183,17 +176,6 @@ low_end-law n =
       | inr large ↦ inl (exp_neg_low-past n large)
     ]
 
--- a power that isn't greater has a base that isn't greater
-bases : (a b u : ℕ) → 0 < u → a ^ u ≤ b ^ u → a ≤ b
-bases a b u positive h =
-    elim (cases_lt b a) [
-      | inl less ↦ absurd (omega (arith, h, pow-lt-pow_left {a = b} {b = a} {n = u} less (λ e. omega (arith, positive, e))))
-      | inr more ↦ more
-    ]
-
-unit-positive : 0 < unit
-unit-positive = rw unit-is (omega arith)
-
 -- the greater exponent has the smaller decay
 ordered-bases : (u g h m n x y : ℕ) → 0 < u → 0 < h → g ≤ suc h → m ≤ n → x ^ u * suc h ^ n ≤ u ^ u * g ^ n → u ^ u * g ^ m ≤ y ^ u * h ^ m → x ≤ y
 ordered-bases u g h m n x y positive some le order low high =
@@ -214,7 +196,7 @@ pub ends-ordered : (m n : ℕ) → m ≤ n → exp_neg_low n ≤ exp_neg_high m
 ends-ordered m n le =
     elim (low_end-law n) [
       | inl none ↦ rw none (omega arith)
-      | inr low ↦ ordered-bases unit factorial_20 exponential_sum m n (exp_neg_low n) (exp_neg_high m) unit-positive sum-positive (omega (arith, sum-le)) le low (high_end-law m)
+      | inr low ↦ ordered-bases unit factorial_20 exponential_sum m n (exp_neg_low n) (exp_neg_high m) unit-pos sum-positive (omega (arith, sum-le)) le low (high_end-law m)
     ]
 
 -- no decay is above 1

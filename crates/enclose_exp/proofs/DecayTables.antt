@@ -11,10 +11,11 @@ use Rattle.fix_interval.specs.Roots.{one_factor, times_low, times_high, product,
 use Rattle.fix_interval.specs.ExpNeg.{decay_factor_low, decay_factor_high}
 use Rattle.enclose_exp.specs.declared.losses.TheConstants.{EIGHT_LOSSES, SIX_LOSSES}
 use Rattle.enclose_exp.specs.declared.tables.TheConstants.{WHOLE_LOW, WHOLE_HIGH}
-use Rattle.enclose_exp.proofs.Products.{product-zero}
-use Rattle.enclose_exp.proofs.TableLemmas.{both-true, all_to-at, decay_low_factors, decay_high_factors, decay_low-at, decay_high-at}
-use Rattle.enclose_exp.proofs.ExactProducts.{Rounds, exact, spread, exact-same, spread-same, product-over, product-under, IsNear, IsFactor, near-step}
-use Rattle.enclose_exp.proofs.DigitTables.{rounds-low, rounds-high, factor-holds, entry_is, are_entries, entry-at, six_digit, six_factor, six_place, six-holds}
+use Rattle.fix_interval.proofs.DigitProducts.{product-zero}
+use Rattle.fix_interval.proofs.Tables.{both-true, all_to-at}
+use Rattle.enclose_exp.proofs.TableLemmas.{decay_low_factors, decay_high_factors, decay_low-at, decay_high-at}
+use Rattle.fix_interval.proofs.ExactProducts.{Rounds, exact, spread, exact-same, spread-same, product-over, product-under, IsNear, IsFactor, near-step}
+use Rattle.fix_interval.proofs.DigitTables.{rounds-low, rounds-high, factor-holds, entry_is, are_entries, entry-at, six_digit, six_factor, six_place, six-holds}
 
 -- ---- the first eight digits
 

@@ -1,16 +1,10 @@
 pub mod DecayInterval
 pub mod DecayLaw
 pub mod DecayTables
-pub mod ExactProducts
-pub mod DigitTables
 pub mod Exponents
-pub mod Law
 pub mod PowerNodes
-pub mod Products
-pub mod Roots
 pub mod Scaling
 pub mod Steps
 pub mod TableLemmas
 pub mod TenInterval
-pub mod TenLaw
 pub mod PowerRanges

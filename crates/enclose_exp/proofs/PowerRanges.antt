@@ -15,7 +15,7 @@ use Rattle.fix_interval.specs.Ten.{fraction_high, raised_high, ten_low, ten_high
 use Rattle.fix_interval.specs.ExpNeg.{exp_neg_low, exp_neg_of}
 use Rattle.fix_interval.specs.Ranges.{IsFrom, IsUpTo, LiesIn, IsRanged, from_to, power_limit, power_range, decay_range}
 use Rattle.fix_interval.proofs.Ranging.{LiesIn-All}
-use Rattle.enclose_exp.proofs.TableLemmas.{fraction_high-small}
+use Rattle.fix_interval.proofs.TenTables.{fraction_high-small}
 use Rattle.enclose_exp.proofs.Exponents.{ten_high-least, ten_high-within}
 use Rattle.enclose_exp.proofs.TenInterval.{least, within, greatest, place_of, shifted, shifted-ordered, ends-ordered, ten_high-positive}
 use Rattle.enclose_exp.proofs.DecayLaw.{exp_neg_high-le}

@@ -11,11 +11,12 @@ use Rattle.fix_interval.specs.Interval.{Interval, IsInterval}
 use Rattle.fix_interval.specs.Rules.{HoldsTenPower, EndMeets}
 use Rattle.fix_interval.specs.Lg.{IsAtMostLg, IsAtLeastLg}
 use Rattle.fix_interval.specs.Ten.{fraction_low, fraction_high, raised_low, raised_high, ten_low, ten_high, ten_of}
-use Rattle.fix_interval.proofs.Powers.{pow-mul, one-pow}
-use Rattle.enclose_exp.proofs.TenLaw.{raised_low-law, raised_high-law}
+use Rattle.fix_interval.proofs.Powers.{pow-mul, one-pow, bases}
+use Rattle.fix_interval.proofs.Spans.{unit-pos}
+use Rattle.fix_interval.proofs.TenLaw.{raised_low-law, raised_high-law}
 use Rattle.fix_interval.proofs.Shifted.{at_most-shifted, at_least-shifted}
 use Rattle.enclose_exp.proofs.Exponents.{ten_low-greatest, ten_low-least, ten_low-within, ten_high-greatest, ten_high-least, ten_high-within}
-use Rattle.enclose_exp.proofs.TableLemmas.{fraction_low-small, fraction_high-small}
+use Rattle.fix_interval.proofs.TenTables.{fraction_low-small, fraction_high-small}
 
 -- where an exponent stands
 pub data Place (n : ℤ) : Type 0 where
@@ -109,32 +110,21 @@ raised_high-small s small =
     let product = mul-le p (10 ^ (s / unit)) (2 ^ 64) (10 ^ 39) (omega (arith, fraction_high-small (s % unit))) power in
     omega (arith, product, (div_ceil_times (p * 10 ^ (s / unit)) (10 ^ 20 * 2 ^ 28) (omega arith)).1)
 
--- a power that isn't greater has a base that isn't greater
-bases : (a b u : ℕ) → 0 < u → a ^ u ≤ b ^ u → a ≤ b
-bases a b u positive h =
-    elim (cases_lt b a) [
-      | inl less ↦ absurd (omega (arith, h, pow-lt-pow_left {a = b} {b = a} {n = u} less (λ e. omega (arith, positive, e))))
-      | inr more ↦ more
-    ]
-
-unit-positive : 0 < unit
-unit-positive = rw unit-is (omega arith)
-
 raised-ordered : (s t : ℕ) → s ≤ t → raised_low s ≤ raised_high t
 raised-ordered s t le =
     let grown = mul-le-mul_right (unit ^ unit) (pow-le-pow_right {n = 10} (omega arith) {i = s} {j = t} le) in
     let shift : 0 < 10 ^ (20 * unit) = one-le-pow (20 * unit) 10 (omega arith) in
     let powers : raised_low s ^ unit ≤ raised_high t ^ unit =
     le_of_mul-le-mul_left {k = 10 ^ (20 * unit)} (omega (arith, raised_low-law s, raised_high-law t, grown)) shift in
-    bases (raised_low s) (raised_high t) unit unit-positive powers
+    bases (raised_low s) (raised_high t) unit unit-pos powers
 
 raised_high-positive : (s : ℕ) → 0 < raised_high s
 raised_high-positive s =
-    let left : 0 < 10 ^ s * unit ^ unit = mul-le 1 1 (10 ^ s) (unit ^ unit) (one-le-pow s 10 (omega arith)) (one-le-pow unit unit unit-positive) in
+    let left : 0 < 10 ^ s * unit ^ unit = mul-le 1 1 (10 ^ s) (unit ^ unit) (one-le-pow s 10 (omega arith)) (one-le-pow unit unit unit-pos) in
     elim (cases_lt 0 (raised_high s)) [
       | inl above ↦ above
       | inr none ↦ (let zero_end : raised_high s ≡ 0 = omega arith in
-          let less : 0 ^ unit < 1 ^ unit = pow-lt-pow_left {a = 0} {b = 1} {n = unit} (omega arith) (λ e. omega (arith, unit-positive, e)) in
+          let less : 0 ^ unit < 1 ^ unit = pow-lt-pow_left {a = 0} {b = 1} {n = unit} (omega arith) (λ e. omega (arith, unit-pos, e)) in
           let power : raised_high s ^ unit ≡ 0 ^ unit = ap (λ y. y ^ unit) zero_end in
           let nothing : raised_high s ^ unit ≡ 0 = omega (arith, power, less, one-pow unit) in
           let product : 10 ^ (20 * unit) * raised_high s ^ unit ≡ 0 = ap (λ y. 10 ^ (20 * unit) * y) nothing ∙ omega arith in

@@ -6,9 +6,9 @@ ghost use Rattle.std.specs.Int.{div_ceil};
 ghost use Rattle.fix_interval.specs.ExpNeg.{exp_neg_of, exp_neg_low, exp_neg_high, decay_low, decay_high};
 
 use crate::estimates::{DECAY_EXCESS, DECAY_MARGIN, decay_estimate};
-use crate::product::{shrunk_down, shrunk_up, taken, units_up};
+use crate::product::{shrunk_down, shrunk_up, units_up};
 use crate::tables::{LOSSES_HIGH, LOSSES_LOW, WHOLE_HIGH, WHOLE_LOW};
-use fix_interval::Iv;
+use fix_interval::{Iv, taken};
 
 /// The exponent 23, from which on a decay is less than the least end above 0.
 const GREATEST: u64 = 23 << 32;

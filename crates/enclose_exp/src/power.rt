@@ -7,11 +7,9 @@ ghost use Rattle.fix_interval.specs.Interval.{IsInterval};
 ghost use Rattle.fix_interval.specs.Ten.{ten_of, raised_low, raised_high, fraction_low, fraction_high};
 ghost use Rattle.enclose_exp.specs.Exponent.{counted, low_value, high_value};
 
-use crate::estimates::{POWER_MARGIN, high_estimate, low_estimate};
-use crate::product::{grown_down, grown_up, taken};
-use crate::starts::{STARTS_HIGH, STARTS_LOW};
-use crate::tables::{GROWTHS_HIGH, GROWTHS_LOW};
-use fix_interval::{Iv, power_of_ten};
+use fix_interval::{
+    Iv, POWER_MARGIN, fraction_down, fraction_up, high_estimate, low_estimate, power_of_ten,
+};
 
 /// The exponent 20, from which on the low end stays and the high end is unbounded.
 const GREATEST: i128 = 20 << 32;
@@ -160,35 +158,6 @@ fn units_up(product: u64, factor: u64) -> u128
 {
     let product = u128::from(product) * u128::from(factor);
     (product + ((1 << 28) - 1)) >> 28
-}
-
-/// Ten to the power of a fraction of 2^-32nds, in units of 2^-60, rounded down. Its first eight digits are looked up,
-/// and the others are taken one by one.
-fn fraction_down(fraction: u32) -> u64
-    ensures { result ≡ fraction_low fraction }
-{
-    let mut product = STARTS_LOW[(fraction >> 24) as usize];
-    for block in 0..4usize {
-        for digit in 0..6usize {
-            let place = 6 * block + digit;
-            product = grown_down(product, taken(GROWTHS_LOW[place], fraction, place + 8));
-        }
-    }
-    product
-}
-
-/// The same, rounded up.
-fn fraction_up(fraction: u32) -> u64
-    ensures { result ≡ fraction_high fraction }
-{
-    let mut product = STARTS_HIGH[(fraction >> 24) as usize];
-    for block in 0..4usize {
-        for digit in 0..6usize {
-            let place = 6 * block + digit;
-            product = grown_up(product, taken(GROWTHS_HIGH[place], fraction, place + 8));
-        }
-    }
-    product
 }
 
 /// 10 to a whole power below 20, which fits 64 bits.

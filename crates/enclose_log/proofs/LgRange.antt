@@ -10,18 +10,10 @@ use Rattle.fix_interval.specs.Values.{is_small}
 use Rattle.fix_interval.specs.Lg.{greatest, decade_of, decade_and_digits, is_at_least, lg_low, lg_high, lg_of}
 use Rattle.fix_interval.specs.Ranges.{IsFrom, IsUpTo, LiesIn, IsRanged, logarithm_range, logarithm_limit}
 use Rattle.fix_interval.proofs.Ranging.{LiesIn-All}
-use Rattle.enclose_log.proofs.Value.{digits_low-small, rounded_up-small}
+use Rattle.enclose_log.proofs.Value.{greatest-le, digits_low-small, rounded_up-small}
 use Rattle.enclose_log.proofs.LgInterval.{ends, lg_of-ends}
 
 -- ---- decades grow
-
-below-limit : (r : ℕ → Bool) (limit : ℕ) → greatest r limit ≤ limit
-unfolding greatest
-below-limit r zero = omega arith
-below-limit r (suc limit) = by_test (r (suc limit)) (below-limit r limit) where
-  by_test : (test : Bool) → greatest r limit ≤ limit → (if test then suc limit else greatest r limit) ≤ suc limit
-  by_test true h = omega arith
-  by_test false h = omega (arith, h)
 
 -- what passes a test that holds of more numbers reaches at least as far
 greatest-grows : (p q : ℕ → Bool) (limit : ℕ) → ((k : ℕ) → p k ≡ true → q k ≡ true) → greatest p limit ≤ greatest q limit
@@ -32,7 +24,7 @@ greatest-grows p q (suc limit) more = by_tests (p (suc limit)) (q (suc limit)) r
       → (if a then suc limit else greatest p limit) ≤ (if b then suc limit else greatest q limit)
   by_tests true true e f h = omega arith
   by_tests true false e f h = absurd (false≢true (sym f ∙ more (suc limit) e))
-  by_tests false true e f h = omega (arith, below-limit p limit)
+  by_tests false true e f h = omega (arith, greatest-le p limit)
   by_tests false false e f h = h
 
 decade-grows : (m n : ℕ) → m ≤ n → decade_of m ≤ decade_of n

@@ -28,7 +28,7 @@ greatest-passes passes (suc limit) first =
       | inr fails ↦ rw fails (greatest-passes passes limit first)
     ]
 
-greatest-le : (passes : ℕ → Bool) (limit : ℕ) → greatest passes limit ≤ limit
+pub greatest-le : (passes : ℕ → Bool) (limit : ℕ) → greatest passes limit ≤ limit
 unfolding greatest
 greatest-le passes zero = omega arith
 greatest-le passes (suc limit) =

@@ -4,7 +4,7 @@ ghost use Rattle.std.specs.Prelude.{◌≡◌, ◌<◌, ◌≤◌, ◌+◌, ◌*
 ghost use Rattle.fix_interval.specs.Lg.{one_mantissa, digits_low, digits_high, rounded_up};
 
 use crate::nodes::{INVERSES, LOGARITHMS};
-use enclose_exp::estimates::{high_estimate, low_estimate};
+use fix_interval::{high_estimate, low_estimate};
 
 /// How far a power of ten must lie from a mantissa to be on the same side of all that its turns round to, in units of
 /// 2^-60: 40 are the margin of its estimate, and 64 the most that a mantissa next to 1 makes of it.

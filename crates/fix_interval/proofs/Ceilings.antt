@@ -43,3 +43,10 @@ div_ceil-added n d positive =
     let over = lt-div-mul-add {a = n + (d - 1)} {b = d} positive in
     let under = div-mul-le_self (n + (d - 1)) d in
     sym (div_ceil-is n d ((n + (d - 1)) / d) positive (omega (arith, over)) (omega (arith, under)))
+
+-- what a multiple of the divisor reaches, the quotient is not above
+pub quotient_up-le : (a b d : ℕ) → 0 < d → a ≤ b * d → div_ceil a d ≤ b
+quotient_up-le a b d positive h =
+    let bounds = div_ceil_times a d positive in
+    let less : div_ceil a d < b + 1 = lt_of_mul-lt-mul_right d (omega (arith, bounds.1, h)) in
+    omega (arith, less)

@@ -18,3 +18,12 @@ pub mod RangedFormulas
 pub mod Powers
 pub mod Ceilings
 pub mod Shifted
+pub mod Tables
+pub mod DigitProducts
+pub mod ExactProducts
+pub mod RootTables
+pub mod PowerLaw
+pub mod TenTables
+pub mod TenLaw
+pub mod DigitSteps
+pub mod DigitTables

@@ -1,9 +1,10 @@
 -- Powers of powers, and a table of powers of ten.
-use Rattle.std.proofs.Common.{◌≡◌, ℕ, zero, suc, ◌+◌, ◌*◌, ◌^◌, ◌<◌, ◌==◌, Bool, true, false, List, [], ◌∷◌, length, get_or, refl, sym, ap, ◌∙◌, arith, add-zero}
+use Rattle.std.proofs.Common.{◌≡◌, ℕ, zero, suc, ◌+◌, ◌*◌, ◌^◌, ◌<◌, ◌≤◌, inl, inr, ◌==◌, Bool, true, List, [], ◌∷◌, length, get_or, sym, ap, ◌∙◌, arith, add-zero}
 use Rattle.std.specs.Prelude.{◌&&◌}
-use Rattle.std.proofs.lemmas.Bool.{false≢true, eqb-true}
+use Rattle.std.proofs.lemmas.Bool.{eqb-true, cases_lt}
 use Rattle.std.proofs.lemmas.Nat.{pow-add}
-use Rattle.std.proofs.Math.Nat.{pow-suc, pow-zero}
+use Rattle.std.proofs.Math.Nat.{pow-suc, pow-zero, pow-lt-pow_left}
+use Rattle.fix_interval.proofs.Tables.{both-true}
 
 pub pow-one : (b : ℕ) → b ^ 1 ≡ b
 pow-one b = (let one : 1 * b ≡ b = omega arith in pow-suc b 0 ∙ ap (λ x. x * b) (pow-zero b) ∙ one)
@@ -18,11 +19,15 @@ pub one-pow : (i : ℕ) → 1 ^ i ≡ 1
 one-pow zero = pow-zero 1
 one-pow (suc i) = pow-suc 1 i ∙ ap (λ x. x * 1) (one-pow i)
 
--- ---- a table
+-- a power that isn't greater has a base that isn't greater
+pub bases : (a b u : ℕ) → 0 < u → a ^ u ≤ b ^ u → a ≤ b
+bases a b u positive h =
+    elim (cases_lt b a) [
+      | inl less ↦ absurd (omega (arith, h, pow-lt-pow_left {a = b} {b = a} {n = u} less (λ e. omega (arith, positive, e))))
+      | inr more ↦ more
+    ]
 
-both-true : (a b : Bool) → (a && b) ≡ true → (a ≡ true) × (b ≡ true)
-both-true true b h = (refl, h)
-both-true false b h = absurd (false≢true h)
+-- ---- a table
 
 -- each entry is the power of ten of its place, where the first place has the exponent k
 abbrev pub are_powers : List ℕ → ℕ → Bool

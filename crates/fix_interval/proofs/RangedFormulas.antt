@@ -1,12 +1,13 @@
 -- A formula keeps to the range that the ranges of its parts give for it.
-use Rattle.std.proofs.Common.{◌≡◌, ℤ, ◌≤ℤ◌, Option, refl, arith}
-use Rattle.std.specs.Prelude.{Bool, true, false, ◌&&◌, Some, None, int_le}
+use Rattle.std.proofs.Common.{◌≡◌, ℤ, ◌≤ℤ◌, Option, arith}
+use Rattle.std.specs.Prelude.{true, Some, None, int_le}
 use Rattle.std.proofs.lemmas.Int.{ints}
 use Rattle.std.proofs.lemmas.Bool.{false≢true}
 use Rattle.fix_interval.specs.Interval.{Interval}
 use Rattle.fix_interval.specs.Bounds.{IsBetween, AreBetween}
 use Rattle.fix_interval.specs.Tree.{Tree, Known, Const, enc}
 use Rattle.fix_interval.specs.Ranges.{from_to, is_inside, LiesIn, HasRanges, range_of, part, constant, sum, negation, product, quotient, greater, lesser, square_root, logarithm, ten_power, decay, choice}
+use Rattle.fix_interval.proofs.Tables.{both-true}
 use Rattle.fix_interval.proofs.Ranging.{are_between, lies_in, ratio-lies, sum-lies, negation-lies, greater-lies, lesser-lies}
 use Rattle.fix_interval.proofs.RangedChoices.{choice-lies}
 use Rattle.fix_interval.proofs.RangedProducts.{product-lies, quotient-lies}
@@ -38,10 +39,6 @@ widened low high (Some l) (Some h) i e k =
     let ends = are_between l h i k in
     record { lo = wider i.lo ends.lo least most; hi = wider i.hi ends.hi least most }
   where
-    both-true : (a b : Bool) → (a && b) ≡ true → (a ≡ true) × (b ≡ true)
-    both-true true b e = (refl, e)
-    both-true false b e = absurd (false≢true e)
-
     wider : (end : Option ℤ) → IsBetween l h end → low ≤ℤ l → h ≤ℤ high → IsBetween low high end
     wider None k least most = absurd k
     wider (Some z) k least most = (omega (arith, ints, k.0, least), omega (arith, ints, k.1, most))

@@ -115,7 +115,7 @@ square-mono (pos l) (pos m) z h = omega (arith, ints, mul-le-mul {n₁ = l} {m�
 square-mono (pos l) (negsuc m) z h = absurd (omega (arith, ints))
 square-mono (negsuc l) m z h = absurd (omega (arith, ints))
 
-unsigned_abs-mono : (l m : ℤ) → pos 0 ≤ℤ l → l ≤ℤ m → unsigned_abs l ≤ unsigned_abs m
+pub unsigned_abs-mono : (l m : ℤ) → pos 0 ≤ℤ l → l ≤ℤ m → unsigned_abs l ≤ unsigned_abs m
 unsigned_abs-mono l m z h = omega (arith, ints)
 
 times_pos : (l m : ℤ) (d : ℕ) → l ≤ℤ m → (l *ℤ pos d) ≤ℤ (m *ℤ pos d)

@@ -3,7 +3,7 @@ use Rattle.fix_interval.specs.Roots.{product, times_low}
 use Rattle.fix_interval.specs.ExpNeg.{decay_factor_low}
 use Rattle.enclose_exp.specs.declared.tables.TheConstants.{WHOLE_LOW}
 use Rattle.enclose_exp.proofs.DecayLaw.{low-made}
-use Rattle.enclose_exp.proofs.Products.{product-zero}
+use Rattle.fix_interval.proofs.DigitProducts.{product-zero}
 use Rattle.enclose_exp.proofs.Steps.{decay_low-step}
 use Rattle.enclose_exp.proofs.decay.decay_down.Goals as goal
 

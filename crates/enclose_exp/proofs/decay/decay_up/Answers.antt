@@ -3,7 +3,7 @@ use Rattle.fix_interval.specs.Roots.{product, times_high}
 use Rattle.fix_interval.specs.ExpNeg.{decay_factor_high}
 use Rattle.enclose_exp.specs.declared.tables.TheConstants.{WHOLE_HIGH}
 use Rattle.enclose_exp.proofs.DecayLaw.{high-made}
-use Rattle.enclose_exp.proofs.Products.{product-zero}
+use Rattle.fix_interval.proofs.DigitProducts.{product-zero}
 use Rattle.enclose_exp.proofs.Steps.{decay_high-step}
 use Rattle.enclose_exp.proofs.decay.decay_up.Goals as goal
 

@@ -5,7 +5,7 @@ use Rattle.enclose_exp.specs.declared.tables.TheConstants.{WHOLE_LOW, WHOLE_HIGH
 use Rattle.enclose_exp.specs.declared.losses.TheConstants.{EIGHT_LOSSES, SIX_LOSSES}
 use Rattle.enclose_exp.proofs.DecayLaw.{low-made, high-made}
 use Rattle.enclose_exp.proofs.DecayTables.{IsDecay, first-decay, next-decay, whole-near, whole-small}
-use Rattle.enclose_exp.proofs.ExactProducts.{IsNear}
+use Rattle.fix_interval.proofs.ExactProducts.{IsNear}
 use Rattle.enclose_exp.proofs.estimates.decay_estimate.Goals as goal
 
 pub loop-block-init : goal.loop-block-init

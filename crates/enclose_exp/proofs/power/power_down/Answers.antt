@@ -4,7 +4,7 @@ use Rattle.std.proofs.Math.Nat.{div-le_self}
 use Rattle.fix_interval.specs.Units.{unit-is}
 use Rattle.fix_interval.specs.Ten.{fraction_low}
 use Rattle.enclose_exp.proofs.Scaling.{scaled_low-below, scaled_low-above}
-use Rattle.enclose_exp.proofs.TableLemmas.{fraction_low-small}
+use Rattle.fix_interval.proofs.TenTables.{fraction_low-small}
 use Rattle.enclose_exp.proofs.power.power_down.Goals as goal
 
 pub returns-then-whole-lt20-clause-value : goal.returns-then-whole-lt20-clause-value

@@ -4,7 +4,7 @@ use Rattle.std.proofs.lemmas.Nat.{mul-le}
 use Rattle.fix_interval.specs.Units.{unit-is}
 use Rattle.fix_interval.specs.Ten.{fraction_high}
 use Rattle.enclose_exp.proofs.Scaling.{scaled_high-below, scaled_high-above}
-use Rattle.enclose_exp.proofs.TableLemmas.{fraction_high-small}
+use Rattle.fix_interval.proofs.TenTables.{fraction_high-small}
 use Rattle.enclose_exp.proofs.power.power_up.Goals as goal
 
 pub returns-then-whole-lt20-clause-value : goal.returns-then-whole-lt20-clause-value

@@ -1,6 +1,6 @@
 use Rattle.std.proofs.Common.{◌≡◌, suc, refl, ap, arith}
 use Rattle.fix_interval.specs.Ten.{fraction_low, fraction_high}
-use Rattle.enclose_exp.proofs.TableLemmas.{fraction_low-small, fraction_high-small}
+use Rattle.fix_interval.proofs.TenTables.{fraction_low-small, fraction_high-small}
 use Rattle.enclose_log.proofs.TestedDigits.{low-tested, high-tested}
 use Rattle.enclose_log.proofs.guess.tested_digits.Goals as goal
 

@@ -1,12 +1,12 @@
 use Rattle.std.proofs.Common.{◌≡◌, ℕ, suc, ◌+◌, ◌*◌, ◌/◌, ◌^◌, ◌<◌, get_or, subst, ap, arith, add-one}
 use Rattle.fix_interval.specs.Roots.{one_factor, product, times_high}
 use Rattle.fix_interval.specs.Ten.{ten_factor_high, fraction_high}
-use Rattle.enclose_exp.specs.declared.growths.TheConstants.{SIX_GROWTHS_HIGH}
-use Rattle.enclose_exp.specs.declared.starts.TheConstants.{STARTS_HIGH}
-use Rattle.enclose_exp.proofs.TableLemmas.{ten_high-start, ten_high-small}
-use Rattle.enclose_exp.proofs.ExactProducts.{IsNear}
-use Rattle.enclose_exp.proofs.DigitTables.{high-near}
-use Rattle.enclose_exp.proofs.estimates.high_estimate.Goals as goal
+use Rattle.fix_interval.specs.declared.growths.TheConstants.{SIX_GROWTHS_HIGH}
+use Rattle.fix_interval.specs.declared.starts.TheConstants.{STARTS_HIGH}
+use Rattle.fix_interval.proofs.TenTables.{ten_high-start, ten_high-small}
+use Rattle.fix_interval.proofs.ExactProducts.{IsNear}
+use Rattle.fix_interval.proofs.DigitTables.{high-near}
+use Rattle.fix_interval.proofs.power_estimates.high_estimate.Goals as goal
 
 start-near : (fraction : ℕ) → fraction < 2 ^ 32 → IsNear (product times_high ten_factor_high one_factor fraction 8) (get_or STARTS_HIGH (fraction / 2 ^ 24) 0) 0 0
 start-near fraction small =

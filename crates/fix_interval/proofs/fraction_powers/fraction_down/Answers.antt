@@ -1,10 +1,10 @@
 use Rattle.std.proofs.Common.{◌≡◌, ℕ, ◌+◌, ◌-◌, ◌*◌, ◌/◌, ◌^◌, ◌<◌, suc, get_or, ap, ◌∙◌, arith}
 use Rattle.fix_interval.specs.Roots.{one_factor, product, times_low, digit_at}
 use Rattle.fix_interval.specs.Ten.{ten_factor_low, fraction_low}
-use Rattle.enclose_exp.specs.declared.tables.TheConstants.{GROWTHS_LOW}
-use Rattle.enclose_exp.proofs.TableLemmas.{ten_low-start, ten_low-small}
-use Rattle.enclose_exp.proofs.Steps.{ten_low-step}
-use Rattle.enclose_exp.proofs.power.fraction_down.Goals as goal
+use Rattle.fix_interval.specs.declared.growths.TheConstants.{GROWTHS_LOW}
+use Rattle.fix_interval.proofs.TenTables.{ten_low-start, ten_low-small}
+use Rattle.fix_interval.proofs.DigitSteps.{ten_low-step}
+use Rattle.fix_interval.proofs.fraction_powers.fraction_down.Goals as goal
 
 pub loop-block-init : goal.loop-block-init
 loop-block-init c = ten_low-start c.args.fraction (omega arith)

@@ -1,5 +1,5 @@
 -- Products of factors by their digits.
-use Rattle.std.proofs.Common.{◌≡◌, ℕ, zero, suc, ◌<◌, ◌≤◌, ◌⊎◌, ◌==◌, Bool, true, false, cond, inl, inr, refl, ◌∙◌, arith, rules, tests, List, [], ◌∷◌, length, get_or, drop}
+use Rattle.std.proofs.Common.{◌≡◌, ℕ, zero, suc, ◌<◌, ◌≤◌, ◌⊎◌, ◌==◌, true, false, cond, inl, inr, refl, ◌∙◌, arith, rules, tests, List, [], ◌∷◌, length, get_or, drop}
 use Rattle.std.proofs.lemmas.Bool.{cases_lt}
 use Rattle.std.proofs.Math.Seq.{drop-cons}
 use Rattle.fix_interval.specs.Roots.{digit_at, product}
@@ -16,10 +16,6 @@ unfolding product
 product-zero times factor start fraction = refl
 
 -- the two ways that a place goes
-true_or_false : (b : Bool) → (b ≡ true) ⊎ (b ≡ false)
-true_or_false true = inl refl
-true_or_false false = inr refl
-
 pub product-cases : (times : ℕ → ℕ → ℕ) (factor : ℕ → ℕ) (start fraction place : ℕ) →
     ((digit_at fraction place ≡ 1) × (product times factor start fraction (suc place) ≡ times (product times factor start fraction place) (factor place)))
     ⊎ ((digit_at fraction place ≡ 0) × (product times factor start fraction (suc place) ≡ product times factor start fraction place))

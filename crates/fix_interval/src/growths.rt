@@ -1,5 +1,62 @@
-//! What six digits of an exponent give at once, of powers of ten. Each table is proved to hold the values of
-//! its definition.
+//! By how much the factors of a power of ten exceed 1: those of one digit of its exponent, and those of six digits at
+//! once. Each table is proved to hold the values of its definition.
+
+/// By how much 10 to the power of 2^-9, 2^-10 and so on exceeds 1, in units of 2^-64: each power is the square root
+/// of the one before, rounded down to 2^-60.
+pub(crate) const GROWTHS_LOW: [u64; 24] = [
+    83_146_194_849_056_672,
+    41_526_356_431_332_688,
+    20_751_506_101_504_608,
+    10_372_836_662_364_352,
+    5_185_689_439_003_408,
+    2_592_662_522_065_488,
+    1_296_285_714_874_352,
+    648_131_471_297_632,
+    324_062_889_163_936,
+    162_030_732_966_992,
+    81_015_188_580_528,
+    40_507_549_814_608,
+    20_253_763_788_400,
+    10_126_879_114_464,
+    5_063_438_862_288,
+    2_531_719_257_408,
+    1_265_859_585_264,
+    632_929_781_760,
+    316_464_888_160,
+    158_232_443_392,
+    79_116_221_520,
+    39_558_110_704,
+    19_779_055_328,
+    9_889_527_648,
+];
+
+/// The same of the roots rounded up.
+pub(crate) const GROWTHS_HIGH: [u64; 24] = [
+    83_146_194_849_056_704,
+    41_526_356_431_332_720,
+    20_751_506_101_504_640,
+    10_372_836_662_364_384,
+    5_185_689_439_003_440,
+    2_592_662_522_065_520,
+    1_296_285_714_874_384,
+    648_131_471_297_664,
+    324_062_889_163_968,
+    162_030_732_967_024,
+    81_015_188_580_560,
+    40_507_549_814_640,
+    20_253_763_788_432,
+    10_126_879_114_496,
+    5_063_438_862_320,
+    2_531_719_257_440,
+    1_265_859_585_296,
+    632_929_781_792,
+    316_464_888_192,
+    158_232_443_424,
+    79_116_221_552,
+    39_558_110_736,
+    19_779_055_360,
+    9_889_527_680,
+];
 
 /// By how much the product of the factors of six digits exceeds 1, in units of 2^-64, rounded down: for those
 /// from the place 8, 14, 20 and 26 on, 64 entries each. The factors are the roots rounded down.

@@ -6,8 +6,8 @@ use Rattle.std.proofs.lemmas.Grind.{div_ceil_times}
 use Rattle.std.proofs.Math.Nat.{pow-suc, one-le-pow, pow-le-pow_left, mul-le-mul_right, le_of_mul-le-mul_right, div-mul-le_self, div-div-eq-div-mul, div-eq_of_lt, div-one}
 use Rattle.fix_interval.specs.Roots.{one_factor, times_low, times_high, root_low, root_high, digit_at, product}
 use Rattle.fix_interval.proofs.Powers.{pow-one}
-use Rattle.enclose_exp.proofs.Products.{product-zero, product-cases}
-use Rattle.enclose_exp.proofs.Roots.{floor_root-holds, ceil_root-reaches}
+use Rattle.fix_interval.proofs.DigitProducts.{product-zero, product-cases}
+use Rattle.fix_interval.proofs.Rooting.{floor_root-below, ceil_root-above}
 
 -- the power of a square root
 squared : (r q : ℕ) → r ^ (q + q) ≡ (r * r) ^ q
@@ -42,7 +42,7 @@ root_low-law g h factor zero start = rw (pow-one factor) (omega (arith, start))
 root_low-law g h factor (suc i) start =
     rw (two_pow-suc i)
     (root_low-step g h one_factor (root_low factor i) (root_low factor (suc i)) (2 ^ i)
-    (floor_root-holds (root_low factor i * one_factor)).reached (root_low-law g h factor i start))
+    (floor_root-below (root_low factor i * one_factor)) (root_low-law g h factor i start))
 
 pub root_high-law : (g h factor i : ℕ) → g * one_factor ≤ factor * h → g * one_factor ^ (2 ^ i) ≤ root_high factor i ^ (2 ^ i) * h
 unfolding root_high
@@ -50,7 +50,7 @@ root_high-law g h factor zero start = rw (pow-one factor) (omega (arith, start))
 root_high-law g h factor (suc i) start =
     rw (two_pow-suc i)
     (root_high-step g h one_factor (root_high factor i) (root_high factor (suc i)) (2 ^ i)
-    (ceil_root-reaches (root_high factor i * one_factor)) (root_high-law g h factor i start))
+    (ceil_root-above (root_high factor i * one_factor)) (root_high-law g h factor i start))
 
 -- ---- products
 

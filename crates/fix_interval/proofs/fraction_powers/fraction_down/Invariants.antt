@@ -1,7 +1,7 @@
 use Rattle.std.proofs.Common.{◌≡◌, ◌+◌, ◌*◌}
 use Rattle.fix_interval.specs.Roots.{one_factor, product, times_low}
 use Rattle.fix_interval.specs.Ten.{ten_factor_low}
-use Rattle.enclose_exp.proofs.power.fraction_down.Given as goal
+use Rattle.fix_interval.proofs.fraction_powers.fraction_down.Given as goal
 
 abbrev pub invariant-loop-block : goal.invariant-loop-block
 invariant-loop-block l = l.product ≡ product times_low ten_factor_low one_factor l.fraction (8 + 6 * l.block)

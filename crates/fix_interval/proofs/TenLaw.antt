@@ -7,7 +7,7 @@ use Rattle.fix_interval.specs.Units.{unit, unit-is}
 use Rattle.fix_interval.specs.Roots.{one_factor}
 use Rattle.fix_interval.specs.Ten.{ten_factor_low, ten_factor_high, fraction_low, fraction_high, raised_low, raised_high}
 use Rattle.fix_interval.proofs.Powers.{pow-mul, one-pow}
-use Rattle.enclose_exp.proofs.Law.{root_low-law, root_high-law, all_low-law, all_high-law}
+use Rattle.fix_interval.proofs.PowerLaw.{root_low-law, root_high-law, all_low-law, all_high-law}
 
 -- ten's factors are roots of 10
 roots_low : (j : ℕ) → ten_factor_low j ^ (2 ^ suc j) * 1 ≤ 10 * one_factor ^ (2 ^ suc j)
@@ -33,7 +33,7 @@ fraction_high-law f small =
     omega (arith, rw (exponent, one-pow f) at law)
 
 -- a factor of 2^-60 and a number of 2^-32
-one_factor-split : (u : ℕ) → u ≡ 2 ^ 32 → one_factor ≡ 2 ^ 28 * u
+pub one_factor-split : (u : ℕ) → u ≡ 2 ^ 32 → one_factor ≡ 2 ^ 28 * u
 one_factor-split u e = rw e refl
 
 -- scaling by a power of ten, with everything raised to u
@@ -64,10 +64,10 @@ scaled-high u c k f p x e scaled positive split before =
     le_of_mul-le-mul_right {k = c ^ u} (rw sum (omega (arith, known, after, ap (λ y. 10 ^ f * y * 10 ^ (k * u)) factor))) (one-le-pow u c positive)
 
 -- an exponent in units is its whole part and its fraction
-parts : (s : ℕ) → s / unit * unit + s % unit ≡ s
+pub parts : (s : ℕ) → s / unit * unit + s % unit ≡ s
 parts s = div-add-mod' s unit
 
-fraction-small : (s : ℕ) → s % unit < 2 ^ 32
+pub fraction-small : (s : ℕ) → s % unit < 2 ^ 32
 fraction-small s = rw unit-is (mod_below s (2 ^ 32) (omega arith))
 
 pub raised_low-law : (s : ℕ) → 10 ^ (20 * unit) * raised_low s ^ unit ≤ 10 ^ s * unit ^ unit

@@ -2,10 +2,10 @@ use Rattle.std.proofs.Common.{◌≡◌, ℕ, ◌+◌, ◌-◌, ◌*◌, ◌^◌
 use Rattle.std.specs.Int.{div_ceil}
 use Rattle.fix_interval.specs.Roots.{one_factor, product, times_high, digit_at}
 use Rattle.fix_interval.specs.Ten.{ten_factor_high, fraction_high}
-use Rattle.enclose_exp.specs.declared.tables.TheConstants.{GROWTHS_HIGH}
-use Rattle.enclose_exp.proofs.TableLemmas.{ten_high-start, ten_high-small}
-use Rattle.enclose_exp.proofs.Steps.{ten_high-step}
-use Rattle.enclose_exp.proofs.power.fraction_up.Goals as goal
+use Rattle.fix_interval.specs.declared.growths.TheConstants.{GROWTHS_HIGH}
+use Rattle.fix_interval.proofs.TenTables.{ten_high-start, ten_high-small}
+use Rattle.fix_interval.proofs.DigitSteps.{ten_high-step}
+use Rattle.fix_interval.proofs.fraction_powers.fraction_up.Goals as goal
 
 pub loop-block-init : goal.loop-block-init
 loop-block-init c = ten_high-start c.args.fraction (omega arith)

@@ -1,12 +1,12 @@
 use Rattle.std.proofs.Common.{◌≡◌, ℕ, suc, ◌+◌, ◌*◌, ◌/◌, ◌^◌, ◌<◌, get_or, subst, ap, arith, add-one}
 use Rattle.fix_interval.specs.Roots.{one_factor, product, times_low}
 use Rattle.fix_interval.specs.Ten.{ten_factor_low, fraction_low}
-use Rattle.enclose_exp.specs.declared.growths.TheConstants.{SIX_GROWTHS_LOW}
-use Rattle.enclose_exp.specs.declared.starts.TheConstants.{STARTS_LOW}
-use Rattle.enclose_exp.proofs.TableLemmas.{ten_low-start, ten_low-start_large, ten_low-small}
-use Rattle.enclose_exp.proofs.ExactProducts.{IsNear}
-use Rattle.enclose_exp.proofs.DigitTables.{low-near}
-use Rattle.enclose_exp.proofs.estimates.low_estimate.Goals as goal
+use Rattle.fix_interval.specs.declared.growths.TheConstants.{SIX_GROWTHS_LOW}
+use Rattle.fix_interval.specs.declared.starts.TheConstants.{STARTS_LOW}
+use Rattle.fix_interval.proofs.TenTables.{ten_low-start, ten_low-start_large, ten_low-small}
+use Rattle.fix_interval.proofs.ExactProducts.{IsNear}
+use Rattle.fix_interval.proofs.DigitTables.{low-near}
+use Rattle.fix_interval.proofs.power_estimates.low_estimate.Goals as goal
 
 start-near : (fraction : ℕ) → fraction < 2 ^ 32 → IsNear (product times_low ten_factor_low one_factor fraction 8) (get_or STARTS_LOW (fraction / 2 ^ 24) 0) 0 0
 start-near fraction small =

@@ -4,7 +4,7 @@ use Rattle.std.proofs.Common.{◌≡◌, ℕ, zero, suc, ◌+◌, ◌*◌, ◌^�
 use Rattle.std.proofs.Math.Nat.{pow-suc, pow-zero, mul-le-mul_left, mul-le-mul_right, le_of_mul-le-mul_right}
 use Rattle.std.proofs.lemmas.Nat.{mul-le}
 use Rattle.fix_interval.specs.Roots.{product, digit_at}
-use Rattle.enclose_exp.proofs.Products.{product-cases}
+use Rattle.fix_interval.proofs.DigitProducts.{product-cases}
 
 -- how much a rounded product of two factors may exceed the exact one, and how much it may fall short of it
 pub record Rounds (times : ℕ → ℕ → ℕ) (one up down : ℕ) : Type 0 where

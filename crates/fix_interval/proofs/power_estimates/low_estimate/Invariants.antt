@@ -1,8 +1,8 @@
 use Rattle.std.proofs.Common.{◌+◌, ◌*◌, ◌≤◌}
 use Rattle.fix_interval.specs.Roots.{one_factor, product, times_low}
 use Rattle.fix_interval.specs.Ten.{ten_factor_low}
-use Rattle.enclose_exp.proofs.ExactProducts.{IsNear}
-use Rattle.enclose_exp.proofs.estimates.low_estimate.Given as goal
+use Rattle.fix_interval.proofs.ExactProducts.{IsNear}
+use Rattle.fix_interval.proofs.power_estimates.low_estimate.Given as goal
 
 abbrev pub invariant-loop-block : goal.invariant-loop-block
 invariant-loop-block l = record {

@@ -1,7 +1,7 @@
 use Rattle.std.proofs.Common.{arith}
 use Rattle.fix_interval.specs.Roots.{digit_at}
-use Rattle.enclose_exp.proofs.Steps.{masked-is}
-use Rattle.enclose_exp.proofs.product.taken.Goals as goal
+use Rattle.fix_interval.proofs.DigitSteps.{masked-is}
+use Rattle.fix_interval.proofs.fraction_digits.taken.Goals as goal
 
 pub returns : goal.returns
 returns c =
