@@ -11,14 +11,14 @@ use Rattle.scene_geom.specs.Bands.{all_bands}
 use Rattle.scene_geom.proofs.BandLemmas.{at-place}
 use Rattle.scene_parts.specs.Views.{Obstacle}
 use Rattle.scene_parts.specs.Sides.{sides_of}
-use Rattle.path_shape.specs.declared.edge.Edge.{Edge}
-use Rattle.sight_cut.specs.declared.ends.Ends.{Ends}
-use Rattle.sight_cut.specs.declared.crossing.Crossing.{Crossing}
-use Rattle.sight_cut.specs.Cuts.{counts_in}
-use Rattle.sight_cut.proofs.Edges.{where_true, none-counted, more-counted}
+use Rattle.scene_parts.specs.declared.edge.Edge.{Edge}
+use Rattle.scene_parts.specs.declared.ends.Ends.{Ends}
+use Rattle.scene_parts.specs.declared.crossing.Crossing.{Crossing}
+use Rattle.scene_parts.specs.Crossings.{counts_in}
+use Rattle.scene_parts.proofs.Counted.{where_true, none-counted, more-counted}
 use Rattle.image_source.specs.declared.leg.Leg.{Leg}
 use Rattle.image_source.specs.declared.leg.Leg.TheVariants.{First, Second}
-use Rattle.image_source.specs.LegCuts.{edge_on, edges_on, leg_edges_in, crossing_on, before_all, crossings_along, crossings_from, is_leg_crossing_in}
+use Rattle.image_source.specs.LegCuts.{edge_on, edges_on, leg_edges_in, crossings_along, crossings_from, is_leg_crossing_in}
 use Rattle.image_source.specs.Laws.{LegCrossingsAreEdges}
 
 -- the edges of the crossings that count in a band: of one obstacle all count, or none

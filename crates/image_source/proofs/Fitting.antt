@@ -17,8 +17,8 @@ use Rattle.scene_geom.specs.Direction.{way, FitsDirection}
 use Rattle.scene_geom.specs.Crossing.{is_split}
 use Rattle.scene_geom.proofs.Whole.{abs-cross}
 use Rattle.scene_geom.proofs.Crossings.{along-within}
-use Rattle.sight_cut.specs.declared.ends.Ends.{Ends}
-use Rattle.sight_cut.specs.Cuts.{rises_above}
+use Rattle.scene_parts.specs.declared.ends.Ends.{Ends}
+use Rattle.scene_parts.specs.Crossings.{rises_above}
 use Rattle.image_source.specs.declared.leg.Leg.{Leg}
 use Rattle.image_source.specs.declared.leg.Leg.TheVariants.{First, Second}
 use Rattle.image_source.specs.Mirrors.{IsMirror}

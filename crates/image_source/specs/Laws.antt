@@ -11,8 +11,8 @@ use Rattle.scene_geom.specs.Point.{from_to, along}
 use Rattle.scene_geom.specs.Direction.{way, FitsDirection}
 use Rattle.scene_geom.specs.Reflection.{CanReflect, squared_length, to_image, specular}
 use Rattle.scene_parts.specs.Views.{Obstacle}
-use Rattle.path_shape.specs.declared.edge.Edge.{Edge}
-use Rattle.sight_cut.specs.declared.ends.Ends.{Ends}
+use Rattle.scene_parts.specs.declared.edge.Edge.{Edge}
+use Rattle.scene_parts.specs.declared.ends.Ends.{Ends}
 use Rattle.image_source.specs.declared.leg.Leg.{Leg}
 use Rattle.image_source.specs.Mirrors.{at_place, ahead, IsMirror}
 use Rattle.image_source.specs.LegCuts.{edge_on, edges_in, leg_crossings_of, is_leg_crossing_in}

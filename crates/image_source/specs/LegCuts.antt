@@ -17,10 +17,10 @@ use Rattle.scene_geom.specs.Crossing.{hits_of}
 use Rattle.scene_parts.specs.Views.{Obstacle}
 use Rattle.scene_parts.specs.declared.cuts.Cut.{Cut}
 use Rattle.scene_parts.specs.Sides.{sides_of}
-use Rattle.path_shape.specs.declared.edge.Edge.{Edge}
-use Rattle.sight_cut.specs.declared.ends.Ends.{Ends}
-use Rattle.sight_cut.specs.declared.crossing.Crossing.{Crossing}
-use Rattle.sight_cut.specs.Cuts.{rises_above, counts_in, is_crossing_in, cut_of}
+use Rattle.scene_parts.specs.declared.edge.Edge.{Edge}
+use Rattle.scene_parts.specs.declared.ends.Ends.{Ends}
+use Rattle.scene_parts.specs.declared.crossing.Crossing.{Crossing}
+use Rattle.scene_parts.specs.Crossings.{rises_above, counts_in, is_crossing_in, cut_of}
 use Rattle.image_source.specs.declared.leg.Leg.{Leg}
 use Rattle.image_source.specs.declared.leg.Leg.TheVariants.{First, Second}
 

@@ -14,7 +14,7 @@ use Rattle.scene_geom.specs.Reflection.{are_on_one_side, squared_length, specula
 use Rattle.scene_parts.specs.declared.kinds.Shape.{Shape}
 use Rattle.scene_parts.specs.declared.kinds.Shape.TheVariants.{Barrier, Building}
 use Rattle.scene_parts.specs.Views.{Obstacle}
-use Rattle.sight_cut.specs.declared.ends.Ends.{Ends}
+use Rattle.scene_parts.specs.declared.ends.Ends.{Ends}
 
 -- what changes evenly along the path, from x at the source to y at the receiver, at a place t, times the divisor of t
 abbrev pub at_place : ℤ → ℤ → Frac → ℤ

@@ -5,7 +5,7 @@ ghost use Rattle.image_source.specs.Mirrors.{at_place};
 ghost use Rattle.image_source.specs.Mirrors as form;
 
 use scene_geom::{Frac, Pt, Side};
-use sight_cut::Ends;
+use scene_parts::Ends;
 
 /// The height of the line of sight at a place, in mm, times the divisor of the place.
 pub(crate) fn sight_height(ends: Ends, t: Frac) -> i128

@@ -10,8 +10,7 @@ ghost use Rattle.image_source.specs.Mirrors as form;
 use crate::image::Mirror;
 use crate::placing::{ahead, ahead_at, height_at, sight_height};
 use scene_geom::{Frac, Pt, Side, area2, on_one_side, orient, unfold};
-use scene_parts::{Obstacle, Shape, side_of};
-use sight_cut::Ends;
+use scene_parts::{Ends, Obstacle, Shape, side_of};
 
 /// The reflection from a source to a receiver, whose heights are in mm, in side `i` of an obstacle. None where there is
 /// none: the obstacle doesn't reflect, source and receiver aren't both in front of the side and strictly on one side of

@@ -9,10 +9,8 @@ ghost use Rattle.image_source.specs.LegCuts as form;
 use crate::image::Mirror;
 use crate::leg::Leg;
 use crate::placing::{height_at, sight_height};
-use path_shape::Edge;
 use scene_geom::{Band, Dir, Frac, Pt, Side, hits, lies_inside, rest_after};
-use scene_parts::{Cut, NoMemory, Obstacle, side_of, sides};
-use sight_cut::{Crossing, Ends, bands_of};
+use scene_parts::{Crossing, Cut, Edge, Ends, NoMemory, Obstacle, bands_of, side_of, sides};
 use std::alloc::Global;
 
 /// The cuts of both legs of a reflection in a band: all sides of all obstacles that are large enough in it and cross a leg

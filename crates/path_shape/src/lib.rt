@@ -1,13 +1,11 @@
 //! Paths of sound in plan: their two ends, the plan length, and the legs by which they lead.
 #![tactic(auto)]
 
-mod edge;
 pub mod laws;
 mod legs;
 mod path;
 #[cfg(test)]
 mod tests;
 
-pub use edge::Edge;
 pub use legs::Legs;
 pub use path::Path;

@@ -3,3 +3,4 @@ pub mod SideLemmas
 pub mod RootLemmas
 pub mod AnswerLemmas
 pub mod BandLemmas
+pub mod Counted

@@ -6,3 +6,4 @@ pub mod Ranges
 pub mod Answers
 pub mod Checking
 pub mod InBand
+pub mod Crossings

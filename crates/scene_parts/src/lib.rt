@@ -1,11 +1,15 @@
 //! The parts of a scene: sources, barriers, buildings, zones, receivers, grids and settings, each within
-//! its ranges by its type, and the check that makes them of what a line gives or names the first fault.
+//! its ranges by its type, and the check that makes them of what a line gives or names the first fault. Beside them
+//! stands what a crossing of an obstacle's side is, with the test of the obstacle's size in each band.
 #![tactic(auto)]
 
 mod checked;
 mod checking;
+mod crossing;
 mod cuts;
+mod edge;
 mod edges;
+mod ends;
 mod faults;
 mod kinds;
 pub mod limits;
@@ -25,8 +29,11 @@ mod words;
 
 pub use checked::Checked;
 pub use checking::check;
+pub use crossing::Crossing;
 pub use cuts::Cut;
+pub use edge::Edge;
 pub use edges::{side_of, sides};
+pub use ends::Ends;
 pub use faults::PartFault;
 pub use kinds::{Air, Class, Field, Kind, Shape};
 pub use memory::NoMemory;
@@ -34,5 +41,5 @@ pub use outlines::{Outline, RawPoints, RawPt};
 pub use parts::{Obstacle, Part, PointSource, Receiver, Zone};
 pub use raw::RawPart;
 pub use settings::{Globals, GridSpec, SetSpec};
-pub use size_test::{Breadth, in_band};
+pub use size_test::{Breadth, bands_of, in_band};
 pub use texts::{Name, PlainName, Word};

@@ -1,7 +1,10 @@
 //! The size test: in which bands an obstacle is large enough to screen (ISO 9613-2, 7.4).
-ghost use Rattle.std.specs.Prelude.{◌≡◌, ◌≤◌};
+ghost use Rattle.std.specs.Prelude.{◌≡◌, ◌≤◌, map};
+ghost use Rattle.scene_geom.specs.Bands.{all_bands};
 ghost use Rattle.scene_parts.specs.InBand.{is_in_band};
+ghost use Rattle.scene_parts.specs.Crossings.{counts_in};
 
+use super::ends::Ends;
 use super::parts::Obstacle;
 use super::shapes::squared;
 use scene_geom::{Band, Pt, Side, extent};
@@ -52,4 +55,21 @@ pub fn in_band(obstacle: &Obstacle, s: Pt, r: Pt, band: Band) -> bool
     ensures { result ≡ is_in_band obstacle.now s r band }
 {
     Breadth::of(obstacle, s, r).exceeds_wavelength(band)
+}
+
+/// In which bands an obstacle is large enough to screen, from 63 Hz on (7.4).
+pub fn bands_of(obstacle: &Obstacle, ends: Ends) -> [bool; 8]
+    ensures { result ≡ map (λ band. counts_in band ends obstacle.now) all_bands }
+{
+    let breadth = Breadth::of(obstacle, ends.s, ends.r);
+    [
+        breadth.exceeds_wavelength(Band::Hz63),
+        breadth.exceeds_wavelength(Band::Hz125),
+        breadth.exceeds_wavelength(Band::Hz250),
+        breadth.exceeds_wavelength(Band::Hz500),
+        breadth.exceeds_wavelength(Band::Hz1000),
+        breadth.exceeds_wavelength(Band::Hz2000),
+        breadth.exceeds_wavelength(Band::Hz4000),
+        breadth.exceeds_wavelength(Band::Hz8000),
+    ]
 }

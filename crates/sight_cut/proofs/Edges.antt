@@ -1,6 +1,6 @@
 -- Crossings without their numbers are edges, and cuts tell which obstacles screen.
 use Rattle.std.proofs.Common.{◌≡◌, ℕ, suc, ◌+◌, ◌<◌, ◌≤◌, List, [], ◌∷◌, ◌++◌, length, map, filter, ap, sym, ◌∙◌, refl, arith, add-zero, zero-add, append_assoc}
-use Rattle.std.specs.Prelude.{Option, Some, None, Bool, true, false, ◌&&◌, ◌||◌, ◌==◌, if◌then◌else◌}
+use Rattle.std.specs.Prelude.{Option, Some, None, Bool, true, false, ◌&&◌, ◌||◌, ◌==◌}
 use Rattle.std.specs.List.{filter_map, list_any}
 use Rattle.std.proofs.lemmas.List.{map-append}
 use Rattle.std.proofs.lemmas.List.Elements.{filter-append}
@@ -11,30 +11,18 @@ use Rattle.scene_geom.specs.Bands.{all_bands}
 use Rattle.scene_geom.proofs.BandLemmas.{at-place}
 use Rattle.scene_parts.specs.Views.{Obstacle}
 use Rattle.scene_parts.specs.Sides.{sides_of}
-use Rattle.path_shape.specs.declared.edge.Edge.{Edge}
+use Rattle.scene_parts.specs.declared.edge.Edge.{Edge}
 use Rattle.scene_parts.specs.declared.cuts.Cut.{Cut}
-use Rattle.sight_cut.specs.declared.ends.Ends.{Ends}
-use Rattle.sight_cut.specs.declared.crossing.Crossing.{Crossing}
-use Rattle.sight_cut.specs.Cuts.{edge_of, edges_of, counts_in, edges_in, screens_in, crossing_of, before_all, crossings_along, crossings_from, is_crossing_in, cut_of}
+use Rattle.scene_parts.specs.declared.ends.Ends.{Ends}
+use Rattle.scene_parts.specs.declared.crossing.Crossing.{Crossing}
+use Rattle.scene_parts.specs.Crossings.{counts_in, is_crossing_in, cut_of}
+use Rattle.sight_cut.specs.Cuts.{edge_of, edges_of, edges_in, screens_in, crossing_of, before_all, crossings_along, crossings_from}
+use Rattle.scene_parts.proofs.Counted.{where_true, none-counted, more-counted}
 use Rattle.sight_cut.specs.Laws.{CrossingsAreEdges, CutsTellScreens}
 
 -- of the crossings of one obstacle all count in a band, or none
 abbrev in_band_of : Band → List Crossing → List Crossing
 in_band_of band crossings = filter (is_crossing_in band) crossings
-
--- a list, or none
-abbrev pub where_true : {A : Type 0} → Bool → List A → List A
-where_true test xs = if test then xs else []
-
-pub none-counted : {A : Type 0} (test : Bool) (none : List A) → none ≡ [] → none ≡ where_true test []
-none-counted true none e = e
-none-counted false none e = e
-
--- a crossing before others, which counts as its obstacle does
-pub more-counted : {X A : Type 0} (counts : X → Bool) (edge : X → A) (test : Bool) (x : X) (others : List X) (edges : List A) → counts x ≡ test
-    → map edge (filter counts others) ≡ where_true test edges → map edge (filter counts (x ∷ others)) ≡ where_true test (edge x ∷ edges)
-more-counted counts edge true x others edges e h = rw e (ap (λ ys. edge x ∷ ys) h)
-more-counted counts edge false x others edges e h = rw e h
 
 edges-along : (band : Band) (ends : Ends) (i k : ℕ) (o : Obstacle) (sides : List Side)
     → map (λ c. c.edge) (in_band_of band (crossings_along ends i k o sides)) ≡ where_true (counts_in band ends o) (filter_map (edge_of ends o.h) sides)

@@ -1,27 +1,22 @@
 -- Where obstacles cross the plan line from source to receiver (ISO 9613-2, 7.4). Every side that crosses it is an edge,
 -- a cut is an edge with the numbers of its obstacle and side, and in a band those count whose obstacle is large enough.
-use Rattle.std.specs.Prelude.{ℕ, zero, suc, pos, ◌+ℤ◌, ◌-ℤ◌, ◌*ℤ◌, int_lt, Bool, false, ◌&&◌, List, [], ◌∷◌, ◌++◌, map, filter, flat_map, Option, Some, None, slice_index_or}
+use Rattle.std.specs.Prelude.{ℕ, zero, suc, Bool, ◌&&◌, List, [], ◌∷◌, ◌++◌, map, filter, flat_map, Option, Some, None}
 use Rattle.std.specs.List.{filter_map, list_any}
 use Rattle.std.specs.Option.{option_map}
 use Rattle.scene_geom.specs.declared.plan.Side.{Side}
-use Rattle.scene_geom.specs.declared.fraction.Frac.{Frac}
 use Rattle.scene_geom.specs.declared.band.Band.{Band}
-use Rattle.scene_geom.specs.Bands.{all_bands, place_of}
+use Rattle.scene_geom.specs.Bands.{all_bands}
 use Rattle.scene_geom.specs.Direction.{direct}
 use Rattle.scene_geom.specs.Crossing.{crosses_of}
 use Rattle.scene_parts.specs.Views.{Obstacle}
 use Rattle.scene_parts.specs.declared.cuts.Cut.{Cut}
 use Rattle.scene_parts.specs.Sides.{sides_of}
-use Rattle.scene_parts.specs.InBand.{is_in_band}
-use Rattle.path_shape.specs.declared.edge.Edge.{Edge}
-use Rattle.sight_cut.specs.declared.ends.Ends.{Ends}
-use Rattle.sight_cut.specs.declared.crossing.Crossing.{Crossing}
+use Rattle.scene_parts.specs.Crossings.{rises_above, counts_in, is_crossing_in, cut_of}
+use Rattle.scene_parts.specs.declared.edge.Edge.{Edge}
+use Rattle.scene_parts.specs.declared.ends.Ends.{Ends}
+use Rattle.scene_parts.specs.declared.crossing.Crossing.{Crossing}
 
 -- ---- edges of an obstacle
-
--- an edge of height H rises above the line of sight at the place t where H > h_s + t (h_r - h_s)
-abbrev pub rises_above : Ends → ℕ → Frac → Bool
-rises_above ends h t = int_lt (pos ends.hs *ℤ t.d +ℤ t.n *ℤ (pos ends.hr -ℤ pos ends.hs)) (pos h *ℤ t.d)
 
 -- the edge of a side of an obstacle of height h, where it crosses the line
 abbrev pub edge_of : Ends → ℕ → Side → Option Edge
@@ -35,10 +30,6 @@ abbrev pub edges_of : Ends → Obstacle → List Edge
 edges_of ends o = filter_map (edge_of ends o.h) (sides_of o)
 
 -- ---- edges in a band
-
--- an obstacle is large enough to screen in a band
-abbrev pub counts_in : Band → Ends → Obstacle → Bool
-counts_in band ends o = is_in_band o ends.s ends.r band
 
 -- the edges of all obstacles that are large enough in a band, in the order of obstacles and sides
 abbrev pub edges_in : Band → Ends → List Obstacle → List Edge
@@ -77,13 +68,6 @@ crossings_from ends i (o ∷ obstacles) =
 -- those of all obstacles, in the order of obstacles and sides
 abbrev pub crossings_of : Ends → List Obstacle → List Crossing
 crossings_of ends obstacles = crossings_from ends zero obstacles
-
--- the obstacle of a crossing is large enough in a band
-abbrev pub is_crossing_in : Band → Crossing → Bool
-is_crossing_in band crossing = slice_index_or crossing.bands (place_of band) false
-
-abbrev pub cut_of : Crossing → Cut
-cut_of c = record { obstacle = c.obstacle; side = c.side; t = c.edge.t; h = c.edge.h; above = c.edge.above }
 
 -- the cuts of the line of sight in a band
 abbrev pub cuts_of : Band → Ends → List Obstacle → List Cut

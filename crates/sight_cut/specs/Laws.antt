@@ -3,8 +3,9 @@ use Rattle.std.specs.Prelude.{◌≡◌, ◌&&◌, List, ◌∷◌, ◌++◌, le
 use Rattle.std.specs.List.{list_any}
 use Rattle.scene_geom.specs.declared.band.Band.{Band}
 use Rattle.scene_parts.specs.Views.{Obstacle}
-use Rattle.sight_cut.specs.declared.ends.Ends.{Ends}
-use Rattle.sight_cut.specs.Cuts.{edges_in, screens_in, crossings_of, is_crossing_in, cuts_of}
+use Rattle.scene_parts.specs.declared.ends.Ends.{Ends}
+use Rattle.scene_parts.specs.Crossings.{is_crossing_in}
+use Rattle.sight_cut.specs.Cuts.{edges_in, screens_in, crossings_of, cuts_of}
 
 -- without their numbers the crossings in a band are the edges in it
 abbrev pub CrossingsAreEdges : Type 0

@@ -1,15 +1,12 @@
 //! The search for sides that cross a line of sight.
-ghost use Rattle.std.specs.Prelude.{◌≡◌, ◌<◌, ◌≤◌, ◌*◌, ◌^◌, ◌++◌, [], length, map, IfOk, OnOk};
-ghost use Rattle.scene_geom.specs.Bands.{all_bands};
+ghost use Rattle.std.specs.Prelude.{◌≡◌, ◌<◌, ◌≤◌, ◌*◌, ◌^◌, ◌++◌, [], length, IfOk, OnOk};
 ghost use Rattle.scene_geom.specs.Fraction.{FitsCrossing};
 ghost use Rattle.scene_parts.specs.Sides.{sides_of};
-ghost use Rattle.sight_cut.specs.Cuts.{rises_above, edge_of, crossing_of, before_all, crossings_along, crossings_of, counts_in, cuts_of};
+ghost use Rattle.scene_parts.specs.Crossings.{rises_above};
+ghost use Rattle.sight_cut.specs.Cuts.{edge_of, crossing_of, before_all, crossings_along, crossings_of, cuts_of};
 
-use crate::crossing::Crossing;
-use crate::ends::Ends;
-use path_shape::Edge;
 use scene_geom::{Band, Frac, Pt, Side, crosses, dir_of};
-use scene_parts::{Breadth, Cut, NoMemory, Obstacle, side_of, sides};
+use scene_parts::{Crossing, Cut, Edge, Ends, NoMemory, Obstacle, bands_of, side_of, sides};
 use std::alloc::Global;
 
 /// The cuts of the line of sight from source to receiver in a band: all sides of all obstacles that are large enough in
@@ -96,23 +93,6 @@ fn add_crossing(
             Ok(())
         }
     }
-}
-
-/// In which bands an obstacle is large enough to screen, from 63 Hz on (7.4).
-pub fn bands_of(obstacle: &Obstacle, ends: Ends) -> [bool; 8]
-    ensures { result ≡ map (λ band. counts_in band ends obstacle.now) all_bands }
-{
-    let breadth = Breadth::of(obstacle, ends.s, ends.r);
-    [
-        breadth.exceeds_wavelength(Band::Hz63),
-        breadth.exceeds_wavelength(Band::Hz125),
-        breadth.exceeds_wavelength(Band::Hz250),
-        breadth.exceeds_wavelength(Band::Hz500),
-        breadth.exceeds_wavelength(Band::Hz1000),
-        breadth.exceeds_wavelength(Band::Hz2000),
-        breadth.exceeds_wavelength(Band::Hz4000),
-        breadth.exceeds_wavelength(Band::Hz8000),
-    ]
 }
 
 /// The edge of a side, where it crosses the line of sight.

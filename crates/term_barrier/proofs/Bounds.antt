@@ -19,7 +19,7 @@ use Rattle.fix_interval.proofs.Multiplying.{end_of-small}
 use Rattle.fix_interval.proofs.Spans.{at_least_one-low, unit-pos, floor-not_negative}
 use Rattle.enclose_log.proofs.LgRange.{logarithm-ranged}
 use Rattle.scene_geom.specs.declared.band.Band.{Band}
-use Rattle.path_shape.specs.declared.edge.Edge.{Edge}
+use Rattle.scene_parts.specs.declared.edge.Edge.{Edge}
 use Rattle.path_shape.specs.declared.path.Path.{Path}
 use Rattle.term_barrier.specs.Diffraction.{whole, ten_lg, attenuation, single_limit, double_limit}
 use Rattle.term_barrier.specs.Edges.{single_argument, pair_argument, where_convex}

@@ -3,7 +3,7 @@ use Rattle.std.proofs.Common.{◌≡◌, ℕ, ◌+◌, add-one, true, false, Lis
 use Rattle.std.proofs.lemmas.List.{map-append}
 use Rattle.fix_interval.specs.Interval.{Interval}
 use Rattle.scene_geom.specs.declared.band.Band.{Band}
-use Rattle.path_shape.specs.declared.edge.Edge.{Edge}
+use Rattle.scene_parts.specs.declared.edge.Edge.{Edge}
 use Rattle.path_shape.specs.declared.path.Path.{Path}
 use Rattle.term_barrier.specs.declared.single.Single.{Single}
 use Rattle.term_barrier.specs.declared.pair.Pair.{Pair}

@@ -6,7 +6,7 @@ use Rattle.std.proofs.lemmas.List.Elements.{recursion_from_All}
 use Rattle.fix_interval.specs.Interval.{Interval}
 use Rattle.fix_interval.specs.Tree.{Known, enc}
 use Rattle.scene_geom.specs.declared.band.Band.{Band}
-use Rattle.path_shape.specs.declared.edge.Edge.{Edge}
+use Rattle.scene_parts.specs.declared.edge.Edge.{Edge}
 use Rattle.path_shape.specs.declared.path.Path.{Path}
 use Rattle.term_barrier.specs.declared.single.Single.{Single}
 use Rattle.term_barrier.specs.declared.joined.Joined.{Joined}

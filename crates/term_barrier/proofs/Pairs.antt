@@ -9,7 +9,7 @@ use Rattle.fix_interval.specs.declared.truth.Truth.{Truth}
 use Rattle.fix_interval.specs.declared.truth.Truth.TheVariants.{Sure, Never, Unsure}
 use Rattle.fix_interval.specs.Tree.{Tree, Known, enc}
 use Rattle.scene_geom.specs.declared.band.Band.{Band}
-use Rattle.path_shape.specs.declared.edge.Edge.{Edge}
+use Rattle.scene_parts.specs.declared.edge.Edge.{Edge}
 use Rattle.path_shape.specs.declared.path.Path.{Path}
 use Rattle.term_barrier.specs.declared.pair.Pair.{Pair}
 use Rattle.term_barrier.specs.Diffraction.{whole, attenuation, ten_lg, at_two_edges, c_3, double_limit}

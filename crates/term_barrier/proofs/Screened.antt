@@ -8,7 +8,7 @@ use Rattle.std.proofs.lemmas.Bool.{false≢true}
 use Rattle.fix_interval.specs.Interval.{Interval}
 use Rattle.fix_interval.specs.Tree.{Tree, Known, Max, enc}
 use Rattle.scene_geom.specs.declared.band.Band.{Band}
-use Rattle.path_shape.specs.declared.edge.Edge.{Edge}
+use Rattle.scene_parts.specs.declared.edge.Edge.{Edge}
 use Rattle.path_shape.specs.declared.path.Path.{Path}
 use Rattle.term_barrier.specs.Diffraction.{whole, attenuation, ten_lg}
 use Rattle.term_barrier.specs.Edges.{single_argument, single_attenuation, pair_attenuation}

@@ -8,7 +8,8 @@ ghost use Rattle.term_barrier.specs.Prepared.{bend_of};
 
 use crate::components::{across, beside};
 use fix_interval::{Iv, add, mul, ratio, root, sub};
-use path_shape::{Edge, Path};
+use path_shape::Path;
+use scene_parts::Edge;
 
 /// An edge and what a path has to do with it, whatever edge comes after. Lengths are in metres.
 #[derive(Clone, Copy, Drop)]

@@ -9,8 +9,8 @@ ghost use Rattle.term_barrier.specs.Edges.{FitsEdge};
 ghost use Rattle.term_barrier.specs.Edges as form;
 
 use fix_interval::{Iv, div, ratio, root};
-use path_shape::Edge;
 use scene_geom::{Dir, Side};
+use scene_parts::Edge;
 
 /// X, the component of the path across an edge, in metres.
 #[tactic(auto, unfolding(crate::specs::Edges::across))]

@@ -14,9 +14,9 @@ use crate::joined::Joined;
 use crate::pair::Pair;
 use crate::single::Single;
 use fix_interval::Iv;
-use path_shape::{Edge, Path};
+use path_shape::Path;
 use scene_geom::Band;
-use scene_parts::NoMemory;
+use scene_parts::{Edge, NoMemory};
 use std::alloc::Global;
 
 /// Each edge of a path alone.

@@ -11,9 +11,9 @@ use crate::gathering::{best_alone, best_pair, greatest_argument, prepare, prepar
 use crate::joined::Joined;
 use crate::single::Single;
 use fix_interval::Iv;
-use path_shape::{Edge, Path};
+use path_shape::Path;
 use scene_geom::Band;
-use scene_parts::NoMemory;
+use scene_parts::{Edge, NoMemory};
 use std::alloc::Global;
 use std::marker::Model;
 

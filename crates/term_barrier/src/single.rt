@@ -10,8 +10,9 @@ ghost use Rattle.term_barrier.specs.Prepared.{single_of};
 use crate::bend::{Bend, rest, slant};
 use crate::formulas::{at_one_edge, k_met, path_difference, three_and};
 use fix_interval::{Iv, add, mul, neg};
-use path_shape::{Edge, Path};
+use path_shape::Path;
 use scene_geom::Band;
+use scene_parts::Edge;
 
 /// An edge alone: how the path passes it, z in metres, and K_met.
 #[derive(Clone, Copy, Drop)]

@@ -5,8 +5,9 @@ ghost use Rattle.term_barrier.specs.Edges.{FitsEdge};
 
 use super::*;
 use fix_interval::{Iv, ratio, root};
-use path_shape::{Edge, Path};
+use path_shape::Path;
 use scene_geom::{Band, Pt, Side, crosses, dir_of};
+use scene_parts::Edge;
 use std::alloc::{AllocError, Global};
 use std::test::Fail;
 

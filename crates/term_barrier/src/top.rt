@@ -15,8 +15,9 @@ use crate::greater::greater;
 use crate::pair::Pair;
 use crate::single::Single;
 use fix_interval::{Iv, exact};
-use path_shape::{Edge, Path};
+use path_shape::Path;
 use scene_geom::Band;
+use scene_parts::Edge;
 
 /// D_z over the top in dB (ISO 9613-2, equation 14), in a band: the greatest over all edges that rise above the line of
 /// sight and all two of them over both of which sound bends, and 0 dB where none rises. Source and receiver are `d` apart,

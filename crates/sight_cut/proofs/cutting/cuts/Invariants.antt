@@ -1,6 +1,6 @@
 -- The cuts of the crossings so far.
 use Rattle.std.proofs.Common.{◌≡◌, map, filter, take}
-use Rattle.sight_cut.specs.Cuts.{cut_of, is_crossing_in}
+use Rattle.scene_parts.specs.Crossings.{cut_of, is_crossing_in}
 use Rattle.sight_cut.proofs.cutting.cuts.Given as goal
 
 abbrev pub invariant-loop-crossing : goal.invariant-loop-crossing

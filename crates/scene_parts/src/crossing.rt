@@ -1,10 +1,10 @@
 //! Sides that cross a line of sight.
 ghost use Rattle.std.specs.Prelude.{◌≡◌};
-ghost use Rattle.sight_cut.specs.Cuts.{is_crossing_in, cut_of};
+ghost use Rattle.scene_parts.specs.Crossings.{is_crossing_in, cut_of};
 
-use path_shape::Edge;
+use super::cuts::Cut;
+use super::edge::Edge;
 use scene_geom::Band;
-use scene_parts::Cut;
 
 /// A side of an obstacle that crosses a line of sight: the obstacle and the side by their numbers from 0, the edge, and
 /// for each band from 63 Hz on whether the obstacle is large enough to screen in it.
