@@ -9,10 +9,11 @@ use Rattle.scene_geom.specs.Direction.{direct}
 use Rattle.scene_geom.specs.Crossing.{crosses_of}
 use Rattle.scene_parts.specs.Views.{Obstacle}
 use Rattle.scene_parts.specs.Sides.{sides_of}
-use Rattle.path_shape.specs.declared.edge.Edge.{Edge}
-use Rattle.sight_cut.specs.declared.ends.Ends.{Ends}
-use Rattle.sight_cut.specs.declared.crossing.Crossing.{Crossing}
-use Rattle.sight_cut.specs.Cuts.{rises_above, edge_of, crossing_of, before_all, crossings_along, crossings_from, crossings_of}
+use Rattle.scene_parts.specs.declared.edge.Edge.{Edge}
+use Rattle.scene_parts.specs.declared.ends.Ends.{Ends}
+use Rattle.scene_parts.specs.declared.crossing.Crossing.{Crossing}
+use Rattle.scene_parts.specs.Crossings.{rises_above}
+use Rattle.sight_cut.specs.Cuts.{edge_of, crossing_of, before_all, crossings_along, crossings_from, crossings_of}
 use Rattle.term_barrier.specs.Edges.{FitsEdge}
 use Rattle.term_barrier.proofs.Fitting.{crossings-fit}
 

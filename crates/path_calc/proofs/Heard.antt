@@ -16,9 +16,9 @@ use Rattle.scene_parts.specs.Views.{Source, Receiver, Obstacle, Zone, Globals}
 use Rattle.scene_parts.specs.declared.kinds.Air.{Air}
 use Rattle.scene_book.specs.Book.{Book}
 use Rattle.path_shape.specs.declared.path.Path.{Path}
-use Rattle.path_shape.specs.declared.edge.Edge.{Edge}
+use Rattle.scene_parts.specs.declared.edge.Edge.{Edge}
 use Rattle.path_shape.specs.Shape.{plan_length, length_of}
-use Rattle.sight_cut.specs.declared.crossing.Crossing.{Crossing}
+use Rattle.scene_parts.specs.declared.crossing.Crossing.{Crossing}
 use Rattle.sight_cut.specs.Cuts.{edges_in, crossings_of}
 use Rattle.image_source.specs.Dimensions.{dimension_squared, needed_squared}
 use Rattle.term_div_atm.specs.Terms.{divergence}

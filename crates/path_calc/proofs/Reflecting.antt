@@ -23,11 +23,11 @@ use Rattle.scene_parts.specs.Views.{Obstacle, Zone, Globals}
 use Rattle.scene_parts.specs.Sides.{sides_of}
 use Rattle.scene_book.specs.Lists.{total}
 use Rattle.scene_book.specs.Book.{side_total}
-use Rattle.path_shape.specs.declared.edge.Edge.{Edge}
+use Rattle.scene_parts.specs.declared.edge.Edge.{Edge}
 use Rattle.path_shape.specs.declared.path.Path.{Path}
-use Rattle.sight_cut.specs.declared.ends.Ends.{Ends}
-use Rattle.sight_cut.specs.declared.crossing.Crossing.{Crossing}
-use Rattle.sight_cut.specs.Cuts.{is_crossing_in}
+use Rattle.scene_parts.specs.declared.ends.Ends.{Ends}
+use Rattle.scene_parts.specs.declared.crossing.Crossing.{Crossing}
+use Rattle.scene_parts.specs.Crossings.{is_crossing_in}
 use Rattle.image_source.specs.declared.leg.Leg.{Leg}
 use Rattle.image_source.specs.Mirrors.{IsMirror, has_mirror, mirror_of}
 use Rattle.image_source.specs.Dimensions.{dimension_squared, needed_squared}

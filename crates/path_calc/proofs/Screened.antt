@@ -11,10 +11,11 @@ use Rattle.scene_geom.specs.Bands.{all_bands, place_of}
 use Rattle.scene_parts.specs.Views.{Source, Receiver, Obstacle}
 use Rattle.scene_book.specs.Book.{Book}
 use Rattle.path_shape.specs.declared.path.Path.{Path}
-use Rattle.path_shape.specs.declared.edge.Edge.{Edge}
-use Rattle.sight_cut.specs.declared.ends.Ends.{Ends}
-use Rattle.sight_cut.specs.declared.crossing.Crossing.{Crossing}
-use Rattle.sight_cut.specs.Cuts.{edges_of, edges_in, counts_in, screens_in, crossings_of, is_crossing_in}
+use Rattle.scene_parts.specs.declared.edge.Edge.{Edge}
+use Rattle.scene_parts.specs.declared.ends.Ends.{Ends}
+use Rattle.scene_parts.specs.declared.crossing.Crossing.{Crossing}
+use Rattle.scene_parts.specs.Crossings.{counts_in, is_crossing_in}
+use Rattle.sight_cut.specs.Cuts.{edges_of, edges_in, screens_in, crossings_of}
 use Rattle.sight_cut.proofs.Edges.{crossings-are-edges}
 use Rattle.term_barrier.specs.Screening.{marked, screening}
 use Rattle.path_calc.specs.Surroundings.{ends_of, edges_at, surroundings_of}

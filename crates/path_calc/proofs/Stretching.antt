@@ -11,8 +11,9 @@ use Rattle.scene_geom.specs.declared.band.Band.{Band}
 use Rattle.scene_parts.specs.declared.size_test.Breadth.{Breadth}
 use Rattle.scene_parts.specs.Views.{Obstacle}
 use Rattle.scene_parts.specs.Sides.{sides_of}
-use Rattle.sight_cut.specs.declared.ends.Ends.{Ends}
-use Rattle.sight_cut.specs.Cuts.{counts_in, screens_in, crossings_of}
+use Rattle.scene_parts.specs.declared.ends.Ends.{Ends}
+use Rattle.scene_parts.specs.Crossings.{counts_in}
+use Rattle.sight_cut.specs.Cuts.{screens_in, crossings_of}
 use Rattle.edge_chain.specs.declared.hand.Hand.{Hand}
 use Rattle.edge_chain.specs.declared.hand.Hand.TheVariants.{Left, Right}
 use Rattle.edge_chain.specs.Chain.{chain_of, is_stretched, blocks_chain, IsChain}

@@ -14,8 +14,9 @@ use Rattle.path_calc.specs.Surroundings.{Surroundings, ends_of, surroundings_of}
 use Rattle.path_calc.specs.Trace.{trace_along}
 use Rattle.path_calc.specs.Energies.{band_energy, long_energy}
 
--- the name, the place and the height in mm of the source, the plan segments along which it was heard, the energy in
--- each band, and the long-term energy over all bands
+-- What a receiver has from one source. Its levels add up from the downwind energy in each band and the A-weighted
+-- energy of a long time over all bands; by the source's name, its place and height in mm and the plan segments along
+-- which the scene was read it is known which later edits touch them
 pub record Bundle : Type 0 where
   pub source : List ℕ
   pub at : Pt

@@ -4,7 +4,7 @@ use Rattle.std.specs.Option.{option_map}
 use Rattle.fix_interval.specs.Tree.{Tree, Const, Add, Sub, Mul, Lg}
 use Rattle.scene_parts.specs.Views.{Source, Receiver, Zone, Globals}
 use Rattle.path_shape.specs.Shape.{plan_length, length_of}
-use Rattle.path_shape.specs.declared.edge.Edge.{Edge}
+use Rattle.scene_parts.specs.declared.edge.Edge.{Edge}
 use Rattle.term_div_atm.specs.Terms.{divergence, absorption}
 use Rattle.term_ground.specs.Ground.{ground}
 use Rattle.term_barrier.specs.Screening.{screening}
@@ -23,7 +23,9 @@ pub data Counting : Type 0 where
   Always : Counting
   WhereGreater : Tree → Tree → Counting
 
--- a sound in a band: its level in dB, the length of its own path in plan in metres (d_p), and when it counts
+-- A sound in a band: its downwind level in dB (equation 3), before A-weight and weather; the distance d_p from source
+-- to receiver in plan, in metres, by which the weather is allowed for (clause 8): a reflected sound has it by way of
+-- its wall, a lateral one as the direct sound; and when the sound counts
 pub record Contribution : Type 0 where
   pub level : Tree
   pub dp : Tree

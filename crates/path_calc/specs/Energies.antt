@@ -28,7 +28,8 @@ weighted band level = Add level (Const (weight_in band) 10)
 abbrev pub long_term : Band → Tree → Tree → Tree
 long_term band c_met level = Sub (weighted band level) c_met
 
--- C_met of a sound from a source to a receiver, by the length of its own path
+-- C_met of a sound (equations 21 and 22): what its level loses over the weather of a long time, for the distance in
+-- plan of its source, or of the source's image in a wall, from the receiver
 abbrev pub correction_of : Globals → Source → Receiver → Contribution → Tree
 correction_of globals s r sound = correction sound.dp s.h r.h globals.c0
 

@@ -12,10 +12,10 @@ use Rattle.scene_parts.specs.Views.{Source, Receiver, Zone, Globals}
 use Rattle.scene_book.specs.Book.{Book}
 use Rattle.path_shape.specs.Shape.{plan_length}
 use Rattle.path_shape.specs.declared.path.Path.{Path}
-use Rattle.path_shape.specs.declared.edge.Edge.{Edge}
-use Rattle.sight_cut.specs.declared.ends.Ends.{Ends}
-use Rattle.sight_cut.specs.declared.crossing.Crossing.{Crossing}
-use Rattle.sight_cut.specs.Cuts.{is_crossing_in}
+use Rattle.scene_parts.specs.declared.edge.Edge.{Edge}
+use Rattle.scene_parts.specs.declared.ends.Ends.{Ends}
+use Rattle.scene_parts.specs.declared.crossing.Crossing.{Crossing}
+use Rattle.scene_parts.specs.Crossings.{is_crossing_in}
 use Rattle.image_source.specs.declared.leg.Leg.{Leg}
 use Rattle.image_source.specs.Dimensions.{dimension_squared, needed_squared}
 use Rattle.term_div_atm.specs.Terms.{divergence}

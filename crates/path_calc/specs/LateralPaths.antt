@@ -8,8 +8,9 @@ use Rattle.scene_geom.specs.declared.band.Band.{Band}
 use Rattle.scene_geom.specs.Bands.{all_bands}
 use Rattle.scene_parts.specs.Views.{Obstacle}
 use Rattle.scene_parts.specs.Sides.{sides_of}
-use Rattle.sight_cut.specs.declared.ends.Ends.{Ends}
-use Rattle.sight_cut.specs.Cuts.{counts_in, screens_in}
+use Rattle.scene_parts.specs.declared.ends.Ends.{Ends}
+use Rattle.scene_parts.specs.Crossings.{counts_in}
+use Rattle.sight_cut.specs.Cuts.{screens_in}
 use Rattle.edge_chain.specs.declared.hand.Hand.{Hand}
 use Rattle.edge_chain.specs.declared.hand.Hand.TheVariants.{Left, Right}
 use Rattle.edge_chain.specs.Chain.{chain_of, blocks_chain}
@@ -23,7 +24,8 @@ pub record LateralPath : Type 0 where
 abbrev pub screening_corners : Band → Ends → List Obstacle → List Pt
 screening_corners band ends obstacles = flat_map (λ o. o.points) (filter (screens_in band ends) obstacles)
 
--- whether an obstacle is in the way of a string in a band: it is large enough there, and a side of it crosses a segment
+-- an obstacle cuts off the sound along a string in a band: it is large enough to screen there, and the string leads
+-- through it, which is more than to turn at its corner
 abbrev pub is_in_the_way : Band → Ends → List Pt → Obstacle → Bool
 is_in_the_way band ends corners o = counts_in band ends o && list_any (blocks_chain corners ends.s ends.r) (sides_of o)
 

@@ -10,10 +10,10 @@ use Rattle.scene_geom.specs.Bands.{all_bands}
 use Rattle.scene_parts.specs.Views.{Obstacle, Zone}
 use Rattle.scene_parts.specs.Sides.{sides_of}
 use Rattle.path_shape.specs.Shape.{length_of}
-use Rattle.path_shape.specs.declared.edge.Edge.{Edge}
+use Rattle.scene_parts.specs.declared.edge.Edge.{Edge}
 use Rattle.path_shape.specs.declared.path.Path.{Path}
 use Rattle.path_shape.specs.declared.legs.Legs.TheVariants.{Two}
-use Rattle.sight_cut.specs.declared.ends.Ends.{Ends}
+use Rattle.scene_parts.specs.declared.ends.Ends.{Ends}
 use Rattle.image_source.specs.Mirrors.{mirror_of}
 use Rattle.image_source.specs.LegCuts.{edges_in}
 use Rattle.path_calc.specs.GroundZones.{zones_on}

@@ -2,7 +2,7 @@
 use Rattle.std.specs.Prelude.{ℕ, Bool, true, false, ◌&&◌, ◌==◌, List, [], ◌∷◌, ◌++◌, flat_map, if◌then◌else◌}
 use Rattle.scene_geom.specs.declared.band.Band.{Band}
 use Rattle.scene_parts.specs.Views.{Obstacle}
-use Rattle.sight_cut.specs.declared.ends.Ends.{Ends}
+use Rattle.scene_parts.specs.declared.ends.Ends.{Ends}
 use Rattle.sight_cut.specs.Cuts.{crossings_of}
 use Rattle.path_calc.specs.declared.segments.Seg.{Seg}
 use Rattle.path_calc.specs.declared.strings.Strings.{Strings}

@@ -11,8 +11,7 @@ use crate::segments::Segs;
 use crate::strings::Strings;
 use fix_interval::Iv;
 use scene_geom::Band;
-use scene_parts::{NoMemory, Obstacle};
-use sight_cut::{Crossing, Ends};
+use scene_parts::{Crossing, Ends, NoMemory, Obstacle};
 use std::alloc::Global;
 
 /// By how much sound is screened in a band that goes round the left and the right, where it does: D_z in dB.

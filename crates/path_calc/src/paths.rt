@@ -15,8 +15,8 @@ use fix_interval::Iv;
 use path_shape::Path;
 use scene_book::Scene;
 use scene_geom::Band;
-use scene_parts::{NoMemory, PointSource, Receiver};
-use sight_cut::{Ends, crossings};
+use scene_parts::{Ends, NoMemory, PointSource, Receiver};
+use sight_cut::crossings;
 use std::alloc::Global;
 
 /// What the bands share of all paths from a source to a receiver: of the direct one, which leads over the top of what

@@ -21,8 +21,7 @@ use fix_interval::{Iv, exact, mul, ratio};
 use image_source::{Leg, Mirror, big_enough_in_bands, leg_crossings, mirror};
 use path_shape::Path;
 use scene_geom::Side;
-use scene_parts::{NoMemory, Obstacle, side_of, sides};
-use sight_cut::{Crossing, Ends};
+use scene_parts::{Crossing, Ends, NoMemory, Obstacle, side_of, sides};
 use std::alloc::Global;
 
 impl<'a> Between<'a> {

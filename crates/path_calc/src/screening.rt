@@ -1,15 +1,14 @@
 //! By how much the direct path is screened over the top.
 ghost use Rattle.std.specs.Prelude.{◌≡◌, map, IfOk, All};
-ghost use Rattle.sight_cut.specs.Cuts.{is_crossing_in};
+ghost use Rattle.scene_parts.specs.Crossings.{is_crossing_in};
 ghost use Rattle.term_barrier.specs.Edges.{FitsEdge};
 ghost use Rattle.term_barrier.specs.Limits.{IsGroundEffect, IsScreening};
 ghost use Rattle.path_calc.specs.Hearing.{edges_among, bar_over, bars_over};
 
 use fix_interval::Iv;
-use path_shape::{Edge, Path};
+use path_shape::Path;
 use scene_geom::Band;
-use scene_parts::NoMemory;
-use sight_cut::Crossing;
+use scene_parts::{Crossing, Edge, NoMemory};
 use std::alloc::Global;
 use term_barrier::Screens;
 

@@ -3,8 +3,7 @@ ghost use Rattle.std.specs.Prelude.{◌≡◌, IfOk};
 ghost use Rattle.path_calc.specs.Strings.{rises_in, is_number, numbers_in as numbers, corners_at as corners, corners_numbered};
 
 use scene_geom::{Band, Pt};
-use scene_parts::{NoMemory, Obstacle};
-use sight_cut::Crossing;
+use scene_parts::{Crossing, NoMemory, Obstacle};
 use std::alloc::Global;
 
 /// The numbers of the obstacles that screen in a band, each once and in order: those of the crossings that count there

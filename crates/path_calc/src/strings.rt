@@ -20,8 +20,7 @@ use crate::segments::{Seg, Segs};
 use edge_chain::{Hand, chain, is_blocked};
 use fix_interval::Iv;
 use scene_geom::{Band, Pt};
-use scene_parts::{Breadth, NoMemory, Obstacle, side_of, sides};
-use sight_cut::{Crossing, Ends};
+use scene_parts::{Breadth, Crossing, Ends, NoMemory, Obstacle, side_of, sides};
 use std::alloc::Global;
 use term_barrier::d_z_side;
 

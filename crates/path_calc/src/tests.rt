@@ -1,19 +1,42 @@
 //! Bundles and levels with ends from outside, by an independent program.
 ghost use Rattle.std.specs.Prelude.{◌≡◌, ◌<◌};
 
-use super::{Band, Bundle, NoMemory, Steps, bundle, levels};
+use super::{Band, Bundle, Levels, NoMemory, Steps, bundle, levels};
 use fix_interval::Iv;
 use scene_book::{Edit, Scene};
 use scene_geom::Pt;
 use scene_parts::{
-    Air, Checked, Kind, Name, Part, PlainName, PointSource, RawPart, RawPoints, RawPt, Receiver,
-    SetSpec, check,
+    Air, Kind, Name, PlainName, PointSource, RawPart, RawPoints, RawPt, Receiver, SetSpec, check,
 };
 use std::alloc::Global;
 use std::marker::Brand;
 use std::process::Abort;
 use std::sync::ledger::{Blank, Ledger};
 use std::test::Fail;
+
+/// An edit that makes a scene: the air and the ground factor outside of zones, or a part by its name.
+#[derive(Clone, Copy)]
+enum Step {
+    Air(Air),
+    Yard,
+    Wall,
+    Front,
+    Low,
+}
+
+/// A zone of ground.
+const OPEN: [Step; 2] = [Step::Air(Air::Celsius10Humidity70), Step::Yard];
+
+/// The same, with a barrier on the way.
+const BEHIND_WALL: [Step; 3] = [Step::Air(Air::Celsius10Humidity70), Step::Yard, Step::Wall];
+
+/// The same, with a wall that reflects, and a barrier before it.
+const BESIDE_FRONT: [Step; 4] = [
+    Step::Air(Air::Celsius10Humidity70),
+    Step::Yard,
+    Step::Front,
+    Step::Low,
+];
 
 fn fan(alloc: Global) -> Option<PointSource> {
     Some(PointSource {
@@ -71,14 +94,15 @@ fn corners(alloc: Global, places: &[(i64, i64)]) -> Option<RawPoints> {
     Some(RawPoints::from_vec(points))
 }
 
-fn part(alloc: Global, raw: RawPart) -> Option<Part> {
+/// The edit that puts a part.
+fn put(alloc: Global, raw: RawPart) -> Option<Edit> {
     match check(alloc, raw) {
-        Ok(Checked::Part(part)) => Some(part),
-        _ => None,
+        Ok(checked) => Some(Edit::from(checked)),
+        Err(_) => None,
     }
 }
 
-fn yard(alloc: Global) -> Option<Part> {
+fn yard(alloc: Global) -> Option<Edit> {
     let points = corners(
         alloc,
         &[
@@ -89,7 +113,7 @@ fn yard(alloc: Global) -> Option<Part> {
         ],
     )?;
     let name = PlainName::from_vec(b"yard".to_vec(alloc).ok()?);
-    part(
+    put(
         alloc,
         RawPart::Zone {
             name,
@@ -106,9 +130,9 @@ fn barrier(
     places: &[(i64, i64)],
     h: i64,
     rho: i64,
-) -> Option<Part> {
+) -> Option<Edit> {
     let points = corners(alloc, places)?;
-    part(
+    put(
         alloc,
         RawPart::Barrier {
             name,
@@ -121,24 +145,64 @@ fn barrier(
 }
 
 /// A barrier across the way from the fan to the receiver, by two sides, which is too small at 63 Hz.
-fn wall(alloc: Global) -> Option<Part> {
+fn wall(alloc: Global) -> Option<Edit> {
     let places = [(40_000, 10_500), (41_000, 14_500), (42_000, 10_500)];
     let name = PlainName::from_vec(b"wall".to_vec(alloc).ok()?);
     barrier(alloc, name, &places, 5000, 0)
 }
 
-/// A scene with this air, and a zone of ground.
-fn scene(alloc: Global, air: Air) -> Option<Scene> {
-    let mut scene = Scene::empty(alloc).ok()?;
-    let setting = SetSpec {
+/// A wall beside the fan that reflects and is large enough from 1000 Hz on.
+fn front(alloc: Global) -> Option<Edit> {
+    let places = [(20_000, 60_000), (90_000, 62_000)];
+    let name = PlainName::from_vec(b"front".to_vec(alloc).ok()?);
+    barrier(alloc, name, &places, 7000, 700)
+}
+
+/// A barrier before that wall.
+fn low(alloc: Global) -> Option<Edit> {
+    let places = [(30_000, 40_000), (40_000, 42_000)];
+    let name = PlainName::from_vec(b"low".to_vec(alloc).ok()?);
+    barrier(alloc, name, &places, 5000, 0)
+}
+
+/// An air, and the ground factor outside of all zones.
+fn setting(air: Air) -> Edit {
+    Edit::Set(SetSpec {
         reach: None,
         g: Some(20),
         air: Some(air),
         c0: None,
-    };
-    scene.apply(alloc, &Edit::Set(setting)).ok()?;
-    let yard = yard(alloc)?;
-    scene.apply(alloc, &Edit::Put(yard)).ok()?;
+    })
+}
+
+/// Does what an edit says, where it is there and the scene takes it. Each step is a function of its own: the proof of a
+/// function grows fast with the values that it has to drop.
+fn take(alloc: Global, scene: &mut Scene, edit: Option<Edit>) -> Option<()> {
+    let edit = edit?;
+    if scene.apply(alloc, &edit).is_ok() {
+        Some(())
+    } else {
+        None
+    }
+}
+
+/// The edit of a step.
+fn edit(alloc: Global, step: &Step) -> Option<Edit> {
+    match step {
+        Step::Air(air) => Some(setting(*air)),
+        Step::Yard => yard(alloc),
+        Step::Wall => wall(alloc),
+        Step::Front => front(alloc),
+        Step::Low => low(alloc),
+    }
+}
+
+/// The scene that these steps make.
+fn scene(alloc: Global, steps: &[Step]) -> Option<Scene> {
+    let mut scene = Scene::empty(alloc).ok()?;
+    for step in steps {
+        take(alloc, &mut scene, edit(alloc, step))?;
+    }
     Some(scene)
 }
 
@@ -161,57 +225,78 @@ fn path(alloc: Global, scene: &Scene, source: &PointSource, receiver: &Receiver)
     counted::<Brand>(alloc, scene, source, receiver, Blank::new(1)).ok()
 }
 
-/// The bundle of a source in this air.
-fn in_air(alloc: Global, air: Air, source: &PointSource) -> Option<Bundle> {
-    let scene = scene(alloc, air)?;
+/// The bundle of a source in a scene.
+fn heard(alloc: Global, scene: &Scene, source: &PointSource) -> Option<Bundle> {
     let receiver = receiver(alloc)?;
-    path(alloc, &scene, source, &receiver)
+    path(alloc, scene, source, &receiver)
 }
 
-fn fan_in(alloc: Global, air: Air) -> Option<Bundle> {
+/// The bundle of the fan in a scene.
+fn fan_heard(alloc: Global, scene: &Scene) -> Option<Bundle> {
     let fan = fan(alloc)?;
-    in_air(alloc, air, &fan)
+    heard(alloc, scene, &fan)
 }
 
-/// The scene with the barrier.
-fn walled(alloc: Global) -> Option<Scene> {
-    let mut scene = scene(alloc, Air::Celsius10Humidity70)?;
-    let wall = wall(alloc)?;
-    scene.apply(alloc, &Edit::Put(wall)).ok()?;
-    Some(scene)
-}
-
-/// The bundle of the fan behind the barrier.
-fn fan_behind(alloc: Global) -> Option<Bundle> {
-    let scene = walled(alloc)?;
-    let fan = fan(alloc)?;
-    let receiver = receiver(alloc)?;
-    path(alloc, &scene, &fan, &receiver)
-}
-
-/// The bundle of the fan beside a wall that reflects and is large enough from 1000 Hz on, with a barrier before it.
-fn fan_beside(alloc: Global) -> Option<Bundle> {
-    let mut scene = scene(alloc, Air::Celsius10Humidity70)?;
-    let name = PlainName::from_vec(b"front".to_vec(alloc).ok()?);
-    let places = [(20_000, 60_000), (90_000, 62_000)];
-    let front = barrier(alloc, name, &places, 7000, 700)?;
-    scene.apply(alloc, &Edit::Put(front)).ok()?;
-    let name = PlainName::from_vec(b"low".to_vec(alloc).ok()?);
-    let places = [(30_000, 40_000), (40_000, 42_000)];
-    let low = barrier(alloc, name, &places, 5000, 0)?;
-    scene.apply(alloc, &Edit::Put(low)).ok()?;
-    let fan = fan(alloc)?;
-    let receiver = receiver(alloc)?;
-    path(alloc, &scene, &fan, &receiver)
-}
-
-fn gate_in(alloc: Global, air: Air) -> Option<Bundle> {
+/// The bundle of the gate in a scene.
+fn gate_heard(alloc: Global, scene: &Scene) -> Option<Bundle> {
     let gate = gate(alloc)?;
-    in_air(alloc, air, &gate)
+    heard(alloc, scene, &gate)
+}
+
+/// The bundle of the fan in the scene that these steps make.
+fn fan_in(alloc: Global, steps: &[Step]) -> Option<Bundle> {
+    let scene = scene(alloc, steps)?;
+    fan_heard(alloc, &scene)
+}
+
+/// The bundle of the gate in the scene that these steps make.
+fn gate_in(alloc: Global, steps: &[Step]) -> Option<Bundle> {
+    let scene = scene(alloc, steps)?;
+    gate_heard(alloc, &scene)
+}
+
+/// The levels of the fan's bundle and the gate's.
+fn with_gate(alloc: Global, fan: Bundle) -> Option<Levels> {
+    let gate = gate_in(alloc, &OPEN)?;
+    Some(levels(&[fan, gate]))
+}
+
+/// The levels of the fan and the gate.
+fn both(alloc: Global) -> Option<Levels> {
+    let fan = fan_in(alloc, &OPEN)?;
+    with_gate(alloc, fan)
 }
 
 fn has_ends(rt: &impl Abort, found: Iv, (lo, hi): (i128, i128)) {
     assert_eq!(rt; (found.low(), found.high()), (Some(lo), Some(hi)));
+}
+
+/// Asserts the ends of a bundle's energies in each band, and over all bands.
+fn has_energies(
+    rt: &impl Abort,
+    found: Option<Bundle>,
+    bands: &[(i128, i128); 8],
+    long: (i128, i128),
+) -> Option<()> {
+    let found = found?;
+    for band in Band::all() {
+        has_ends(rt, found.energy_in(band), bands[band.place()]);
+    }
+    has_ends(rt, found.long_energy(), long);
+    Some(())
+}
+
+/// Asserts the ends of a bundle's energies at 4 kHz, and over all bands.
+fn has_long_energy(
+    rt: &impl Abort,
+    found: Option<Bundle>,
+    at_4000: (i128, i128),
+    long: (i128, i128),
+) -> Option<()> {
+    let found = found?;
+    has_ends(rt, found.energy_in(Band::Hz4000), at_4000);
+    has_ends(rt, found.long_energy(), long);
+    Some(())
 }
 
 /// Each air with the ends of the energies at 4 kHz and over all bands.
@@ -250,13 +335,9 @@ const ENERGIES: [(Air, (i128, i128), (i128, i128)); 6] = [
 
 #[test]
 fn energies_in_each_air(rt: HostRuntime) -> Result<(), Fail> {
-    let alloc = rt.alloc();
     for (air, energy, long) in ENERGIES {
-        let Some(bundle) = fan_in(alloc, air) else {
-            return Err("no memory".into());
-        };
-        has_ends(&rt, bundle.energy_in(Band::Hz4000), energy);
-        has_ends(&rt, bundle.long_energy(), long);
+        let found = fan_in(rt.alloc(), &[Step::Air(air), Step::Yard]);
+        has_long_energy(&rt, found, energy, long).ok_or("no memory")?;
     }
     Ok(())
 }
@@ -275,17 +356,8 @@ const BEHIND: [(i128, i128); 8] = [
 
 #[test]
 fn energies_behind_a_barrier(rt: HostRuntime) -> Result<(), Fail> {
-    let Some(bundle) = fan_behind(rt.alloc()) else {
-        return Err("no memory".into());
-    };
-    for band in Band::all() {
-        has_ends(&rt, bundle.energy_in(band), BEHIND[band.place()]);
-    }
-    has_ends(
-        &rt,
-        bundle.long_energy(),
-        (231362228724638, 231362267539394),
-    );
+    let long = (231362228724638, 231362267539394);
+    has_energies(&rt, fan_in(rt.alloc(), &BEHIND_WALL), &BEHIND, long).ok_or("no memory")?;
     Ok(())
 }
 
@@ -303,17 +375,8 @@ const BESIDE: [(i128, i128); 8] = [
 
 #[test]
 fn energies_by_way_of_a_wall(rt: HostRuntime) -> Result<(), Fail> {
-    let Some(bundle) = fan_beside(rt.alloc()) else {
-        return Err("no memory".into());
-    };
-    for band in Band::all() {
-        has_ends(&rt, bundle.energy_in(band), BESIDE[band.place()]);
-    }
-    has_ends(
-        &rt,
-        bundle.long_energy(),
-        (725753307672187, 725753310127432),
-    );
+    let long = (725753307672187, 725753310127432);
+    has_energies(&rt, fan_in(rt.alloc(), &BESIDE_FRONT), &BESIDE, long).ok_or("no memory")?;
     Ok(())
 }
 
@@ -330,18 +393,15 @@ const LEVELS: [(i128, i128); 8] = [
 ];
 
 #[test]
-fn levels_of_none_and_of_two_sources(rt: HostRuntime) -> Result<(), Fail> {
+fn levels_of_no_source(rt: HostRuntime) {
     let silent = levels(&[]);
     has_ends(&rt, silent.total, (0, 0));
     has_ends(&rt, silent.bands[4], (0, 0));
-    let alloc = rt.alloc();
-    let Some(fan) = fan_in(alloc, Air::Celsius10Humidity70) else {
-        return Err("no memory".into());
-    };
-    let Some(gate) = gate_in(alloc, Air::Celsius10Humidity70) else {
-        return Err("no memory".into());
-    };
-    let found = levels(&[fan, gate]);
+}
+
+#[test]
+fn levels_of_two_sources(rt: HostRuntime) -> Result<(), Fail> {
+    let found = both(rt.alloc()).ok_or("no memory")?;
     has_ends(&rt, found.total, (225660748370, 225660748460));
     for band in Band::all() {
         has_ends(&rt, found.bands[band.place()], LEVELS[band.place()]);

@@ -23,7 +23,7 @@ next_state state = (state * 6364136223846793005 + 1442695040888963407) % 2 ^ 64
 abbrev pub draw : ℕ → Drawing ℕ
 draw many state = (next_state state / 2 ^ 33 % many, next_state state)
 
--- a number from `least` on, of as many
+-- one of so many numbers in a row, of which this is the least
 abbrev pub draw_from : ℕ → ℕ → Drawing ℕ
 draw_from least many = do
   n ← draw many

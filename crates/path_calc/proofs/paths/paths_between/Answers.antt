@@ -7,8 +7,8 @@ use Rattle.scene_geom.specs.Bands.{all_bands}
 use Rattle.scene_parts.specs.Views.{Source, Receiver, Obstacle}
 use Rattle.path_shape.specs.Shape.{direct_path}
 use Rattle.path_shape.specs.declared.path.Path.{Path}
-use Rattle.sight_cut.specs.declared.crossing.Crossing.{Crossing}
-use Rattle.sight_cut.specs.declared.ends.Ends.{Ends}
+use Rattle.scene_parts.specs.declared.crossing.Crossing.{Crossing}
+use Rattle.scene_parts.specs.declared.ends.Ends.{Ends}
 use Rattle.sight_cut.specs.Cuts.{crossings_of}
 use Rattle.term_barrier.specs.Edges.{FitsEdge}
 use Rattle.path_calc.specs.Lengths.{distance}

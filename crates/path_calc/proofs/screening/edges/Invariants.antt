@@ -1,6 +1,6 @@
 -- The edges of the crossings so far.
 use Rattle.std.proofs.Common.{◌≡◌, map, take}
-use Rattle.sight_cut.specs.declared.crossing.Crossing.{Crossing}
+use Rattle.scene_parts.specs.declared.crossing.Crossing.{Crossing}
 use Rattle.path_calc.proofs.screening.edges.Given as goal
 
 abbrev pub invariant-loop-crossing : goal.invariant-loop-crossing

@@ -1,6 +1,6 @@
 -- The marks of the crossings so far.
 use Rattle.std.proofs.Common.{◌≡◌, map, take}
-use Rattle.sight_cut.specs.Cuts.{is_crossing_in}
+use Rattle.scene_parts.specs.Crossings.{is_crossing_in}
 use Rattle.path_calc.proofs.screening.marks.Given as goal
 
 abbrev pub invariant-loop-crossing : goal.invariant-loop-crossing

@@ -1,5 +1,5 @@
 use Rattle.std.proofs.Common.{◌∙◌, ◌++◌, ap, List}
-use Rattle.sight_cut.specs.declared.crossing.Crossing.{Crossing}
+use Rattle.scene_parts.specs.declared.crossing.Crossing.{Crossing}
 use Rattle.path_calc.specs.Strings.{both_of, numbers_in}
 use Rattle.path_calc.specs.declared.segments.Seg.{Seg}
 use Rattle.path_calc.proofs.Stretching.{both-are}

@@ -7,7 +7,7 @@ use Rattle.scene_geom.specs.Bands.{all_bands}
 use Rattle.scene_geom.specs.declared.reflection.Reflection.{Reflection}
 use Rattle.scene_parts.specs.Views.{Obstacle}
 use Rattle.path_shape.specs.declared.path.Path.{Path}
-use Rattle.sight_cut.specs.declared.crossing.Crossing.{Crossing}
+use Rattle.scene_parts.specs.declared.crossing.Crossing.{Crossing}
 use Rattle.image_source.specs.declared.leg.Leg.{Leg}
 use Rattle.image_source.specs.Mirrors.{IsMirror}
 use Rattle.image_source.specs.Dimensions.{dimension_squared, needed_squared}
