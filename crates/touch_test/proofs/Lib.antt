@@ -1,8 +1,8 @@
-mod Lists
+pub mod Lists
 mod Trace
 mod Quiet
 mod Stays
-mod Untouched
+pub mod Untouched
 mod Pieces
-mod Edits
+pub mod Edits
 mod Receivers

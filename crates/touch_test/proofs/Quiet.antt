@@ -13,8 +13,9 @@ use Rattle.scene_geom.specs.Reflection.{unfolded}
 use Rattle.scene_geom.specs.Laws.{UncrossedIsUnblocked}
 use Rattle.scene_parts.specs.Views.{Obstacle, Zone}
 use Rattle.scene_parts.specs.Sides.{sides_of}
-use Rattle.path_shape.specs.declared.edge.Edge.{Edge}
-use Rattle.sight_cut.specs.declared.ends.Ends.{Ends}
+use Rattle.scene_parts.specs.declared.edge.Edge.{Edge}
+use Rattle.scene_parts.specs.declared.ends.Ends.{Ends}
+use Rattle.scene_parts.specs.Crossings.{counts_in}
 use Rattle.sight_cut.specs.Cuts as cuts
 use Rattle.edge_chain.specs.Chain.{segments_of, blocks_chain}
 use Rattle.image_source.specs.declared.leg.Leg.{Leg}
@@ -60,20 +61,20 @@ module _ (ends : Ends) (trace : List Seg) (o : Obstacle) (quiet : obstacle_touch
   -- so it doesn't screen
   pub no-screen : In (Straight ends.s ends.r) trace → (band : Band) → cuts.screens_in band ends o ≡ false
   no-screen line band =
-      ap (λ (edges : List Edge). cuts.counts_in band ends o && list_any (λ (edge : Edge). edge.above) edges) (no-edges line)
-      ∙ and_false (cuts.counts_in band ends o)
+      ap (λ (edges : List Edge). counts_in band ends o && list_any (λ (edge : Edge). edge.above) edges) (no-edges line)
+      ∙ and_false (counts_in band ends o)
 
   -- is not in the way of a string that stands in the trace
   pub not-in-the-way : UncrossedIsUnblocked → (band : Band) (corners : List Pt)
       → ((segment : Side) → In segment (segments_of corners ends.s ends.r) → In (straight segment) trace)
       → is_in_the_way band ends corners o ≡ false
   not-in-the-way unblocked band corners traced =
-      ap (λ (b : Bool). cuts.counts_in band ends o && b)
+      ap (λ (b : Bool). counts_in band ends o && b)
       (none-passes (blocks_chain corners ends.s ends.r) (sides_of o) (λ side i.
       none-passes (λ (segment : Side). blocks_of side segment.from segment.to) (segments_of corners ends.s ends.r) (λ segment j.
       unblocked side segment.from segment.to
       (not_some (crosses_of side segment.from segment.to) (uncrossed side i (straight segment) (traced segment j))))))
-      ∙ and_false (cuts.counts_in band ends o)
+      ∙ and_false (counts_in band ends o)
 
   -- has no edge on the legs of a reflection
   pub no-leg-edges : (leg : Leg) (wall : Side) → In (Legs wall ends.s ends.r) trace

@@ -17,9 +17,10 @@ use Rattle.scene_parts.specs.Views.{Source, Receiver, Obstacle, Zone}
 use Rattle.scene_parts.specs.Sides.{sides_of}
 use Rattle.scene_book.specs.Book.{Book}
 use Rattle.scene_book.specs.Laws.{Edited, Pieces, ListsEdited}
-use Rattle.path_shape.specs.declared.edge.Edge.{Edge}
+use Rattle.scene_parts.specs.declared.edge.Edge.{Edge}
 use Rattle.path_shape.specs.declared.path.Path.{Path}
-use Rattle.sight_cut.specs.declared.ends.Ends.{Ends}
+use Rattle.scene_parts.specs.declared.ends.Ends.{Ends}
+use Rattle.scene_parts.specs.Crossings.{counts_in}
 use Rattle.sight_cut.specs.Cuts as cuts
 use Rattle.edge_chain.specs.declared.hand.Hand.{Hand}
 use Rattle.edge_chain.specs.declared.hand.Hand.TheVariants.{Left, Right}
@@ -73,7 +74,7 @@ module _ (unblocked : UncrossedIsUnblocked) (a b : Book) (s : Source) (r : Recei
     (quiet_new : (o : Obstacle) → In o new → obstacle_touches (ends_of s r) (trace_of a s r) o ≡ false) where
   same-edges : (band : Band) → cuts.edges_in band (ends_of s r) a.obstacles ≡ cuts.edges_in band (ends_of s r) b.obstacles
   same-edges band =
-      kept-stays old new a.obstacles b.obstacles e (cuts.counts_in band (ends_of s r)) (cuts.edges_of (ends_of s r))
+      kept-stays old new a.obstacles b.obstacles e (counts_in band (ends_of s r)) (cuts.edges_of (ends_of s r))
       (λ o i. no-edges (ends_of s r) (trace_of a s r) o (quiet_old o i) (in-line a s r))
       (λ o i. no-edges (ends_of s r) (trace_of a s r) o (quiet_new o i) (in-line a s r))
 
@@ -155,7 +156,7 @@ module _ (unblocked : UncrossedIsUnblocked) (a b : Book) (s : Source) (r : Recei
       → legs.leg_edges_in band leg (unfolded wall s.at r.at) (ends_of s r) a.obstacles
       ≡ legs.leg_edges_in band leg (unfolded wall s.at r.at) (ends_of s r) b.obstacles
   same-leg-edges wall stands leg band =
-      kept-stays old new a.obstacles b.obstacles e (cuts.counts_in band (ends_of s r))
+      kept-stays old new a.obstacles b.obstacles e (counts_in band (ends_of s r))
       (legs.edges_on leg (unfolded wall s.at r.at) (ends_of s r))
       (λ o i. no-leg-edges (ends_of s r) (trace_of a s r) o (quiet_old o i) leg wall stands)
       (λ o i. no-leg-edges (ends_of s r) (trace_of a s r) o (quiet_new o i) leg wall stands)

@@ -13,7 +13,7 @@ use Rattle.scene_geom.specs.Crossing.{differ}
 use Rattle.scene_parts.specs.Views.{Source, Receiver, Obstacle, Zone}
 use Rattle.scene_parts.specs.Sides.{sides_of}
 use Rattle.scene_book.specs.Book.{Book}
-use Rattle.sight_cut.specs.declared.ends.Ends.{Ends}
+use Rattle.scene_parts.specs.declared.ends.Ends.{Ends}
 use Rattle.sight_cut.specs.Cuts.{screens_in}
 use Rattle.edge_chain.specs.declared.hand.Hand.{Hand}
 use Rattle.edge_chain.specs.declared.hand.Hand.TheVariants.{Left, Right}

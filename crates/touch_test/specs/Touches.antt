@@ -12,7 +12,7 @@ use Rattle.scene_book.specs.Grid.{receivers_of}
 use Rattle.scene_book.specs.Applying.{replaced, part_named}
 use Rattle.scene_book.specs.declared.edits.Edit.{Edit}
 use Rattle.scene_book.specs.declared.edits.Edit.TheVariants as edits
-use Rattle.sight_cut.specs.declared.ends.Ends.{Ends}
+use Rattle.scene_parts.specs.declared.ends.Ends.{Ends}
 use Rattle.image_source.specs.Mirrors.{has_mirror}
 use Rattle.path_calc.specs.Lengths.{is_within}
 use Rattle.path_calc.specs.declared.segments.Seg.{Seg}
@@ -57,7 +57,8 @@ abbrev pub zone_touches : Ends → List Seg → Zone → Bool
 zone_touches ends trace zone =
     meets_line zone.points ends.s ends.r || list_any (meets_leg zone.points) trace
 
--- a part touches a path where it is put or removed: its own source and receiver, and what the rules above say
+-- To put or remove a part touches a path where the part is the path's source or receiver, an obstacle that crosses a
+-- segment of its trace or mirrors its source to its receiver, or a zone over which its direct line or a leg leads
 abbrev pub part_touches : TracedPath → Part → Bool
 part_touches path (parts.Source source) = bytes_eq source.name path.source
 part_touches path (parts.Obstacle o) = obstacle_touches path.ends path.trace o

@@ -11,7 +11,7 @@ ghost use Rattle.touch_test.specs.Numbers.{read_on};
 use scene_parts::GridSpec;
 
 /// Whether a grid puts the receiver of a name, which reads `name/column/row`.
-pub(crate) fn puts(grid: &GridSpec, name: &[u8]) -> bool
+pub fn puts(grid: &GridSpec, name: &[u8]) -> bool
     ensures { result ≡ list_any (λ receiver. bytes_eq receiver.name name.now) (receivers_of grid.now) }
 {
     match name.strip_prefix(grid.name.items()) {

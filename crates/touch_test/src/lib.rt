@@ -9,4 +9,5 @@ mod parts;
 mod tests;
 mod touching;
 
+pub use grids::puts;
 pub use touching::{names_receiver, touches, touches_row};

@@ -11,8 +11,7 @@ use crate::crossings::{crosses_any, meets_any_leg, meets_line};
 use image_source::mirror;
 use path_calc::{Bundle, Seg, within};
 use scene_geom::Side;
-use scene_parts::{Obstacle, Part, Receiver, Zone, side_of, sides};
-use sight_cut::Ends;
+use scene_parts::{Ends, Obstacle, Part, Receiver, Zone, side_of, sides};
 
 /// Whether a part touches the path of a bundle where it is put or removed.
 pub(crate) fn part_touches(part: &Part, bundle: &Bundle, receiver: &Receiver) -> bool

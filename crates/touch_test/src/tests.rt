@@ -5,11 +5,13 @@ ghost use Rattle.scene_parts.specs.Names.{IsName, IsAnyName};
 use super::{touches, touches_row};
 use path_calc::{Bundle, NoMemory, Steps, bundle};
 use scene_book::{Edit, Logged, Scene};
-use scene_parts::{Name, PlainName, PointSource, RawPart, RawPoints, RawPt, Receiver, Word, check};
+use scene_parts::{
+    Globals, Name, PlainName, PointSource, RawPart, RawPoints, RawPt, Receiver, Word, check,
+};
 use std::alloc::Global;
 use std::marker::Brand;
+use std::process::Abort;
 use std::sync::ledger::{Blank, Ledger};
-use std::test::Fail;
 
 /// The names of parts.
 #[derive(Clone, Copy)]
@@ -45,6 +47,12 @@ enum Step {
 /// What stands beside source and receiver, which receiver is asked, an edit, and whether it touches the path from the
 /// source and the receiver.
 type Row = (&'static [Step], usize, Step, bool, bool);
+
+/// Source and receiver.
+const PAIR: [Step; 2] = [
+    Step::Source(Called::Source, 0, 0),
+    Step::Receiver(Called::Receiver, 100_000, 0),
+];
 
 /// Source and receiver alone.
 const NOTHING: [Step; 0] = [];
@@ -105,7 +113,8 @@ const OTHER_FAR: [Step; 1] = [Step::Source(Called::Other, 4000000, 4000000)];
 /// Receivers in 12 columns and 3 rows.
 const GRID: [Step; 1] = [Step::Grid(Called::Grid, 100000, 12, 3)];
 
-const ROWS: [Row; 52] = [
+/// Edits of what screens, far from the line and in a zone.
+const SCREENS: [Row; 4] = [
     // The blocked string on the left crosses what is removed.
     (&SCREEN, 0, Step::Remove(Called::House), true, true),
     // A wall that is moved away was in the way.
@@ -156,6 +165,10 @@ const ROWS: [Row; 52] = [
         true,
         true,
     ),
+];
+
+/// Edits of what mirrors or might mirror.
+const MIRRORS: [Row; 10] = [
     // Where it would mirror, but it absorbs.
     (
         &NOTHING,
@@ -246,6 +259,10 @@ const ROWS: [Row; 52] = [
         false,
         false,
     ),
+];
+
+/// Edits that cross the legs and the line, touch them, or stay beside them.
+const CROSSINGS: [Row; 9] = [
     // The first leg, the second, and past the wall.
     (
         &MIRROR,
@@ -321,6 +338,10 @@ const ROWS: [Row; 52] = [
         false,
         false,
     ),
+];
+
+/// Edits on strings and beside them.
+const STRINGS: [Row; 5] = [
     // A string on the left, on the right, and beside it.
     (
         &SMALL,
@@ -351,6 +372,10 @@ const ROWS: [Row; 52] = [
         false,
     ),
     (&SMALL, 0, Step::Remove(Called::Wall), true, true),
+];
+
+/// Edits of zones.
+const ZONES: [Row; 7] = [
     (
         &NOTHING,
         0,
@@ -419,6 +444,10 @@ const ROWS: [Row; 52] = [
         true,
         true,
     ),
+];
+
+/// Edits of sources and receivers.
+const ENDS: [Row; 10] = [
     (&NOTHING, 0, Step::Source(Called::Source, 0, 0), true, true),
     (&NOTHING, 0, Step::Remove(Called::Source), true, true),
     // A source that comes, one that comes nearer, one that stays away, and one that goes.
@@ -466,6 +495,10 @@ const ROWS: [Row; 52] = [
         false,
     ),
     (&NOTHING, 0, Step::Remove(Called::Receiver), true, true),
+];
+
+/// Edits of grids and of settings.
+const GRIDS: [Row; 7] = [
     // The receiver of a grid's column 11 and row 2, by grids of more and of fewer columns and rows, and of another name.
     (&GRID, 36, Step::Grid(Called::Grid, 0, 12, 3), true, true),
     (&GRID, 36, Step::Grid(Called::Grid, 0, 11, 3), false, false),
@@ -524,71 +557,117 @@ fn source(alloc: Global, called: Called, x: i64, y: i64) -> Option<RawPart> {
     })
 }
 
+fn receiver(alloc: Global, called: Called, x: i64, y: i64) -> Option<RawPart> {
+    Some(RawPart::Receiver {
+        name: named(alloc, called)?,
+        x,
+        y,
+        h: 2000,
+    })
+}
+
+fn barrier(alloc: Global, called: Called, corners: Corners, h: i64, rho: i64) -> Option<RawPart> {
+    let points = outline(alloc, corners)?;
+    Some(RawPart::Barrier {
+        name: named(alloc, called)?,
+        points,
+        h,
+        density: 20,
+        rho,
+    })
+}
+
+fn building(alloc: Global, called: Called, corners: Corners, h: i64, rho: i64) -> Option<RawPart> {
+    let points = outline(alloc, corners)?;
+    Some(RawPart::Building {
+        name: named(alloc, called)?,
+        points,
+        h,
+        rho,
+    })
+}
+
+fn zone(alloc: Global, called: Called, corners: Corners, g: i64) -> Option<RawPart> {
+    let points = outline(alloc, corners)?;
+    Some(RawPart::Zone {
+        name: named(alloc, called)?,
+        points,
+        g,
+    })
+}
+
+fn grid(alloc: Global, called: Called, x: i64, columns: i64, rows: i64) -> Option<RawPart> {
+    Some(RawPart::Grid {
+        name: named(alloc, called)?,
+        x,
+        y: 0,
+        step: 1000,
+        columns,
+        rows,
+        h: 2000,
+    })
+}
+
+fn hard_ground() -> RawPart {
+    RawPart::Set {
+        reach: None,
+        g: Some(0),
+        air: None,
+        c0: None,
+    }
+}
+
 /// The part that a step puts, if it puts one.
 fn raw(alloc: Global, step: Step) -> Option<RawPart> {
-    Some(match step {
-        Step::Source(called, x, y) => source(alloc, called, x, y)?,
-        Step::Receiver(called, x, y) => RawPart::Receiver {
-            name: named(alloc, called)?,
-            x,
-            y,
-            h: 2000,
-        },
-        Step::Barrier(called, corners, h, rho) => RawPart::Barrier {
-            name: named(alloc, called)?,
-            points: outline(alloc, corners)?,
-            h,
-            density: 20,
-            rho,
-        },
-        Step::Building(called, corners, h, rho) => RawPart::Building {
-            name: named(alloc, called)?,
-            points: outline(alloc, corners)?,
-            h,
-            rho,
-        },
-        Step::Zone(called, corners, g) => RawPart::Zone {
-            name: named(alloc, called)?,
-            points: outline(alloc, corners)?,
-            g,
-        },
-        Step::Grid(called, x, columns, rows) => RawPart::Grid {
-            name: named(alloc, called)?,
-            x,
-            y: 0,
-            step: 1000,
-            columns,
-            rows,
-            h: 2000,
-        },
-        Step::Hard | Step::Remove(_) => RawPart::Set {
-            reach: None,
-            g: Some(0),
-            air: None,
-            c0: None,
-        },
-    })
+    match step {
+        Step::Source(called, x, y) => source(alloc, called, x, y),
+        Step::Receiver(called, x, y) => receiver(alloc, called, x, y),
+        Step::Barrier(called, corners, h, rho) => barrier(alloc, called, corners, h, rho),
+        Step::Building(called, corners, h, rho) => building(alloc, called, corners, h, rho),
+        Step::Zone(called, corners, g) => zone(alloc, called, corners, g),
+        Step::Grid(called, x, columns, rows) => grid(alloc, called, x, columns, rows),
+        Step::Hard => Some(hard_ground()),
+        Step::Remove(_) => None,
+    }
+}
+
+fn put(alloc: Global, raw: RawPart) -> Option<Edit> {
+    match check(alloc, raw) {
+        Ok(checked) => Some(Edit::from(checked)),
+        Err(_) => None,
+    }
+}
+
+fn remove(alloc: Global, called: Called) -> Option<Edit> {
+    let name = text(called).to_vec(alloc).ok()?;
+    Some(Edit::Remove(Name::from_vec(name)))
 }
 
 fn edit(alloc: Global, step: Step) -> Option<Edit> {
     match step {
-        Step::Remove(called) => Some(Edit::Remove(Name::from_vec(
-            text(called).to_vec(alloc).ok()?,
-        ))),
-        _ => match check(alloc, raw(alloc, step)?) {
-            Ok(checked) => Some(Edit::from(checked)),
-            Err(_) => None,
-        },
+        Step::Remove(called) => remove(alloc, called),
+        _ => put(alloc, raw(alloc, step)?),
     }
 }
 
-/// An edit that the scene takes.
-fn take(alloc: Global, scene: &mut Scene, step: Step) -> Option<Logged> {
-    let edit = edit(alloc, step)?;
+/// An edit that the scene takes. Each step of a case is a function of its own: the proof of a function grows fast with the
+/// values that it has to drop.
+fn taken(alloc: Global, scene: &mut Scene, edit: Edit) -> Option<Logged> {
     match scene.apply(alloc, &edit) {
         Ok(old) => Some(Logged { edit, old }),
         Err(_) => None,
     }
+}
+
+fn take(alloc: Global, scene: &mut Scene, step: Step) -> Option<Logged> {
+    taken(alloc, scene, edit(alloc, step)?)
+}
+
+fn take_all(alloc: Global, scene: &mut Scene, steps: &[Step]) -> Option<()> {
+    for step in steps {
+        take(alloc, scene, *step)?;
+    }
+    Some(())
 }
 
 fn counted<L: Ledger>(
@@ -609,15 +688,8 @@ fn counted<L: Ledger>(
 /// Source and receiver 100 m apart, with these parts beside them.
 fn scene_with(alloc: Global, beside: &[Step]) -> Option<Scene> {
     let mut scene = Scene::empty(alloc).ok()?;
-    take(alloc, &mut scene, Step::Source(Called::Source, 0, 0))?;
-    take(
-        alloc,
-        &mut scene,
-        Step::Receiver(Called::Receiver, 100_000, 0),
-    )?;
-    for part in beside {
-        take(alloc, &mut scene, *part)?;
-    }
+    take_all(alloc, &mut scene, &PAIR)?;
+    take_all(alloc, &mut scene, beside)?;
     Some(scene)
 }
 
@@ -627,26 +699,89 @@ fn path(alloc: Global, scene: &Scene, receiver: &Receiver) -> Option<Bundle> {
     counted::<Brand>(alloc, scene, source, receiver, Blank::new(1)).ok()
 }
 
-/// Whether an edit touches the path from the source to a receiver, and this receiver.
+/// Whether an edit that was taken touches the path of this bundle, and its receiver.
+fn told(logged: &Logged, globals: &Globals, found: Bundle, receiver: &Receiver) -> (bool, bool) {
+    let path = touches(logged, globals, &found, receiver);
+    (path, touches_row(logged, globals, &[found], receiver))
+}
+
+/// The same of an edit that the scene takes next.
+fn touches_found(
+    alloc: Global,
+    scene: &mut Scene,
+    receiver: &Receiver,
+    found: Bundle,
+    step: Step,
+) -> Option<(bool, bool)> {
+    let globals = *scene.globals();
+    let logged = take(alloc, scene, step)?;
+    Some(told(&logged, &globals, found, receiver))
+}
+
+/// Whether the scene's next edit touches the path from the source to a receiver, and this receiver.
+fn touches_heard(
+    alloc: Global,
+    scene: &mut Scene,
+    receiver: &Receiver,
+    step: Step,
+) -> Option<(bool, bool)> {
+    let found = path(alloc, scene, receiver)?;
+    touches_found(alloc, scene, receiver, found, step)
+}
+
+fn receiver_at(scene: &Scene, place: usize) -> Option<Receiver> {
+    scene.receivers().get(place)?.clone().ok()
+}
+
+fn touches_at(alloc: Global, scene: &mut Scene, place: usize, step: Step) -> Option<(bool, bool)> {
+    let receiver = receiver_at(scene, place)?;
+    touches_heard(alloc, scene, &receiver, step)
+}
+
+/// Whether the edit of a row touches the path from the source to its receiver, and this receiver.
 fn touched(alloc: Global, row: &Row) -> Option<(bool, bool)> {
     let mut scene = scene_with(alloc, row.0)?;
-    let receiver = scene.receivers().get(row.1)?.clone().ok()?;
-    let found = path(alloc, &scene, &receiver)?;
-    let globals = *scene.globals();
-    let logged = take(alloc, &mut scene, row.2)?;
-    let path = touches(&logged, &globals, &found, &receiver);
-    let mut bundles = Vec::new(alloc);
-    bundles.push(found).ok()?;
-    Some((
-        path,
-        touches_row(&logged, &globals, bundles.as_slice(), &receiver),
-    ))
+    touches_at(alloc, &mut scene, row.1, row.2)
+}
+
+/// Asserts what the edits of these rows touch.
+fn touch_what_is_read(rt: &impl Abort, alloc: Global, rows: &[Row]) {
+    for row in rows {
+        assert_eq!(rt; touched(alloc, row), Some((row.3, row.4)));
+    }
 }
 
 #[test]
-fn edits_touch_what_is_read(rt: HostRuntime) -> Result<(), Fail> {
-    for row in &ROWS {
-        assert_eq!(rt; touched(rt.alloc(), row), Some((row.3, row.4)));
-    }
-    Ok(())
+fn edits_beside_the_line(rt: HostRuntime) {
+    touch_what_is_read(&rt, rt.alloc(), &SCREENS);
+}
+
+#[test]
+fn edits_of_what_mirrors(rt: HostRuntime) {
+    touch_what_is_read(&rt, rt.alloc(), &MIRRORS);
+}
+
+#[test]
+fn edits_across_the_legs_and_the_line(rt: HostRuntime) {
+    touch_what_is_read(&rt, rt.alloc(), &CROSSINGS);
+}
+
+#[test]
+fn edits_on_strings(rt: HostRuntime) {
+    touch_what_is_read(&rt, rt.alloc(), &STRINGS);
+}
+
+#[test]
+fn edits_of_zones(rt: HostRuntime) {
+    touch_what_is_read(&rt, rt.alloc(), &ZONES);
+}
+
+#[test]
+fn edits_of_sources_and_receivers(rt: HostRuntime) {
+    touch_what_is_read(&rt, rt.alloc(), &ENDS);
+}
+
+#[test]
+fn edits_of_grids_and_settings(rt: HostRuntime) {
+    touch_what_is_read(&rt, rt.alloc(), &GRIDS);
 }
