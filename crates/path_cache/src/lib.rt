@@ -1,0 +1,14 @@
+//! The bundles of a receiver, refreshed: those that were kept for it and still stand are handed on as they are, and the
+//! others are calculated from the scene.
+#![tactic(auto)]
+
+mod keeping;
+pub mod laws;
+mod preparing;
+mod refreshing;
+#[cfg(test)]
+mod tests;
+
+pub use path_calc::{Bundle, NoMemory, PreparedSource, Steps};
+pub use preparing::prepare;
+pub use refreshing::{refresh, refresh_prepared};

@@ -1,0 +1,109 @@
+//! A refresh of the bundles of one receiver.
+ghost use Rattle.std.specs.Prelude.{◌≡◌, ◌≤◌, ◌+◌, ◌++◌, IfOk, OnOk, length, map};
+ghost use Rattle.path_calc.specs.Prepared.{prepared_of};
+ghost use Rattle.path_cache.specs.Refreshed.{CanRefresh, refreshed, count_wanted};
+ghost use Rattle.path_cache.specs.OfOneSource.{refreshed_of_one, steps_of_one};
+
+use crate::keeping::find_unmarked;
+use crate::preparing::prepare;
+use path_calc::{Bundle, PreparedReceiver, PreparedSource, Steps, bundle_between, within};
+use scene_book::Scene;
+use scene_parts::{NoMemory, PointSource, Receiver};
+use std::alloc::Global;
+use std::sync::ledger::Ledger;
+
+/// The bundles of a receiver in a scene, of kept ones that are marked or not: for each source within reach, in the order
+/// of sources, the unmarked kept bundle of that source exactly as it stands, where there is one, and else the scene's.
+/// One step is counted for each source within reach whose bundle is marked or missing, and no other.
+pub fn refresh<L: Ledger>(
+    alloc: Global,
+    scene: &Scene,
+    receiver: &Receiver,
+    kept: &[Bundle],
+    marks: &[bool],
+    steps: &mut Steps<L>,
+) -> Result<Vec<Bundle>, NoMemory>
+    requires { CanRefresh kept.now marks.now }
+    ensures value { IfOk result (λ bundles. bundles.items
+        ≡ refreshed scene.now receiver.now kept.now marks.now) }
+    ensures few { IfOk result (λ bundles. length bundles.items ≤ 128) }
+    ensures steps { OnOk result (steps.new
+        ≡ steps.old + count_wanted scene.now receiver.now kept.now marks.now) }
+{
+    let prepared = prepare(alloc, scene)?;
+    refresh_prepared(alloc, scene, &prepared, receiver, kept, marks, steps)
+}
+
+/// The same, of a scene whose sources are prepared: once, and not for each receiver.
+pub fn refresh_prepared<L: Ledger>(
+    alloc: Global,
+    scene: &Scene,
+    prepared: &[PreparedSource],
+    receiver: &Receiver,
+    kept: &[Bundle],
+    marks: &[bool],
+    steps: &mut Steps<L>,
+) -> Result<Vec<Bundle>, NoMemory>
+    requires prepared { prepared.now ≡ map prepared_of scene.now.sources }
+    requires kept { CanRefresh kept.now marks.now }
+    ensures value { IfOk result (λ bundles. bundles.items
+        ≡ refreshed scene.now receiver.now kept.now marks.now) }
+    ensures few { IfOk result (λ bundles. length bundles.items ≤ 128) }
+    ensures steps { OnOk result (steps.new
+        ≡ steps.old + count_wanted scene.now receiver.now kept.now marks.now) }
+{
+    let renewal = Renewal {
+        scene,
+        receiver,
+        to: PreparedReceiver::of(receiver),
+        kept,
+        marks,
+    };
+    let mut bundles = Vec::new(alloc);
+    for (place, source) in scene.sources().iter().enumerate() {
+        renewal.add(alloc, source, &prepared[place], steps, &mut bundles)?;
+    }
+    Ok(bundles)
+}
+
+/// A receiver in a scene, and what was kept for it.
+#[derive(Drop)]
+struct Renewal<'a> {
+    scene: &'a Scene,
+    receiver: &'a Receiver,
+    to: PreparedReceiver,
+    kept: &'a [Bundle],
+    marks: &'a [bool],
+    ghost ready: { to ≡ receiver.now.h },
+}
+
+impl<'a> Renewal<'a> {
+    /// Adds the bundle of a source, if it is within reach.
+    fn add<L: Ledger>(
+        &self,
+        alloc: Global,
+        source: &PointSource,
+        from: &PreparedSource,
+        steps: &mut Steps<L>,
+        bundles: &mut Vec<Bundle>,
+    ) -> Result<(), NoMemory>
+        requires kept { CanRefresh self.now.kept.now self.now.marks.now }
+        requires prepared { from.now ≡ prepared_of source.now }
+        ensures bundles { OnOk result (bundles.new.items ≡ bundles.old.items
+            ++ refreshed_of_one self.now.scene.now self.now.receiver.now
+            self.now.kept.now self.now.marks.now source.now) }
+        ensures steps { OnOk result (steps.new ≡ steps.old
+            + steps_of_one self.now.scene.now self.now.receiver.now
+            self.now.kept.now self.now.marks.now source.now) }
+    {
+        let receiver = self.receiver;
+        if !within(self.scene.globals().reach, source.at, receiver.at) {
+            return Ok(());
+        }
+        let bundle = match find_unmarked(self.kept, self.marks, &source.name, bundles.len()) {
+            Some(unmarked) => unmarked.clone()?,
+            None => bundle_between(alloc, self.scene, source, from, receiver, &self.to, steps)?,
+        };
+        Ok(bundles.push(bundle)?)
+    }
+}
