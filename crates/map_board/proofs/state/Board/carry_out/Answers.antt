@@ -1,0 +1,69 @@
+use Rattle.std.proofs.Common.{◌≡◌, ℕ, ◌-◌, ◌≤◌, sym, ap, ◌∙◌, subst, arith, length, add-one, drop, List, [], ◌∷◌, ◌++◌, Ok}
+use Rattle.std.specs.Prelude.{All, Vec}
+use Rattle.std.specs.declared.alloc.Global.{Global}
+use Rattle.std.proofs.lemmas.List.{length_push}
+use Rattle.scene_parts.specs.Views.{Receiver}
+use Rattle.scene_book.specs.Limits.{most_receivers}
+use Rattle.scene_book.specs.Lists.{AreApart}
+use Rattle.scene_book.specs.Applying.{apply_of}
+use Rattle.scene_book.specs.declared.edits.Edit.{Edit}
+use Rattle.map_board.specs.declared.rows.HeldRow.{HeldRow}
+use Rattle.map_board.specs.declared.scenes.PreparedScene.{PreparedScene}
+use Rattle.map_board.specs.Journal.{newest_scene}
+use Rattle.map_board.specs.Rows.{State}
+use Rattle.map_board.specs.Namings.{noted}
+use Rattle.map_board.specs.Boards.{IsOutSince, EachHolds, IsBoard}
+use Rattle.map_board.proofs.BoardAfter.{outs-stay, log-count, board-after}
+use Rattle.map_board.proofs.state.Board.carry_out.Goals as goal
+
+pub trim-requires-clause-from : goal.trim-requires-clause-from
+trim-requires-clause-from c =
+    let b = c.self.inside in
+    let plan = c.args.plan in
+    let e = c.args.edit in
+    let rows = subst (λ (v : Vec HeldRow Global). All (IsOutSince b.log.start) v.items) (sym c.replace-olds.ensures.value) c.self.invariant.reaches in
+    let outs = outs-stay b.log.start e c.of.result.value (c.of.result.value ++ e ∷ []) c.receivers.result.now c.receivers-2.result.now c.replace-olds.result.items c.carry_over.new.made.items
+    rows c.carry_over.ensures.each c.carry_over.ensures.rows in
+    let least : b.log.start ≤ c.least_out.result =
+    c.least_out.ensures.start b.log.start (omega (arith, c.self.invariant.logged.past, c.self.invariant.newest))
+    (subst (All (IsOutSince b.log.start)) (sym c.deref-4.ensures.value) outs) in
+    omega (arith, least, c.add.ensures.start, c.reserve.ensures.start)
+
+pub trim-requires-clause-to : goal.trim-requires-clause-to
+trim-requires-clause-to c =
+    let b = c.self.inside in
+    let count = log-count b.version b.past b.hold.value.scene b.rows.items b.log b.namings.items c.self.invariant in
+    let more = ap length c.add.ensures.entries ∙ length_push c.reserve.new.self.entries.items (record { logged = record { edit = c.and-past.result.1; old = c.args.plan.old }; globals = c.globals.result.now }) in
+    let same = ap length c.reserve.ensures.entries in
+    omega (arith, count, more, same, c.add.ensures.start, c.reserve.ensures.start, c.least_out.ensures.newest, c.self.invariant.newest)
+
+pub invariant_of-self-2 : goal.invariant_of-self-2
+invariant_of-self-2 c =
+    let b = c.self.inside in
+    let plan = c.args.plan in
+    let e = c.args.edit in
+    let rows = subst (λ (v : Vec HeldRow Global). All (IsOutSince b.log.start) v.items) (sym c.replace-olds.ensures.value) c.self.invariant.reaches in
+    let outs = outs-stay b.log.start e c.of.result.value (c.of.result.value ++ e ∷ []) c.receivers.result.now c.receivers-2.result.now c.replace-olds.result.items c.carry_over.new.made.items
+    rows c.carry_over.ensures.each c.carry_over.ensures.rows in
+    let least : b.log.start ≤ c.least_out.result =
+    c.least_out.ensures.start b.log.start (omega (arith, c.self.invariant.logged.past, c.self.invariant.newest))
+    (subst (All (IsOutSince b.log.start)) (sym c.deref-4.ensures.value) outs) in
+    let accepted : apply_of e (newest_scene b.past) ≡ Ok (plan.hold.value.scene, plan.old) =
+    ap (λ (s : State). apply_of e (newest_scene s.journal)) c.self.view_is ∙ c.requires.plan.accepted in
+    let receivers : c.receivers-2.result.now ≡ plan.hold.value.scene.receivers = c.receivers-2.ensures.value ∙ ap (λ (h : PreparedScene). h.scene.receivers) c.deref-3.ensures in
+    let each = subst (λ (x : List Edit × List Receiver). EachHolds (x.0 ++ e ∷ []) x.1 c.carry_over.new.made.items) (λ i. (c.of.ensures i, receivers i)) c.carry_over.ensures.each in
+    let start : c.add.new.self.start ≡ b.log.start = c.add.ensures.start ∙ c.reserve.ensures.start in
+    let globals = c.globals.ensures ∙ ap (λ (h : PreparedScene). h.scene.globals) c.deref.ensures in
+    let entries = c.add.ensures.entries
+    ∙ (λ i. c.reserve.ensures.entries i ++ record { logged = record { edit = c.and-past.ensures.edit i; old = plan.old }; globals = c.globals.result.now } ∷ []) in
+    let past : b.past ++ e ∷ [] ≡ c.and-past.result.0 = ap (λ (j : List Edit). j ++ e ∷ []) (sym c.replace.ensures.value) ∙ sym c.and-past.ensures.past in
+    subst (λ (x : ℕ × List Edit). IsBoard x.0 x.1 plan.hold.value.scene c.carry_over.new.made.items c.trim.new.self c.note.new.namings.items)
+    (λ i. (sym (add-one b.version) i, past i))
+    (board-after b.version b.past b.hold.value.scene b.rows.items b.log b.namings.items c.self.invariant e plan.old plan.hold.value.scene accepted c.globals.result.now globals
+    c.carry_over.new.made.items c.trim.new.self c.note.new.namings.items c.least_out.result
+    (subst (λ (h : PreparedScene). length h.scene.receivers ≤ most_receivers) c.deref-3.ensures c.receivers-2.ensures.within.receivers)
+    (subst (λ (h : PreparedScene). AreApart (λ r. r.name) h.scene.receivers) c.deref-3.ensures c.receivers-2.ensures.apart.receivers)
+    each (subst (All (IsOutSince c.least_out.result)) c.deref-4.ensures.value c.least_out.ensures.reaches) least
+    (omega (arith, c.least_out.ensures.newest)) c.trim.ensures.start
+    (c.trim.ensures.entries ∙ (λ i. drop (c.least_out.result - start i) (entries i)))
+    (c.note.ensures ∙ (λ i. c.reserve-2.ensures.items i ++ noted (add-one b.version i) (c.requires.plan.named i))))

@@ -1,0 +1,215 @@
+//! Jobs that are taken from a board, and the answers that solving them gives.
+ghost use Rattle.std.specs.Prelude.{◌≡◌, ◌+◌, ◌≤◌, ◌<◌, length, slice_get, Some, IfOk, IfErr, OnOk};
+ghost use Rattle.path_calc.specs.Levels.{levels_of};
+ghost use Rattle.path_cache.specs.Refreshed.{CanRefresh, refreshed};
+ghost use Rattle.map_board.specs.Held.{AreWithin, IsJobOf, no_marks};
+ghost use Rattle.map_board.specs.Jobs.{Answers};
+
+use crate::rows::Cache;
+use crate::scenes::PreparedScene;
+use path_cache::{Bundle, Steps, refresh_prepared};
+use path_calc::{Levels, levels};
+use scene_book::Scene;
+use scene_parts::{NoMemory, Receiver};
+use std::alloc::Global;
+use std::marker::Model;
+use std::snapshot::Snapshot;
+use std::sync::Arc;
+use std::sync::ledger::Ledger;
+
+/// What is to be calculated of a receiver: its bundles in the scene of a version, of those that its row had kept and of
+/// which some are marked. Contracts see it as a record of the version, the receiver, the scene, the kept bundles with their
+/// marks, and the number of bundles that have to be calculated.
+#[derive(Drop)]
+pub struct Job {
+    pub(crate) version: u64,
+    pub(crate) place: u32,
+    pub(crate) receiver: Snapshot<Receiver>,
+    pub(crate) hold: Arc<PreparedScene>,
+    pub(crate) kept: Vec<Bundle>,
+    pub(crate) marks: Vec<bool>,
+}
+
+impl Model for Job {
+    ghost use Rattle.map_board.specs.Views.{Job as JobSeen};
+    ghost use Rattle.path_cache.specs.Refreshed.{count_wanted};
+    ghost use Rattle.map_board.specs.Held.{IsJob};
+
+    ghost Value = { JobSeen };
+
+    ghost view = { λ j. record {
+      version = j.version;
+      receiver = j.receiver.value;
+      scene = j.hold.value.scene;
+      kept = j.kept.items;
+      marks = j.marks.items;
+      due = count_wanted j.hold.value.scene j.receiver.value j.kept.items j.marks.items;
+    } };
+
+    ghost invariant = { λ j. IsJob j.place (record {
+      version = j.version;
+      receiver = j.receiver.value;
+      scene = j.hold.value.scene;
+      kept = j.kept.items;
+      marks = j.marks.items;
+      due = count_wanted j.hold.value.scene j.receiver.value j.kept.items j.marks.items;
+    }) };
+}
+
+/// What was calculated for a job. Contracts see it as a record of the version, the receiver, the scene, the bundles and
+/// their levels.
+#[derive(Drop)]
+pub struct Answer {
+    pub(crate) version: u64,
+    pub(crate) place: u32,
+    pub(crate) receiver: Snapshot<Receiver>,
+    pub(crate) hold: Arc<PreparedScene>,
+    pub(crate) bundles: Vec<Bundle>,
+    pub(crate) marks: Vec<bool>,
+    pub(crate) levels: Levels,
+}
+
+impl Model for Answer {
+    ghost use Rattle.map_board.specs.Views.{Answer as AnswerSeen};
+    ghost use Rattle.map_board.specs.Held.{IsAnswer};
+
+    ghost Value = { AnswerSeen };
+
+    ghost view = { λ a. record {
+      version = a.version;
+      receiver = a.receiver.value;
+      scene = a.hold.value.scene;
+      bundles = a.bundles.items;
+      levels = a.levels;
+    } };
+
+    ghost invariant = { λ a. IsAnswer a.place a.marks.items (record {
+      version = a.version;
+      receiver = a.receiver.value;
+      scene = a.hold.value.scene;
+      bundles = a.bundles.items;
+      levels = a.levels;
+    }) };
+}
+
+/// The bundles that a job asks for, with room for a mark of each, and their levels.
+struct Calculation {
+    bundles: Vec<Bundle>,
+    marks: Vec<bool>,
+    levels: Levels,
+    ghost few: { length bundles.items ≤ 128 },
+    ghost plain: { marks.items ≡ no_marks bundles.items },
+    ghost theirs: { levels ≡ levels_of bundles.items },
+}
+
+impl Job {
+    /// The job for the receiver at a place in a scene, of the bundles that its row kept.
+    pub(crate) fn of(version: u64, place: u32, hold: Arc<PreparedScene>, cache: Cache) -> Job
+        requires place { place < length hold.value.scene.receivers }
+        requires kept { CanRefresh cache.bundles.items cache.marks.items }
+        requires within { (r : _) → slice_get hold.value.scene.receivers place ≡ Some r
+            → AreWithin hold.value.scene r cache.bundles.items cache.marks.items }
+        ensures { IsJobOf version place hold.value.scene cache.bundles.items cache.marks.items result }
+    {
+        let receiver = Snapshot::of(&hold.scene.receivers()[place as usize]);
+        Job {
+            version,
+            place,
+            receiver,
+            hold,
+            kept: cache.bundles,
+            marks: cache.marks,
+        }
+    }
+
+    /// The version of the job's scene.
+    pub fn version(&self) -> u64
+        ensures { result ≡ self.now.version }
+    {
+        self.version
+    }
+
+    /// The receiver's place in the job's scene.
+    pub fn place(&self) -> u32
+        ensures { slice_get self.now.scene.receivers result ≡ Some self.now.receiver }
+    {
+        self.place
+    }
+
+    /// The answer to the job: its kept bundles refreshed, and their levels. One step is counted for each bundle that has to
+    /// be calculated. Where there is no memory the job comes back as it was.
+    pub fn solve<L: Ledger>(self, alloc: Global, steps: &mut Steps<L>) -> Result<Answer, Job>
+        ensures answer { IfOk result (λ answer. Answers self answer) }
+        ensures steps { OnOk result (steps.new ≡ steps.old + self.due) }
+        ensures back { IfErr result (λ job. job ≡ self) }
+    {
+        match self.calculate(alloc, steps) {
+            Ok(calculation) => Ok(self.answered_by(calculation)),
+            Err(NoMemory) => Err(self),
+        }
+    }
+
+    fn calculate<L: Ledger>(
+        &self,
+        alloc: Global,
+        steps: &mut Steps<L>,
+    ) -> Result<Calculation, NoMemory>
+        ensures bundles { IfOk result (λ made. made.bundles.items
+            ≡ refreshed self.now.scene self.now.receiver self.now.kept self.now.marks) }
+        ensures steps { OnOk result (steps.new ≡ steps.old + self.now.due) }
+    {
+        let hold: &PreparedScene = &self.hold;
+        let bundles = refresh_prepared(
+            alloc,
+            &hold.scene,
+            &hold.prepared,
+            self.receiver_in(&hold.scene),
+            &self.kept,
+            &self.marks,
+            steps,
+        )?;
+        let marks = vec![in alloc; false; bundles.len()]?;
+        let levels = levels(&bundles);
+        Ok(Calculation {
+            bundles,
+            marks,
+            levels,
+        })
+    }
+
+    /// The job's receiver in its scene.
+    fn receiver_in<'a>(&self, scene: &'a Scene) -> &'a Receiver
+        requires { scene.now ≡ self.now.scene }
+        ensures { result.now ≡ self.now.receiver }
+    {
+        &scene.receivers()[self.place as usize]
+    }
+
+    fn answered_by(self, calculation: Calculation) -> Answer
+        requires { calculation.bundles.items ≡ refreshed self.scene self.receiver self.kept self.marks }
+        ensures { Answers self result }
+    {
+        let Job {
+            version,
+            place,
+            receiver,
+            hold,
+            kept: _,
+            marks: _,
+        } = self;
+        let Calculation {
+            bundles,
+            marks,
+            levels,
+        } = calculation;
+        Answer {
+            version,
+            place,
+            receiver,
+            hold,
+            bundles,
+            marks,
+            levels,
+        }
+    }
+}

@@ -1,0 +1,99 @@
+//! Answers that land on a board.
+ghost use Rattle.std.specs.Prelude.{◌≡◌, ◌+◌, ◌<◌, ◌^◌, length};
+ghost use Rattle.map_board.specs.Held.{no_marks};
+ghost use Rattle.map_board.specs.Jobs.{IsOutFor, IsRight, MayReturn};
+ghost use Rattle.map_board.specs.Later.{first_entry_touching, marks_after_all};
+ghost use Rattle.map_board.specs.Machine.{Lands, with_kept};
+ghost use Rattle.map_board.specs.Rows.{with_row};
+
+use crate::answers::Landed;
+use crate::jobs::Answer;
+use crate::later::{entries_since, first_touching, mark_by_all};
+use crate::log::LogEntry;
+use crate::namings::first_naming;
+use crate::rows::{Cache, KeptLevels, find_receiver, keep_in_row};
+use crate::scenes::PreparedScene;
+use crate::state::Board;
+use std::sync::Arc;
+
+impl Board {
+    /// Keeps an answer, however many edits came after its version; or it is gone, where one of these named its receiver.
+    /// What the row shows of it is stale by the first of them that touches the receiver. No memory is taken.
+    pub fn offer(&mut self, answer: Answer) -> Landed
+        requires may { MayReturn self.old.journal self.old.rows answer.version answer.receiver }
+        requires right { IsRight self.old.journal answer }
+        ensures { Lands self.old answer result self.new }
+    {
+        match first_naming(self.namings.as_slice(), answer.version, answer.name()) {
+            Some(by) => {
+                self.counts.gone = self.counts.gone.saturating_add(1);
+                Landed::Gone { by }
+            }
+            None => {
+                self.counts.kept = self.counts.kept.saturating_add(1);
+                self.keep(answer);
+                Landed::Kept
+            }
+        }
+    }
+
+    /// Keeps an answer in the row of its receiver.
+    fn keep(&mut self, answer: Answer)
+        requires out { IsOutFor self.old.rows answer.version answer.receiver }
+        requires right { IsRight self.old.journal answer }
+        ensures { self.new ≡ record self.old {
+          rows = with_row answer.receiver.name
+              (with_kept (record { version = answer.version; levels = answer.levels })) self.old.rows;
+        } }
+    {
+        let place = find_receiver(self.hold.scene.receivers(), answer.name());
+        let later = entries_since(self.log.entries.as_slice(), self.log.start, answer.version);
+        let (kept, cache, hold) = answer.landed(later);
+        keep_in_row(&mut self.rows[place], kept, cache, hold);
+    }
+}
+
+impl Answer {
+    /// The name of its receiver.
+    fn name(&self) -> &[u8]
+        ensures { result.now ≡ self.now.receiver.name }
+    {
+        let receiver = &self.hold.scene.receivers()[self.place as usize];
+        receiver.name.items()
+    }
+
+    /// What a row keeps of it where these edits came after its version: the levels with the first edit that touches the
+    /// receiver, the bundles with the edits' marks, and the scene.
+    fn landed(self, later: &[LogEntry]) -> (KeptLevels, Cache, Arc<PreparedScene>)
+        requires { self.version + length later.now < 2 ^ 64 }
+        ensures kept { result.0 ≡ record {
+          version = self.version;
+          by = first_entry_touching self.receiver self.bundles self.version later.now;
+          levels = self.levels;
+        } }
+        ensures bundles { result.1.bundles.items ≡ self.bundles }
+        ensures marks { result.1.marks.items
+            ≡ marks_after_all later.now self.receiver self.bundles (no_marks self.bundles) }
+        ensures scene { result.2.value.scene ≡ self.scene }
+    {
+        let Answer {
+            version,
+            place,
+            receiver: _,
+            hold,
+            bundles,
+            marks,
+            levels,
+        } = self;
+        let receiver = &hold.scene.receivers()[place as usize];
+        let by = first_touching(later, version, bundles.as_slice(), receiver);
+        let mut cache = Cache { bundles, marks };
+        mark_by_all(&mut cache, later, receiver);
+        let kept = KeptLevels {
+            version,
+            by,
+            levels,
+        };
+        (kept, cache, hold)
+    }
+}

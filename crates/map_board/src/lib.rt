@@ -1,0 +1,30 @@
+//! The board of a map: a scene that is edited, and for each receiver what was calculated of it and for which version.
+//! Every call of a [`Board`] is a step of one machine, so that several can share it.
+#![tactic(auto)]
+
+mod answers;
+mod calls;
+mod editing;
+mod jobs;
+mod landing;
+mod later;
+pub mod laws;
+mod log;
+mod looking;
+mod looks;
+mod marking;
+mod namings;
+mod past;
+mod renewing;
+mod returning;
+mod rows;
+mod scenes;
+mod state;
+#[cfg(test)]
+mod tests;
+
+pub use answers::{Landed, Shown};
+pub use calls::{BoardCall, BoardReply, Took};
+pub use jobs::{Answer, Job};
+pub use looks::{LookAll, LookRow, LookRows};
+pub use state::Board;

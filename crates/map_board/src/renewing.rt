@@ -1,0 +1,206 @@
+//! Rows that go over to the scene after an edit.
+ghost use Rattle.std.specs.Prelude.{◌≡◌, ◌≤◌, ◌<◌, ℕ, true, false, length, slice_get, All, IfOk};
+ghost use Rattle.std.specs.Option.{option_map};
+ghost use Rattle.scene_book.specs.Lists.{AreApart};
+ghost use Rattle.path_calc.specs.Show.{bundles_of};
+ghost use Rattle.map_board.specs.declared.rows.KeptLevels.{KeptLevels};
+ghost use Rattle.map_board.specs.Machine.{rows_after};
+ghost use Rattle.map_board.specs.Boards.{kept_of, row_of, rows_of, ByIsRight, RowHolds, EachHolds, IsOutSince};
+ghost use Rattle.map_board.specs.Changes.{scene_before, scene_after, journal_after, is_unnamed, IsChange, IsFresh, AreFresh};
+
+use crate::marking::mark;
+use crate::past::Past;
+use crate::rows::{Cache, HeldRow, KeptLevels};
+use crate::scenes::PreparedScene;
+use scene_book::Logged;
+use scene_parts::{Globals, NoMemory, Receiver};
+use std::alloc::Global;
+use std::snapshot::Snapshot;
+use std::sync::Arc;
+use touch_test::{names_receiver, touches_row};
+
+/// An edit that the newest scene accepts, what held of that whole scene, the edit's version, and the journal before it,
+/// which contracts alone see.
+pub(crate) struct Change {
+    pub logged: Logged,
+    pub globals: Globals,
+    pub version: u64,
+    pub past: Snapshot<Past>,
+}
+
+/// Rows made anew, one for each receiver of a scene.
+pub(crate) fn fresh_rows(
+    alloc: Global,
+    hold: &Arc<PreparedScene>,
+    version: u64,
+) -> Result<Vec<HeldRow>, NoMemory>
+    ensures { IfOk result (λ rows. AreFresh version hold.now.value.scene rows.items) }
+{
+    let mut rows = Vec::new(alloc);
+    for _receiver in hold.scene.receivers() {
+        rows.push(fresh_row(alloc, hold.clone()?, version))?;
+    }
+    Ok(rows)
+}
+
+/// A row made anew.
+fn fresh_row(alloc: Global, hold: Arc<PreparedScene>, version: u64) -> HeldRow
+    ensures { IsFresh version hold.value.scene result }
+{
+    let cache = Cache {
+        bundles: Vec::new(alloc),
+        marks: Vec::new(alloc),
+    };
+    HeldRow {
+        since: version,
+        kept: None,
+        out: None,
+        cache: Some(cache),
+        hold: Some(hold),
+    }
+}
+
+/// The rows of receivers that the edit doesn't name come over from the rows before it, in their order; the others stay as
+/// they were made anew.
+pub(crate) fn carry_over(
+    made: &mut Vec<HeldRow>,
+    rows: Vec<HeldRow>,
+    olds: &[Receiver],
+    news: &[Receiver],
+    change: &Change,
+)
+    requires change { IsChange change.now }
+    requires olds { olds.now ≡ (scene_before change.now).receivers }
+    requires news { news.now ≡ (scene_after change.now).receivers }
+    requires apart { AreApart (λ r. r.name) olds.now }
+    requires each { EachHolds change.now.past.value olds.now rows.items }
+    requires fresh { AreFresh change.now.version (scene_after change.now) made.old.items }
+    ensures each { EachHolds (journal_after change.now) news.now made.new.items }
+    ensures rows { rows_of news.now made.new.items
+        ≡ rows_after change.now.logged.edit change.now.past.value (rows_of olds.now rows.items) }
+{
+    let mut rows = rows.into_iter();
+    let mut place = 0;
+    for receiver in olds {
+        let Some(row) = rows.next() else {
+            unreachable!()
+        };
+        if names_receiver(&change.logged, receiver.name.items()) {
+            drop(row);
+        } else {
+            place = next_unnamed(news, place, change);
+            take_over(&mut made[place], row, receiver, change);
+            place += 1;
+        }
+    }
+}
+
+/// The first place from one on whose receiver the edit doesn't name.
+fn next_unnamed(receivers: &[Receiver], from: usize, change: &Change) -> usize
+    requires { from ≤ length receivers.now }
+    ensures from { from ≤ result }
+    ensures within { result ≤ length receivers.now }
+    ensures named { (k : ℕ) (r : _) → from ≤ k → k < result → slice_get receivers.now k ≡ Some r
+        → is_unnamed change.now r ≡ false }
+    ensures unnamed { (r : _) → slice_get receivers.now result ≡ Some r → is_unnamed change.now r ≡ true }
+{
+    for place in from..receivers.len() {
+        let receiver = &receivers[place];
+        if !names_receiver(&change.logged, receiver.name.items()) {
+            return place;
+        }
+    }
+    receivers.len()
+}
+
+/// A row made anew becomes the row of a receiver, with the scene that it holds.
+fn take_over(made: &mut HeldRow, row: HeldRow, receiver: &Receiver, change: &Change)
+    requires change { IsChange change.now }
+    requires holds { RowHolds change.now.past.value receiver.now row }
+    requires fresh { IsFresh change.now.version (scene_after change.now) made.old }
+    ensures row { row_of receiver.now made.new ≡ row_of receiver.now row }
+    ensures holds { RowHolds (journal_after change.now) receiver.now made.new }
+{
+    let Some(hold) = made.hold.take() else {
+        unreachable!()
+    };
+    *made = renew(row, receiver, change, hold);
+}
+
+/// The row of a receiver after the edit, with the scene after it: bundles that the edit touches are marked, and kept levels
+/// are stale by it where it is the first that touches them.
+fn renew(row: HeldRow, receiver: &Receiver, change: &Change, hold: Arc<PreparedScene>) -> HeldRow
+    requires change { IsChange change.now }
+    requires holds { RowHolds change.now.past.value receiver.now row }
+    requires scene { hold.value.scene ≡ scene_after change.now }
+    ensures row { row_of receiver.now result ≡ row_of receiver.now row }
+    ensures holds { RowHolds (journal_after change.now) receiver.now result }
+{
+    let HeldRow {
+        since,
+        kept,
+        out,
+        cache,
+        hold: _,
+    } = row;
+    let hold = Some(hold);
+    let Some(mut cache) = cache else {
+        return HeldRow {
+            since,
+            kept,
+            out,
+            cache: None,
+            hold,
+        };
+    };
+    let kept = touched_levels(kept, &cache, receiver, change);
+    mark(&mut cache, &change.logged, &change.globals, receiver);
+    HeldRow {
+        since,
+        kept,
+        out,
+        cache: Some(cache),
+        hold,
+    }
+}
+
+/// Kept levels after the edit: where none touched their receiver before, they are stale by this one if it does.
+fn touched_levels(
+    kept: Option<KeptLevels>,
+    cache: &Cache,
+    receiver: &Receiver,
+    change: &Change,
+) -> Option<KeptLevels>
+    requires change { IsChange change.now }
+    requires by { ByIsRight change.now.past.value receiver.now kept }
+    requires past { (levels : KeptLevels) → kept ≡ Some levels
+        → levels.version ≤ length change.now.past.value }
+    requires fresh { (levels : KeptLevels) → kept ≡ Some levels → levels.by ≡ None
+        → cache.now.bundles.items ≡ bundles_of (scene_before change.now) receiver.now }
+    ensures same { option_map kept_of result ≡ option_map kept_of kept }
+    ensures by { ByIsRight (journal_after change.now) receiver.now result }
+{
+    let mut kept = kept?;
+    if kept.by.is_some() {
+        return Some(kept);
+    }
+    if touches_row(&change.logged, &change.globals, &cache.bundles, receiver) {
+        kept.by = Some(change.version);
+    }
+    Some(kept)
+}
+
+/// The least version of a job that is out, or this one, which is the newest.
+pub(crate) fn least_out(rows: &[HeldRow], newest: u64) -> u64
+    ensures reaches { All (IsOutSince result) rows.now }
+    ensures newest { result ≤ newest }
+    ensures start { (start : ℕ) → start ≤ newest → All (IsOutSince start) rows.now → start ≤ result }
+{
+    let mut least = newest;
+    for row in rows {
+        if let Some(version) = row.out {
+            least = least.min(version);
+        }
+    }
+    least
+}

@@ -1,0 +1,77 @@
+//! Jobs that are given back to a board.
+ghost use Rattle.std.specs.Prelude.{◌≡◌, None};
+ghost use Rattle.map_board.specs.Jobs.{IsFit, IsOutFor, MayReturn};
+ghost use Rattle.map_board.specs.Later.{marks_after_all};
+ghost use Rattle.map_board.specs.Machine.{given_back, with_out};
+ghost use Rattle.map_board.specs.Rows.{with_row};
+
+use crate::jobs::Job;
+use crate::later::{entries_since, mark_by_all};
+use crate::log::LogEntry;
+use crate::namings::first_naming;
+use crate::rows::{Cache, find_receiver, put_back};
+use crate::scenes::PreparedScene;
+use crate::state::Board;
+use std::sync::Arc;
+
+impl Board {
+    /// Takes a job back: its row is needy again, with the bundles that the job had and the marks of all edits since, unless
+    /// an edit after the job's version named the receiver. No memory is taken.
+    pub fn give_back(&mut self, job: Job)
+        requires may { MayReturn self.old.journal self.old.rows job.version job.receiver }
+        requires fit { IsFit self.old.journal self.old.rows job }
+        ensures { self.new ≡ given_back job self.old }
+    {
+        self.counts.back = self.counts.back.saturating_add(1);
+        match first_naming(self.namings.as_slice(), job.version, job.name()) {
+            Some(_) => {}
+            None => self.free(job),
+        }
+    }
+
+    /// Puts a job's bundles back into the row of its receiver.
+    fn free(&mut self, job: Job)
+        requires out { IsOutFor self.old.rows job.version job.receiver }
+        requires fit { IsFit self.old.journal self.old.rows job }
+        ensures { self.new ≡ record self.old {
+          rows = with_row job.receiver.name (with_out None) self.old.rows;
+        } }
+    {
+        let place = find_receiver(self.hold.scene.receivers(), job.name());
+        let later = entries_since(self.log.entries.as_slice(), self.log.start, job.version);
+        let (cache, hold) = job.returned(later);
+        put_back(&mut self.rows[place], cache, hold);
+    }
+}
+
+impl Job {
+    /// The name of its receiver.
+    fn name(&self) -> &[u8]
+        ensures { result.now ≡ self.now.receiver.name }
+    {
+        let receiver = &self.hold.scene.receivers()[self.place as usize];
+        receiver.name.items()
+    }
+
+    /// The bundles that were kept for it with the marks of these edits, and its scene.
+    fn returned(self, later: &[LogEntry]) -> (Cache, Arc<PreparedScene>)
+        ensures bundles { result.0.bundles.items ≡ self.kept }
+        ensures marks { result.0.marks.items ≡ marks_after_all later.now self.receiver self.kept self.marks }
+        ensures scene { result.1.value.scene ≡ self.scene }
+    {
+        let Job {
+            version: _,
+            place,
+            receiver: _,
+            hold,
+            kept,
+            marks,
+        } = self;
+        let mut cache = Cache {
+            bundles: kept,
+            marks,
+        };
+        mark_by_all(&mut cache, later, &hold.scene.receivers()[place as usize]);
+        (cache, hold)
+    }
+}

@@ -1,0 +1,192 @@
+//! The rows of a board.
+ghost use Rattle.std.specs.Prelude.{◌≡◌, ◌≤◌, false, Some, None, IsSome, IfSome, IfNone, length, slice_get, count_by};
+ghost use Rattle.std.specs.List.{list_any};
+ghost use Rattle.scene_book.specs.Lists.{named};
+ghost use Rattle.map_board.specs.Back.{with_bundles, with_levels};
+ghost use Rattle.map_board.specs.Boards.{held_shown, is_held_current, is_held_needy, is_held_out, is_held_unsettled, IsNeedyAt};
+
+use crate::answers::Shown;
+use crate::scenes::PreparedScene;
+use path_cache::Bundle;
+use path_calc::Levels;
+use scene_parts::Receiver;
+use std::sync::Arc;
+
+/// The bundles of a receiver, and beside each whether an edit touched it since.
+#[derive(Drop)]
+pub(crate) struct Cache {
+    pub bundles: Vec<Bundle>,
+    pub marks: Vec<bool>,
+}
+
+/// Levels that were kept: the version whose scene gave them, and the first edit after it that touches the receiver.
+#[derive(Drop)]
+pub(crate) struct KeptLevels {
+    pub version: u64,
+    pub by: Option<u64>,
+    pub levels: Levels,
+}
+
+/// What a board holds for a receiver: the version that put it, the levels kept since, the version of the job that is out,
+/// the bundles (unless they are out with the job), and the newest scene (unless a job of the newest version took it).
+#[derive(Drop)]
+pub(crate) struct HeldRow {
+    pub since: u64,
+    pub kept: Option<KeptLevels>,
+    pub out: Option<u64>,
+    pub cache: Option<Cache>,
+    pub hold: Option<Arc<PreparedScene>>,
+}
+
+impl HeldRow {
+    /// What is shown of the row.
+    pub(crate) fn shown(&self) -> Shown
+        ensures { result ≡ held_shown self.now }
+    {
+        let Some(kept) = &self.kept else {
+            return Shown::New { since: self.since };
+        };
+        let levels = Levels {
+            total: kept.levels.total,
+            bands: kept.levels.bands,
+        };
+        match kept.by {
+            None => Shown::Current(levels),
+            Some(by) => Shown::Stale {
+                version: kept.version,
+                by,
+                levels,
+            },
+        }
+    }
+
+    /// Whether the row is neither current nor out.
+    pub(crate) fn is_needy(&self) -> bool
+        ensures { result ≡ is_held_needy self.now }
+    {
+        !self.is_current() && !self.is_out()
+    }
+
+    /// Whether the row is needy or out.
+    pub(crate) fn is_unsettled(&self) -> bool
+        ensures { result ≡ is_held_unsettled self.now }
+    {
+        self.is_needy() || self.is_out()
+    }
+
+    /// Whether a job is out for the row.
+    pub(crate) fn is_out(&self) -> bool
+        ensures { result ≡ is_held_out self.now }
+    {
+        self.out.is_some()
+    }
+
+    /// Whether the row holds the levels of the newest scene.
+    fn is_current(&self) -> bool
+        ensures { result ≡ is_held_current self.now }
+    {
+        match &self.kept {
+            Some(kept) => kept.by.is_none(),
+            None => false,
+        }
+    }
+}
+
+/// Marks a row as out with a job of a version, and hands out its bundles and its scene.
+pub(crate) fn take_row(row: &mut HeldRow, version: u64) -> (Cache, Arc<PreparedScene>)
+    requires cache { IsSome row.old.cache }
+    requires hold { IsSome row.old.hold }
+    ensures cache { row.old.cache ≡ Some result.0 }
+    ensures hold { row.old.hold ≡ Some result.1 }
+    ensures row { row.new ≡ record row.old { out = Some version; cache = None; hold = None } }
+{
+    row.out = Some(version);
+    let (Some(cache), Some(hold)) = (row.cache.take(), row.hold.take()) else {
+        unreachable!()
+    };
+    (cache, hold)
+}
+
+/// Keeps levels in a row, of which no job is out from now on, with their bundles and, where the row has none, a scene.
+pub(crate) fn keep_in_row(
+    row: &mut HeldRow,
+    kept: KeptLevels,
+    cache: Cache,
+    hold: Arc<PreparedScene>,
+)
+    ensures { row.new ≡ with_levels kept (with_bundles cache hold row.old) }
+{
+    put_back(row, cache, hold);
+    row.kept = Some(kept);
+}
+
+/// Puts bundles into a row, of which no job is out from now on, and, where the row has none, a scene.
+pub(crate) fn put_back(row: &mut HeldRow, cache: Cache, hold: Arc<PreparedScene>)
+    ensures { row.new ≡ with_bundles cache hold row.old }
+{
+    row.out = None;
+    row.cache = Some(cache);
+    if row.hold.is_none() {
+        row.hold = Some(hold);
+    }
+}
+
+/// The place of the receiver of a name, or the number of receivers where there is none.
+pub(crate) fn find_receiver(receivers: &[Receiver], name: &[u8]) -> usize
+    ensures { slice_get receivers.now result ≡ named (λ r. r.name) name.now receivers.now }
+{
+    for (place, receiver) in receivers.iter().enumerate() {
+        if name == receiver.name.items() {
+            return place;
+        }
+    }
+    receivers.len()
+}
+
+/// How many jobs were taken, answers kept, answers gone, and jobs given back. Each count stops at 2^64 - 1.
+#[derive(Clone, Copy)]
+pub(crate) struct Tally {
+    pub taken: u64,
+    pub kept: u64,
+    pub gone: u64,
+    pub back: u64,
+}
+
+/// The first row that is neither current nor out.
+pub(crate) fn first_needy(rows: &[HeldRow]) -> Option<usize>
+    ensures none { IfNone result (list_any is_held_needy rows.now ≡ false) }
+    ensures some { IfSome result (λ place. IsNeedyAt rows.now place) }
+{
+    for (place, row) in rows.iter().enumerate() {
+        if row.is_needy() {
+            return Some(place);
+        }
+    }
+    None
+}
+
+/// How many rows are out.
+pub(crate) fn count_out(rows: &[HeldRow]) -> u32
+    requires { length rows.now ≤ 4096 }
+    ensures { result ≡ count_by is_held_out rows.now }
+{
+    let mut count = 0;
+    for row in rows {
+        if row.is_out() {
+            count += 1;
+        }
+    }
+    count
+}
+
+/// Whether a row is needy or out.
+pub(crate) fn is_any_unsettled(rows: &[HeldRow]) -> bool
+    ensures { result ≡ list_any is_held_unsettled rows.now }
+{
+    for row in rows {
+        if row.is_unsettled() {
+            return true;
+        }
+    }
+    false
+}
