@@ -1,3 +1,4 @@
 pub mod Rounding
 pub mod Faults
 pub mod Rows
+pub mod Looks

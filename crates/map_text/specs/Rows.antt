@@ -40,18 +40,38 @@ abbrev pub high_text : Option ℤ → List ℕ
 high_text end = hundredths_text (high_hundredths (units_of end))
 
 -- a level at a receiver
-unfoldable pub level_row : List ℕ → ℕ → List ℕ → List ℕ → Interval → List ℕ
-level_row kind version name state level =
-    row (kind ∷ decimal version ∷ name ∷ state ∷ [] ∷ low_text level.lo ∷ high_text level.hi ∷ [])
+unfoldable pub level_row : List ℕ → ℕ → List ℕ → List ℕ → List ℕ → Interval → List ℕ
+level_row kind version name state by level =
+    row (kind ∷ decimal version ∷ name ∷ state ∷ by ∷ low_text level.lo ∷ high_text level.hi ∷ [])
 
 -- a receiver that is current, with its A-weighted long-term level
 abbrev pub current_row : ℕ → List ℕ → Interval → List ℕ
-current_row version name total = level_row (codes "row") version name (codes "current") total
+current_row version name total = level_row (codes "row") version name (codes "current") [] total
+
+-- a receiver that is stale: the version whose scene gave its A-weighted long-term level, and the first edit after that
+-- which touches it
+abbrev pub stale_row : ℕ → List ℕ → ℕ → Interval → List ℕ
+stale_row version name by total =
+    level_row (codes "row") version name (codes "stale") (decimal by) total
+
+-- a receiver that has had no level since this edit put it
+unfoldable pub new_row : ℕ → List ℕ → List ℕ
+new_row since name =
+    row (codes "row" ∷ decimal since ∷ name ∷ codes "new" ∷ [] ∷ [] ∷ [] ∷ [])
 
 -- a band of a receiver, by its frequency in Hz, with its level there, which isn't weighted
 abbrev pub band_row : ℕ → List ℕ → Band → Interval → List ℕ
 band_row version name band level =
-    level_row (codes "band") version name (decimal (frequency_of band)) level
+    level_row (codes "band") version name (decimal (frequency_of band)) [] level
+
+-- ---- counts
+
+-- the version, how many receivers there are, and how many jobs were taken, answers kept, answers gone, and jobs given
+-- back
+unfoldable pub counts_row : ℕ → ℕ → ℕ → ℕ → ℕ → ℕ → List ℕ
+counts_row version rows taken kept gone back =
+    row (codes "counts" ∷ decimal version ∷ decimal rows ∷ decimal taken ∷ decimal kept
+    ∷ decimal gone ∷ decimal back ∷ [])
 
 -- ---- refused lines
 

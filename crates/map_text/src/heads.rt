@@ -2,7 +2,7 @@
 ghost use Rattle.std.specs.Prelude.{◌≡◌, IfOk};
 ghost use Rattle.map_text.specs.Rows.{head_word, head_row};
 
-use crate::rows::row_text;
+use crate::rows::fields_text;
 use scene_parts::NoMemory;
 use std::alloc::Global;
 
@@ -31,7 +31,7 @@ pub fn head_text(alloc: Global, kind: Head, version: u64, rows: u32) -> Result<V
 {
     let version = format!(in alloc; "{version}")?;
     let rows = format!(in alloc; "{rows}")?;
-    row_text(
+    fields_text(
         alloc,
         word(kind),
         version.as_bytes(),

@@ -2,10 +2,10 @@
 ghost use Rattle.std.specs.Prelude.{◌≡◌, ◌<◌, ◌^◌, Some, IfOk, IsSomeAnd, string_bytes};
 ghost use Rattle.energy_sum.specs.Sums.{units_of};
 ghost use Rattle.map_text.specs.Rounding.{IsPrintable, IsPrintableLevel};
-ghost use Rattle.map_text.specs.Rows.{hundredths_text, low_text, high_text, level_row, current_row, band_row, made_row};
+ghost use Rattle.map_text.specs.Rows.{hundredths_text, low_text, high_text, level_row, current_row, stale_row, new_row, band_row, made_row};
 
 use crate::rounding::{high_hundredths, low_hundredths};
-use crate::rows::row_text;
+use crate::rows::fields_text;
 use fix_interval::Iv;
 use scene_geom::Band;
 use scene_parts::{Name, NoMemory};
@@ -54,22 +54,23 @@ fn level_text(
     version: u64,
     name: &Name,
     state: &[u8],
+    by: &[u8],
     level: Iv,
 ) -> Result<Vec<u8>, NoMemory>
     requires { IsPrintableLevel level }
     ensures { IfOk result (λ text. text.items
-        ≡ level_row kind.now version name.now state.now level) }
+        ≡ level_row kind.now version name.now state.now by.now level) }
 {
     let version = format!(in alloc; "{version}")?;
     let low = low_text(alloc, end_of(level.low()))?;
     let high = high_text(alloc, end_of(level.high()))?;
-    row_text(
+    fields_text(
         alloc,
         kind,
         version.as_bytes(),
         name.items(),
         state,
-        b"",
+        by,
         low.as_bytes(),
         high.as_bytes(),
     )
@@ -85,7 +86,41 @@ pub fn current_text(
     requires { IsPrintableLevel total }
     ensures { IfOk result (λ text. text.items ≡ current_row version name.now total) }
 {
-    level_text(alloc, b"row", version, name, b"current", total)
+    level_text(alloc, b"row", version, name, b"current", b"", total)
+}
+
+/// The row of a receiver that is stale, with its A-weighted long-term level, whose ends are from 0 dB to below 2^32 dB: the
+/// version whose scene gave the level, and the first edit after that which touches the receiver.
+pub(crate) fn stale_text(
+    alloc: Global,
+    version: u64,
+    name: &Name,
+    by: u64,
+    total: Iv,
+) -> Result<Vec<u8>, NoMemory>
+    requires { IsPrintableLevel total }
+    ensures { IfOk result (λ text. text.items ≡ stale_row version name.now by total) }
+{
+    let by = format!(in alloc; "{by}")?;
+    level_text(alloc, b"row", version, name, b"stale", by.as_bytes(), total)
+}
+
+/// The row of a receiver that has had no level since this edit put it.
+#[tactic(auto, unfolding(crate::specs::Rows::new_row))]
+pub(crate) fn new_text(alloc: Global, since: u64, name: &Name) -> Result<Vec<u8>, NoMemory>
+    ensures { IfOk result (λ text. text.items ≡ new_row since name.now) }
+{
+    let since = format!(in alloc; "{since}")?;
+    fields_text(
+        alloc,
+        b"row",
+        since.as_bytes(),
+        name.items(),
+        b"new",
+        b"",
+        b"",
+        b"",
+    )
 }
 
 /// The row of a band of a receiver, with its level there, which isn't weighted, and whose ends are from 0 dB to below
@@ -102,7 +137,15 @@ pub fn band_text(
 {
     let frequency = band.frequency();
     let frequency = format!(in alloc; "{frequency}")?;
-    level_text(alloc, b"band", version, name, frequency.as_bytes(), level)
+    level_text(
+        alloc,
+        b"band",
+        version,
+        name,
+        frequency.as_bytes(),
+        b"",
+        level,
+    )
 }
 
 /// The row of the run of a generated site: the last version, how many receivers there are, the number `n` of the site,
@@ -128,7 +171,7 @@ pub fn made_text(
     let refused = format!(in alloc; "{refused}")?;
     let low = low_text(alloc, low)?;
     let high = high_text(alloc, high)?;
-    row_text(
+    fields_text(
         alloc,
         b"made",
         version.as_bytes(),

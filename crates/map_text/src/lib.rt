@@ -1,19 +1,25 @@
 //! The rows that go out, as text.
 #![tactic(auto)]
 
+mod counted;
 mod heads;
 mod laws;
 mod levels;
+mod looks;
 mod refusals;
 mod refused;
 mod rounding;
 mod rows;
 #[cfg(test)]
 mod tests;
+mod texts;
 
+pub use counted::counts_text;
 pub use heads::{Head, head_text};
 pub use laws::printed_is_around;
 pub use levels::{band_text, current_text, made_text};
+pub use looks::row_text;
 pub use refusals::Refusal;
 pub use refused::refused_text;
 pub use scene_parts::NoMemory;
+pub use texts::{RowText, RowTexts};

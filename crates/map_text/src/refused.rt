@@ -7,7 +7,7 @@ ghost use Rattle.map_text.specs.Faults.{about, part_fault_text, line_fault_text,
 ghost use Rattle.map_text.specs.Rows.{fault_row, said_row, refused_row};
 
 use crate::refusals::Refusal;
-use crate::rows::row_text;
+use crate::rows::fields_text;
 use command_lines::{LineFault, class_text, field_text};
 use scene_book::EditFault;
 use scene_parts::{Class, Field, NoMemory, PartFault};
@@ -32,7 +32,7 @@ impl RefusedLine {
         let number = self.number;
         let version = format!(in self.alloc; "{version}")?;
         let number = format!(in self.alloc; "{number}")?;
-        row_text(
+        fields_text(
             self.alloc,
             b"refused",
             version.as_bytes(),

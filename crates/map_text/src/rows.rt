@@ -8,7 +8,7 @@ use std::alloc::Global;
 
 /// The row of seven fields, by what they are in the row of a receiver.
 #[tactic(auto, unfolding(crate::specs::Rows::row))]
-pub(crate) fn row_text(
+pub(crate) fn fields_text(
     alloc: Global,
     kind: &[u8],
     version: &[u8],

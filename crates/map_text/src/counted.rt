@@ -1,0 +1,39 @@
+//! The row of what a board has counted.
+ghost use Rattle.std.specs.Prelude.{◌≡◌, IfOk};
+ghost use Rattle.map_text.specs.Rows.{counts_row};
+
+use crate::rows::fields_text;
+use scene_parts::NoMemory;
+use std::alloc::Global;
+
+/// The row of the counts at a settle: the version, how many receivers there are, and how many jobs were taken, answers kept,
+/// answers gone, and jobs given back in the history so far.
+#[tactic(auto, unfolding(crate::specs::Rows::counts_row))]
+pub fn counts_text(
+    alloc: Global,
+    version: u64,
+    rows: u32,
+    taken: u64,
+    kept: u64,
+    gone: u64,
+    back: u64,
+) -> Result<Vec<u8>, NoMemory>
+    ensures { IfOk result (λ text. text.items ≡ counts_row version rows taken kept gone back) }
+{
+    let version = format!(in alloc; "{version}")?;
+    let rows = format!(in alloc; "{rows}")?;
+    let taken = format!(in alloc; "{taken}")?;
+    let kept = format!(in alloc; "{kept}")?;
+    let gone = format!(in alloc; "{gone}")?;
+    let back = format!(in alloc; "{back}")?;
+    fields_text(
+        alloc,
+        b"counts",
+        version.as_bytes(),
+        rows.as_bytes(),
+        taken.as_bytes(),
+        kept.as_bytes(),
+        gone.as_bytes(),
+        back.as_bytes(),
+    )
+}
