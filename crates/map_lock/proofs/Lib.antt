@@ -1,0 +1,10 @@
+pub mod Replies
+pub mod Turning
+pub mod Entries
+pub mod Finishing
+pub mod Staying
+pub mod Apart
+pub mod Owing
+pub mod Rounds
+pub mod Desks
+pub mod Editing

@@ -1,0 +1,117 @@
+//! One turn of the board's machine through a bare seat, with a reply of its call's kind.
+ghost use Rattle.std.specs.Prelude.{◌≡◌};
+ghost use Rattle.map_board.specs.Seats.{May, editor};
+ghost use Rattle.map_lock.specs.Seats.{IsSeat};
+ghost use Rattle.map_lock.specs.Turns.{HasTurned, IsReplyTo};
+
+use crate::lock::MapLock;
+use crate::machine::SharedBoard;
+use map_board::{Answer, BoardCall, BoardReply, Job, Landed, LookAll, Took};
+use scene_book::{Edit, EditFault};
+use scene_parts::NoMemory;
+use std::alloc::Global;
+use std::sync::Wait;
+use turn_lock::Seat;
+
+impl MapLock {
+    fn ask<R: Wait>(
+        &self,
+        rt: &R,
+        alloc: Global,
+        seat: &mut Seat<SharedBoard>,
+        call: BoardCall,
+    ) -> BoardReply
+        requires own { seat.old.table ≡ self.now }
+        requires allowed { May seat.old.number seat.old.mine call }
+        ensures turn { HasTurned seat.old call result seat.new }
+        ensures kind { IsReplyTo call result }
+        ensures sound_before { IsSeat seat.old }
+        ensures sound { IsSeat seat.new }
+    {
+        self.turn.turn(rt, alloc, seat, call)
+    }
+
+    pub(crate) fn ask_edit<R: Wait>(
+        &self,
+        rt: &R,
+        alloc: Global,
+        seat: &mut Seat<SharedBoard>,
+        edit: Edit,
+    ) -> Result<u64, EditFault>
+        requires own { seat.old.table ≡ self.now }
+        requires editor { seat.old.number ≡ editor }
+        ensures turn { HasTurned seat.old (BoardCall.Edit edit) (BoardReply.Edited result) seat.new }
+        ensures sound { IsSeat seat.new }
+    {
+        match self.ask(rt, alloc, seat, BoardCall::Edit(edit)) {
+            BoardReply::Edited(result) => result,
+            _ => unreachable!(),
+        }
+    }
+
+    pub(crate) fn ask_finish<R: Wait>(&self, rt: &R, seat: &mut Seat<SharedBoard>)
+        requires own { seat.old.table ≡ self.now }
+        requires editor { seat.old.number ≡ editor }
+        ensures turn { HasTurned seat.old BoardCall.Finish BoardReply.Done seat.new }
+        ensures sound { IsSeat seat.new }
+    {
+        self.ask(rt, self.alloc, seat, BoardCall::Finish);
+    }
+
+    pub(crate) fn ask_take<R: Wait>(&self, rt: &R, seat: &mut Seat<SharedBoard>) -> Took
+        requires own { seat.old.table ≡ self.now }
+        ensures turn { HasTurned seat.old BoardCall.Take (BoardReply.Took result) seat.new }
+        ensures sound_before { IsSeat seat.old }
+        ensures sound { IsSeat seat.new }
+    {
+        match self.ask(rt, self.alloc, seat, BoardCall::Take) {
+            BoardReply::Took(took) => took,
+            _ => unreachable!(),
+        }
+    }
+
+    pub(crate) fn ask_offer<R: Wait>(
+        &self,
+        rt: &R,
+        seat: &mut Seat<SharedBoard>,
+        answer: Answer,
+    ) -> Landed
+        requires own { seat.old.table ≡ self.now }
+        requires owed { May seat.old.number seat.old.mine (BoardCall.Offer answer) }
+        ensures turn { HasTurned seat.old
+            (BoardCall.Offer answer) (BoardReply.Landed result) seat.new }
+        ensures sound_before { IsSeat seat.old }
+        ensures sound { IsSeat seat.new }
+    {
+        match self.ask(rt, self.alloc, seat, BoardCall::Offer(answer)) {
+            BoardReply::Landed(landed) => landed,
+            _ => unreachable!(),
+        }
+    }
+
+    pub(crate) fn ask_give_back<R: Wait>(&self, rt: &R, seat: &mut Seat<SharedBoard>, job: Job)
+        requires own { seat.old.table ≡ self.now }
+        requires owed { May seat.old.number seat.old.mine (BoardCall.GiveBack job) }
+        ensures turn { HasTurned seat.old (BoardCall.GiveBack job) BoardReply.Done seat.new }
+        ensures sound_before { IsSeat seat.old }
+        ensures sound { IsSeat seat.new }
+    {
+        self.ask(rt, self.alloc, seat, BoardCall::GiveBack(job));
+    }
+
+    pub(crate) fn ask_look<R: Wait>(
+        &self,
+        rt: &R,
+        alloc: Global,
+        seat: &mut Seat<SharedBoard>,
+    ) -> Result<LookAll, NoMemory>
+        requires own { seat.old.table ≡ self.now }
+        ensures turn { HasTurned seat.old BoardCall.Look (BoardReply.Looked result) seat.new }
+        ensures sound { IsSeat seat.new }
+    {
+        match self.ask(rt, alloc, seat, BoardCall::Look) {
+            BoardReply::Looked(look) => look,
+            _ => unreachable!(),
+        }
+    }
+}
