@@ -24,6 +24,8 @@ mod test_walls;
 #[cfg(test)]
 mod test_weather;
 #[cfg(test)]
+mod test_works;
+#[cfg(test)]
 mod tests;
 
 use crate::status::{Report, Status};
