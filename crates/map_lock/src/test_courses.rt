@@ -17,7 +17,7 @@ use std::test::Fail;
 fn receiver(alloc: Global, x: i64) -> Option<Edit> {
     Some(Edit::Put(Part::Receiver(Receiver {
         name: Name::from_vec(b"r".to_vec(alloc).ok()?),
-        at: Pt::new(x, 0),
+        at: Pt::new(x.clamp(0, 200_000), 0),
         h: 2000,
     })))
 }
@@ -38,9 +38,8 @@ fn put(alloc: Global, raw: RawPart) -> Option<Edit> {
 }
 
 /// A building with these corners.
-fn building(alloc: Global, name: &[u8], places: &[(i64, i64)], h: i64) -> Option<Edit> {
+fn building(alloc: Global, name: PlainName, places: &[(i64, i64)], h: i64) -> Option<Edit> {
     let points = corners(alloc, places)?;
-    let name = PlainName::from_vec(name.to_vec(alloc).ok()?);
     put(
         alloc,
         RawPart::Building {
@@ -52,15 +51,16 @@ fn building(alloc: Global, name: &[u8], places: &[(i64, i64)], h: i64) -> Option
     )
 }
 
-/// A house far from the way, its lower left corner here.
-fn house(alloc: Global, x: i64) -> Option<Edit> {
+/// A house far from the way, between these in the east.
+fn house(alloc: Global, west: i64, east: i64) -> Option<Edit> {
     let places = [
-        (x, 200_000),
-        (x + 10_000, 200_000),
-        (x + 10_000, 210_000),
-        (x, 210_000),
+        (west, 200_000),
+        (east, 200_000),
+        (east, 210_000),
+        (west, 210_000),
     ];
-    building(alloc, b"house", &places, 5000)
+    let name = PlainName::from_vec(b"house".to_vec(alloc).ok()?);
+    building(alloc, name, &places, 5000)
 }
 
 /// A shed beside the way, in the way of a string round the barrier.
@@ -71,7 +71,8 @@ fn shed(alloc: Global) -> Option<Edit> {
         (78_000, 9000),
         (72_000, 9000),
     ];
-    building(alloc, b"shed", &places, 6000)
+    let name = PlainName::from_vec(b"shed".to_vec(alloc).ok()?);
+    building(alloc, name, &places, 6000)
 }
 
 /// A barrier across the way from the source to the receiver.
@@ -122,7 +123,7 @@ fn put_three<R: Wait>(rt: &R, alloc: Global, lock: &MapLock, editor: &mut Editor
 {
     edit(rt, alloc, lock, editor, source(alloc))?;
     edit(rt, alloc, lock, editor, receiver(alloc, 100_000))?;
-    edit(rt, alloc, lock, editor, house(alloc, 200_000))
+    edit(rt, alloc, lock, editor, house(alloc, 200_000, 210_000))
 }
 
 // The house moved, and the barrier put.
@@ -136,7 +137,7 @@ fn put_barrier<R: Wait>(
     ensures own { editor.new.table ≡ lock.now }
     ensures parts { editor.new.parts ≡ editor.old.parts }
 {
-    edit(rt, alloc, lock, editor, house(alloc, -300_000))?;
+    edit(rt, alloc, lock, editor, house(alloc, -300_000, -290_000))?;
     edit(rt, alloc, lock, editor, barrier(alloc))
 }
 
@@ -168,8 +169,10 @@ fn work_late<R: Wait>(
 {
     let job = take_job(rt, lock, worker)?;
     put_shed(rt, alloc, lock, editor)?;
-    let answer = solve(alloc, job).ok()?;
-    Some(lock.offer(rt, worker, answer))
+    match solve(alloc, job) {
+        Ok(answer) => Some(lock.offer(rt, worker, answer)),
+        Err(_) => None,
+    }
 }
 
 // A board on which an answer for version 5 landed at version 7, and what became of its two answers.
@@ -253,8 +256,10 @@ fn work_moved<R: Wait>(
     let job = take_job(rt, lock, worker)?;
     let is_out = matches!(lock.take(rt, other), Took::Idle { taken: 1 });
     edit(rt, alloc, lock, editor, receiver(alloc, 120_000))?;
-    let answer = solve(alloc, job).ok()?;
-    Some((is_out, lock.offer(rt, worker, answer)))
+    match solve(alloc, job) {
+        Ok(answer) => Some((is_out, lock.offer(rt, worker, answer))),
+        Err(_) => None,
+    }
 }
 
 // A board whose receiver was put at another place while its job was out.

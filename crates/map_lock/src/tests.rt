@@ -71,8 +71,10 @@ pub(crate) fn work_once<R: Wait>(
     ensures parts { worker.new.parts ≡ worker.old.parts }
 {
     let job = take_job(rt, lock, worker)?;
-    let answer = solve(alloc, job).ok()?;
-    Some(lock.offer(rt, worker, answer))
+    match solve(alloc, job) {
+        Ok(answer) => Some(lock.offer(rt, worker, answer)),
+        Err(_) => None,
+    }
 }
 
 // A look at one row, which is current.
