@@ -4,6 +4,7 @@ ghost use Rattle.scene_parts.specs.Names.{IsName, IsAnyName};
 use super::{Edit, EditFault, Scene};
 use scene_parts::{Class, Name, PlainName, RawPart, RawPoints, RawPt, Receiver, check};
 use std::alloc::{AllocError, Global};
+use std::process::Abort;
 use std::test::Fail;
 
 /// The names of parts.
@@ -224,13 +225,18 @@ fn take(scene: &mut Scene, alloc: Global, step: Step) -> Result<EditOutcome, All
     }
 }
 
-/// The scene after all edits of the rows.
-fn edited(alloc: Global) -> Result<Scene, AllocError> {
-    let mut scene = Scene::empty(alloc).map_err(|_| AllocError)?;
-    for (step, _, _) in ROWS {
-        take(&mut scene, alloc, step)?;
+/// Does all edits of the rows, and has each answer and the numbers of parts behind it compared.
+fn edit_all(rt: &impl Abort, alloc: Global, scene: &mut Scene) -> Result<(), Fail> {
+    for (step, outcome, counts) in ROWS {
+        let answer = take(scene, alloc, step)?;
+        let found = (
+            scene.receivers().len(),
+            scene.obstacles().len(),
+            scene.zones().len(),
+        );
+        assert_eq!(rt; (answer, found), (outcome, counts));
     }
-    Ok(scene)
+    Ok(())
 }
 
 #[test]
@@ -240,22 +246,6 @@ fn an_empty_scene_has_defaults(rt: HostRuntime) -> Result<(), Fail> {
         (scene.globals().reach, scene.globals().g, scene.globals().c0),
         (4_000_000, 0, 0)
     );
-    Ok(())
-}
-
-#[test]
-fn edits_answer_in_a_row(rt: HostRuntime) -> Result<(), Fail> {
-    let alloc = rt.alloc();
-    let mut scene = Scene::empty(alloc)?;
-    for (step, outcome, counts) in ROWS {
-        let answer = take(&mut scene, alloc, step)?;
-        let found = (
-            scene.receivers().len(),
-            scene.obstacles().len(),
-            scene.zones().len(),
-        );
-        assert_eq!(rt; (answer, found), (outcome, counts));
-    }
     Ok(())
 }
 
@@ -269,28 +259,40 @@ fn are_edited(receivers: &[Receiver]) -> bool {
     receivers.len() == RECEIVERS.len()
 }
 
-#[test]
-fn copies_keep_what_is_edited(rt: HostRuntime) -> Result<(), Fail> {
-    let alloc = rt.alloc();
-    let mut scene = edited(alloc)?;
+/// Compares the ground and what holds of the whole scene after all edits.
+fn keeps_rest(rt: &impl Abort, scene: &Scene) {
+    let ground = scene.zones().first().map(|zone| zone.g);
+    let globals = scene.globals();
+    assert_eq!(rt;
+        (ground, globals.reach, globals.g, globals.c0),
+        (Some(100), 4_000_000, 50, 1000)
+    );
+}
+
+/// Removes the zone, which a copy keeps.
+fn copy_keeps(
+    rt: &impl Abort,
+    alloc: Global,
+    scene: &mut Scene,
+    copy: &Scene,
+) -> Result<(), AllocError> {
+    remove(scene, alloc, Called::Ground)?;
+    assert!(rt; scene.zones().is_empty());
+    assert!(rt; are_edited(copy.receivers()));
+    keeps_rest(rt, copy);
+    Ok(())
+}
+
+/// Compares what a scene and its copy keep after all edits.
+fn compare(rt: &impl Abort, alloc: Global, scene: &mut Scene) -> Result<(), Fail> {
     assert!(rt; are_edited(scene.receivers()));
     let copy = scene.copy(alloc)?;
-    remove(&mut scene, alloc, Called::Ground)?;
-    assert_eq!(rt;
-        (scene.zones().len(), are_edited(copy.receivers())),
-        (0, true)
-    );
-    let [ground] = copy.zones() else {
-        return Err("not one zone".into());
-    };
-    assert_eq!(rt;
-        (
-            ground.g,
-            copy.globals().reach,
-            copy.globals().g,
-            copy.globals().c0
-        ),
-        (100, 4_000_000, 50, 1000)
-    );
-    Ok(())
+    Ok(copy_keeps(rt, alloc, scene, &copy)?)
+}
+
+#[test]
+fn edits_answer_in_a_row_and_copies_keep_them(rt: HostRuntime) -> Result<(), Fail> {
+    let mut scene = Scene::empty(rt.alloc())?;
+    edit_all(&rt, rt.alloc(), &mut scene)?;
+    compare(&rt, rt.alloc(), &mut scene)
 }
