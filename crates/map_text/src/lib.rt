@@ -17,7 +17,7 @@ mod texts;
 pub use counted::counts_text;
 pub use heads::{Head, head_text};
 pub use laws::printed_is_around;
-pub use levels::{band_text, current_text, made_text};
+pub use levels::made_text;
 pub use looks::row_text;
 pub use refusals::Refusal;
 pub use refused::refused_text;
