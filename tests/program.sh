@@ -80,6 +80,16 @@ try_ends() {
     expect "67,108,865 bytes" 6 "$room/nothing" "input limit" "$program" < "$room/over"
 }
 
+# Workers change no row of a settle, also where no thread can be started: there its stack finds no room.
+try_workers() {
+    for workers in 0 1 4 16; do
+        expect "$workers workers" 0 examples/works.csv "" "$program" --workers "$workers" < examples/works.jsonl
+        expect "a site with $workers workers" 0 examples/site7.csv "" "$program" --make 7 --workers "$workers" < "$room/nothing"
+    done
+    expect "workers without threads" 0 examples/works.csv "" \
+        prlimit --stack=8589934592 --as=4294967296 "$program" --workers 16 < examples/works.jsonl
+}
+
 # As many obstacles and sides as may be, out to the ends of the map, and one obstacle more. The levels are those of an
 # independent calculation.
 try_screens() {
@@ -141,6 +151,7 @@ for program in "$@"; do
     try_examples
     try_words
     try_ends
+    try_workers
     try_screens
     try_memory
 done

@@ -1,14 +1,11 @@
 -- Fronts of texts that a sink has taken.
-use Rattle.std.proofs.Common.{◌≡◌, ℕ, Bool, ◌+◌, ◌<◌, List, ◌++◌, length, take, drop, get_or, Option, flat_map, sym, ap, ◌∙◌, append_assoc, add-one, drop-cons, suc, subst}
+use Rattle.std.proofs.Common.{◌≡◌, ℕ, ◌+◌, ◌<◌, List, ◌++◌, length, take, drop, get_or, Option, flat_map, sym, ap, ◌∙◌, append_assoc, add-one, drop-cons, suc, subst}
 use Rattle.std.specs.Io.KnownBytes.{Appends}
 use Rattle.std.proofs.KnownBytes.{Appends-trans}
 use Rattle.std.proofs.lemmas.List.{take-append-drop}
 use Rattle.std.proofs.lemmas.List.Concat.{flat_map-append, flat_map-cons}
 use Rattle.std.specs.Prelude.{Result, Ok, Err}
 use Rattle.noise_map.specs.declared.stopped.Stopped.{Stopped}
-use Rattle.noise_map.specs.declared.answer.Answer.{Answer}
-use Rattle.noise_map.specs.declared.project.Project.{Project}
-use Rattle.noise_map.specs.Run.{Effect, rows_of}
 use Rattle.noise_map.specs.Taking.{TakesFront, Takes}
 
 -- a whole text, and a front of the next
@@ -55,11 +52,6 @@ pieces_of f xs i d below =
     ∙ ap (λ ys. flat_map f (take i xs) ++ flat_map f ys) (drop-cons xs i d below)
     ∙ ap (λ ys. flat_map f (take i xs) ++ ys) (flat_map-cons f (get_or xs i d) (drop (suc i) xs))
     ∙ ap (λ j. flat_map f (take i xs) ++ (f (get_or xs i d) ++ flat_map f (drop j xs))) (sym (add-one i))
-
--- the rows of an effect are those of what it shows
-pub same_rows : (bands : Bool) (number : ℕ) (effect : Effect) (project : Project) (answer : Answer) → answer ≡ effect.answer → project ≡ effect.project
-    → rows_of bands number project answer ≡ rows_of bands number effect.project effect.answer
-same_rows bands number effect project answer same_answer same_project = λ i. rows_of bands number (same_project i) (same_answer i)
 
 -- the texts before a place, and nothing of the rest
 pub front_whole : {X : Type 0} (f : X → List ℕ) (xs : List X) (i : ℕ) (before after : Option (List ℕ)) → Appends before after (flat_map f (take i xs)) → TakesFront before after (flat_map f xs)

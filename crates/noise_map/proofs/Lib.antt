@@ -1,7 +1,12 @@
-pub mod Fronts
-pub mod Hearing
-pub mod Versions
-pub mod Refusing
-pub mod Steps
+pub mod Ways
+pub mod Meeting
+pub mod Demands
+pub mod Reading
+pub mod Doing
 pub mod Told
+pub mod Ending
+pub mod Crossing
+pub mod Crews
+pub mod Wholes
 pub mod Sites
+pub mod Fronts

@@ -1,10 +1,10 @@
 -- What the lines of a generated site come to.
-use Rattle.std.proofs.Common.{◌≡◌, ℕ, ◌+◌, ◌<◌, ◌≤◌, ◌-◌, ◌==◌, ℤ, pos, List, [], ◌∷◌, length, take, drop, refl, sym, ap, subst, ◌∙◌, arith}
-use Rattle.std.specs.Prelude.{Option, Some, None, IfSome, IsSomeAnd, unwrap_or, position, Result, Ok, Err, OnOk, Bool, true, false, nat_lt}
-use Rattle.std.specs.Result.{is_err}
+use Rattle.std.proofs.Common.{◌≡◌, ℕ, ◌+◌, ◌<◌, ◌≤◌, ◌-◌, ◌==◌, ℤ, pos, List, [], ◌∷◌, length, take, drop, map, suc, ◌++◌, refl, sym, ap, subst, append_assoc, ◌∙◌, arith}
+use Rattle.std.specs.Prelude.{Option, Some, None, IfSome, IsSomeAnd, unwrap_or, position, Result, Ok, Err, Bool, true, false, nat_lt, fold, slice_get}
 use Rattle.std.proofs.lemmas.Int.{ints}
 use Rattle.std.proofs.lemmas.List.{take_all, length-drop, length-append}
-use Rattle.std.proofs.Math.Seq.{drop-length}
+use Rattle.std.proofs.Math.Seq.{drop-length, take-append_seam}
+use Rattle.std.proofs.lemmas.List.Sums.{fold-append}
 use Rattle.fix_interval.specs.Interval.{Interval}
 use Rattle.fix_interval.specs.Values.{ratio_of, hull_of, lesser_low, greater_high}
 use Rattle.energy_sum.proofs.Adding.{zero-is}
@@ -14,14 +14,30 @@ use Rattle.map_io.specs.Lines.{lines}
 use Rattle.map_io.specs.LineLaws.{lines-line, lines-last, lines-empty}
 use Rattle.map_io.proofs.Scanning.{plain_before_feed, split_at_feed, plain_without_feed}
 use Rattle.noise_map.specs.FirstLine.{IsFirstLine}
-use Rattle.noise_map.specs.declared.project.Project.{Project}
 use Rattle.noise_map.specs.declared.answer.Answer.{Answer}
-use Rattle.noise_map.specs.declared.answer.Answer.TheVariants.{Nothing, Settled, Refused, NotBuilt}
-use Rattle.noise_map.specs.declared.making.Making.{Making}
-use Rattle.noise_map.specs.Run.{line_effect}
-use Rattle.noise_map.proofs.Versions.{line_effect-version}
-use Rattle.noise_map.specs.Making.{no_level, made_with, made_after, site_lines, site_made, site_row, Makes}
-use Rattle.noise_map.specs.Progress.{status_at_end}
+use Rattle.scene_parts.specs.Views.{Receiver}
+use Rattle.scene_parts.specs.declared.parts.Part.{Part}
+use Rattle.scene_book.specs.Book.{Book}
+use Rattle.scene_book.specs.Applying.{apply_of}
+use Rattle.scene_book.specs.declared.edits.Edit.{Edit}
+use Rattle.scene_book.specs.declared.edits.EditFault.{EditFault}
+use Rattle.command_lines.specs.declared.commands.Command.TheVariants as commands
+use Rattle.map_text.specs.declared.refusals.Refusal.{Refusal}
+use Rattle.map_board.specs.declared.looks.LookAll.{LookAll}
+use Rattle.map_board.specs.declared.looks.LookRow.{LookRow}
+use Rattle.map_board.specs.Journal.{newest_scene}
+use Rattle.map_board.specs.Showing.{accepted_edits, settled_row, settled_rows}
+use Rattle.map_lock.specs.Seats.{BoardSeat, BoardEntry}
+use Rattle.map_lock.specs.Settling.{IsQuiet, is_look}
+use Rattle.noise_map.specs.Demands.{Demand, nothing, refusal, command, demand_of, with_edit, journal_after, fault_of_edit, Point, at_start, passed_line, journal_of}
+use Rattle.noise_map.specs.Texts.{answer_to_edit, settled_by, looked_by}
+use Rattle.noise_map.specs.Ways.{looks_in, look_entry, Settles}
+use Rattle.noise_map.specs.Steps.{HasMet}
+use Rattle.noise_map.proofs.Ways.{looks_in-append, looks_in-one}
+use Rattle.noise_map.proofs.Meeting.{all-each, no-looks}
+use Rattle.noise_map.specs.Making.{no_level, widened, total_in, span_in, Made, and_refused, made_with, making_of, span_with, span_of_rows, made_with_answer, made_after, made_by, nothing_made, site_lines, site_made, site_row, MakesRow}
+use Rattle.noise_map.specs.declared.status.Status.{Status}
+use Rattle.noise_map.specs.Progress.{status_at_end, Did, HasEnded, SiteEnded}
 use Rattle.noise_map.specs.declared.status.Status.TheVariants as status
 use Rattle.map_io.specs.Putting.{TakesPart}
 use Rattle.std.specs.Option.{option_map}
@@ -90,30 +106,80 @@ line-unended bytes none some =
 
 -- ---- what one more line comes to
 
-with-version : (made : Making) (project : Project) (answer : Answer) → (made_with made project answer).project.version ≡ project.version
-with-version made project Nothing = refl
-with-version made project Settled = refl
-with-version made project (Refused fault) = refl
-with-version made project NotBuilt = refl
+span-edit : (made : Made) (journal more : List Edit) (edit : Edit) (r : Result (Book × Option Part) EditFault) → made.journal ≡ journal → more ≡ with_edit journal edit r
+    → made_with_answer (making_of made) (answer_to_edit journal r) ≡ making_of (record made { journal = more; refused = and_refused made.refused (fault_of_edit r) })
+span-edit made journal more edit (Ok after) same is =
+    let n : suc (length journal) ≡ length more = omega (arith, ap length is, length-append journal (edit ∷ [])) in
+    λ i. record { version = n i; refused = made.refused; receivers = made.receivers; span = made.span }
+span-edit made journal more edit (Err fault) same is =
+    λ i. record { version = ap length (same ∙ sym is) i; refused = made.refused + 1; receivers = made.receivers; span = made.span }
 
-with-refused : (made : Making) (project : Project) (answer : Answer) → (made_with made project answer).refused ≤ made.refused + 1
-with-refused made project Nothing = omega arith
-with-refused made project Settled = omega arith
-with-refused made project (Refused fault) = omega arith
-with-refused made project NotBuilt = omega arith
+-- the levels of a settled board
+span-rows : (book : Book) (span : Option Interval) (rs : List Receiver)
+    → fold (λ s (row : LookRow). span_with s row.shown) span (map (settled_row book) rs) ≡ fold widened span (map (total_in book) rs)
+span-rows book span [] = refl
+span-rows book span (r ∷ rs) = span-rows book (widened span (total_in book r)) rs
 
-pub after-version : (made : Making) (line : List ℕ) → (made_after made line).project.version ≤ made.project.version + 1
-after-version made line =
-    let effect = line_effect made.project line in
-    omega (arith, with-version made effect.project effect.answer, line_effect-version made.project line)
+span-settled : (book : Book) → span_of_rows (settled_rows book) ≡ span_in book
+unfolding span_of_rows span_in
+span-settled book = ap (λ (o : Option Interval). unwrap_or o no_level) (span-rows book None book.receivers)
 
-pub after-refused : (made : Making) (line : List ℕ) → (made_after made line).refused ≤ made.refused + 1
-after-refused made line = let effect = line_effect made.project line in with-refused made effect.project effect.answer
+settled-length : (book : Book) (rs : List Receiver) → length (map (settled_row book) rs) ≡ length rs
+settled-length book [] = refl
+settled-length book (r ∷ rs) = let n = settled-length book rs in omega (arith, n)
 
--- what holds of an answer that is no error
-pub held : {X E P : Type 0} (r : Result X E) → is_err r ≡ false → OnOk r P → P
-held (Ok x) fine p = p
-held (Err e) fine p = absurd (cc)
+-- the look of a settle is the only one of its entries
+settled-look : (seat after : BoardSeat) (answer : Answer) (met : HasMet seat (command commands.Settle) answer after) (does : Settles after.seen seat.mine (accepted_edits seat.mine) met.added)
+    → looks_in met.added ≡ does.look ∷ []
+settled-look seat after answer met does =
+    ap looks_in does.is
+    ∙ (looks_in-append does.work (look_entry does.look ∷ [])
+    ∙ (ap (λ (ls : List LookAll). ls ++ looks_in (look_entry does.look ∷ [])) (no-looks does.work (all-each IsQuiet (λ (e : BoardEntry). is_look e.reply ≡ false) (λ e q. q.no_look) does.work does.quiet))
+    ∙ looks_in-one (look_entry does.look)))
+
+-- what a demand that was met adds, by its answer
+pub made-more : (made : Made) (seat after : BoardSeat) (demand : Demand) (answer : Answer) → accepted_edits seat.mine ≡ made.journal → HasMet seat demand answer after
+    → made_with_answer (making_of made) answer ≡ making_of (made_with made demand)
+made-more made seat after nothing answer journal met = ap (made_with_answer (making_of made)) met.answered
+made-more made seat after (refusal fault) answer journal met = ap (made_with_answer (making_of made)) met.answered
+made-more made seat after (command (commands.Edit edit)) answer journal met =
+    ap (made_with_answer (making_of made)) (met.answered ∙ ap (λ (es : List Edit). answer_to_edit es (apply_of edit (newest_scene es))) journal)
+    ∙ span-edit made made.journal (with_edit made.journal edit (apply_of edit (newest_scene made.journal))) edit (apply_of edit (newest_scene made.journal)) refl refl
+made-more made seat after (command commands.Settle) answer journal met =
+    let book = newest_scene made.journal in
+    let does = met.does in
+    let looks : looks_in met.added ≡ does.look ∷ [] = settled-look seat after answer met does in
+    let rows : does.look.rows ≡ settled_rows book = does.rows ∙ ap (λ (es : List Edit). settled_rows (newest_scene es)) journal in
+    ap (made_with_answer (making_of made)) (met.answered ∙ ap (λ (ls : List LookAll). settled_by (slice_get ls 0)) looks)
+    ∙ (λ i. record {
+      version = length made.journal;
+      refused = made.refused;
+      receivers = (ap length rows ∙ settled-length book book.receivers) i;
+      span = (ap span_of_rows rows ∙ span-settled book) i;
+    })
+made-more made seat after (command commands.Look) answer journal met =
+    ap (made_with_answer (making_of made)) met.answered ∙ looked (slice_get (looks_in met.added) 0) where
+      looked : (o : Option LookAll) → made_with_answer (making_of made) (looked_by o) ≡ making_of made
+      looked None = refl
+      looked (Some look) = refl
+
+refused-few : (n : ℕ) (o : Option Refusal) → and_refused n o ≤ n + 1
+refused-few n None = omega arith
+refused-few n (Some fault) = omega arith
+
+pub with-refused : (made : Made) (demand : Demand) → (made_with made demand).refused ≤ made.refused + 1
+with-refused made nothing = omega arith
+with-refused made (refusal fault) = omega arith
+with-refused made (command (commands.Edit edit)) = refused-few made.refused (fault_of_edit (apply_of edit (newest_scene made.journal)))
+with-refused made (command commands.Settle) = omega arith
+with-refused made (command commands.Look) = omega arith
+
+pub with-journal : (made : Made) (demand : Demand) → (made_with made demand).journal ≡ journal_after made.journal demand
+with-journal made nothing = refl
+with-journal made (refusal fault) = refl
+with-journal made (command (commands.Edit edit)) = refl
+with-journal made (command commands.Settle) = refl
+with-journal made (command commands.Look) = refl
 
 -- ---- the end
 
@@ -125,14 +191,56 @@ some-refused n test = grind (arith, test)
 
 -- how a run ends that has written its row: by whether lines were refused
 pub ended : (number count refused : ℕ) (before after : Option (List ℕ)) → count ≡ length (site_lines number) → refused ≡ (site_made number).refused → Appends before after (site_row number) → (test : Bool) → test ≡ nat_lt 0 refused
-    → Makes number (status_at_end test) count before after
+    → MakesRow number (status_at_end test) count before after
 ended number count refused before after all is row true test = (all, subst (λ (n : ℕ). 0 < n) is (some-refused refused test), row)
 ended number count refused before after all is row false test = (all, sym is ∙ none-refused refused test, row)
 
+pub way-at-end : (test : Bool) (before seat : BoardSeat) (done : List (List ℕ)) → Did before seat done → HasEnded (status_at_end test) done before seat
+way-at-end true before seat done did = record { same = did.same; way = did.way }
+way-at-end false before seat done did = record { same = did.same; way = did.way }
+
+-- how a run ends that lacked memory
+pub unmade : (number k : ℕ) (before seat : BoardSeat) (taken : Option (List ℕ)) → k ≤ length (site_lines number) → HasEnded status.NoMemory (take k (site_lines number)) before seat
+    → (s : Status) (n : ℕ) → s ≡ status.NoMemory → n ≡ k → SiteEnded number s n (λ done. HasEnded s done before seat) taken taken
+unmade number k before seat taken few ended s n is count =
+    subst (λ (x : Status). SiteEnded number x n (λ done. HasEnded x done before seat) taken taken) (sym is)
+    (subst (λ (m : ℕ). SiteEnded number status.NoMemory m (λ done. HasEnded status.NoMemory done before seat) taken taken) (sym count)
+    (record { writes = (few, refl); goes = ended }))
+
 -- a part of the row was taken
-pub broken_off : (number count : ℕ) (before after : Option (List ℕ)) (row : List ℕ) → count ≡ length (site_lines number) → row ≡ site_row number → TakesPart before after row → Makes number status.WriteFault count before after
+pub broken_off : (number count : ℕ) (before after : Option (List ℕ)) (row : List ℕ) → count ≡ length (site_lines number) → row ≡ site_row number → TakesPart before after row → MakesRow number status.WriteFault count before after
 broken_off number count before after row all is part = (all, record { front = part.front; rest = part.rest; parts = sym is ∙ part.parts; taken = part.taken })
 
 -- bytes of which no line comes first
 pub no-line : {A : Type 0} (bytes : List ℕ) (found : Option A) (both : A → List ℕ × List ℕ) → IsFirstLine bytes (option_map both found) → found ≡ None → bytes ≡ []
 no-line bytes found both first none = rw none at first
+
+-- ---- the lines of a site, one after another
+
+-- one line more of a list
+pub line-step : (all : List (List ℕ)) (k : ℕ) (line : List ℕ) (more : List (List ℕ)) → take k all ++ line ∷ more ≡ all → k + length (line ∷ more) ≡ length all
+    → take (k + 1) all ≡ take k all ++ line ∷ []
+line-step all k line more whole counted =
+    let front = take k all in
+    let n : length front + length (line ∷ more) ≡ length all = sym (length-append front (line ∷ more)) ∙ ap length whole in
+    let size : length (front ++ line ∷ []) ≡ k + 1 = omega (arith, n, counted, length-append front (line ∷ [])) in
+    let again : (front ++ line ∷ []) ++ more ≡ all = append_assoc front (line ∷ []) more ∙ whole in
+    (λ i. take (sym size i) (sym again i)) ∙ take-append_seam (front ++ line ∷ []) more
+
+pub line-whole : (all : List (List ℕ)) (k : ℕ) (line : List ℕ) (more : List (List ℕ)) → take k all ++ line ∷ more ≡ all → k + length (line ∷ more) ≡ length all
+    → take (k + 1) all ++ more ≡ all
+line-whole all k line more whole counted =
+    ap (λ l. l ++ more) (line-step all k line more whole counted) ∙ (append_assoc (take k all) (line ∷ []) more ∙ whole)
+
+pub made-push : (done : List (List ℕ)) (line : List ℕ) → made_by (done ++ line ∷ []) ≡ made_after (made_by done) line
+made-push done line = fold-append made_after nothing_made done (line ∷ [])
+
+-- the edits that they had accepted
+made-journal-from : (made : Made) (point : Point) (done : List (List ℕ)) → made.journal ≡ point.journal → (fold made_after made done).journal ≡ (fold passed_line point done).journal
+made-journal-from made point [] same = same
+made-journal-from made point (line ∷ more) same =
+    made-journal-from (made_after made line) (passed_line point line) more
+    (with-journal made (demand_of line) ∙ ap (λ (es : List Edit). journal_after es (demand_of line)) same)
+
+pub made-journal : (done : List (List ℕ)) → (made_by done).journal ≡ journal_of done
+made-journal done = made-journal-from nothing_made at_start done refl

@@ -1,5 +1,5 @@
 -- Which faults a status tells, and that a run without them comes to its end.
-use Rattle.std.proofs.Common.{◌≡◌, ◌≢◌, ◌≤◌, ℕ, Bool, true, false, List, [], ◌∷◌, ◌++◌, length, refl, ap, sym, ◌∙◌, subst, arith, length-append}
+use Rattle.std.proofs.Common.{◌≡◌, ◌≢◌, ◌≤◌, ℕ, Bool, true, false, List, [], ◌∷◌, ◌++◌, length, take, refl, ap, sym, ◌∙◌, subst, arith, length-append}
 use Rattle.std.specs.Prelude.{Option, Some, None, Err, IfSome}
 use Rattle.map_io.specs.Causes.{Rose}
 use Rattle.map_io.specs.declared.reader.Stop.{Stop}
@@ -11,13 +11,14 @@ use Rattle.noise_map.specs.declared.stopped.Stopped.{Stopped}
 use Rattle.noise_map.specs.declared.stopped.Stopped.TheVariants as stops
 use Rattle.noise_map.specs.declared.status.Status.{Status}
 use Rattle.noise_map.specs.declared.status.Status.TheVariants as status
-use Rattle.noise_map.specs.declared.project.Project.{Project}
 use Rattle.noise_map.specs.Taking.{CausedByWriteFault}
-use Rattle.noise_map.specs.Outcome.{Outcome, CoversLimit, TellsFault, IsUnbroken, RunsToTheEnd, OutcomeOf, RunOutcome}
-use Rattle.noise_map.specs.Making.{Makes}
+use Rattle.noise_map.specs.Outcome.{Covers, Outcome, CoversLimit, TellsFault, IsUnbroken, RunsToTheEnd, OutcomeOf, RunOutcome}
+use Rattle.map_lock.specs.Seats.{BoardSeat}
+use Rattle.noise_map.specs.Making.{Makes, MakesRow, site_lines}
 use Rattle.command_words.specs.declared.line.CommandLine.{CommandLine}
-use Rattle.noise_map.proofs.Steps.{never_begun}
-use Rattle.noise_map.specs.Progress.{status_of, ending_of, HandedOut, Progress}
+use Rattle.noise_map.proofs.Reading.{nothing_covered}
+use Rattle.std.proofs.KnownBytes.{Appends-nil}
+use Rattle.noise_map.specs.Progress.{status_of, ending_of, HandedOut, Read}
 
 same_some : {X : Type 0} {x y : X} → Some x ≡ Some y → x ≡ y
 same_some e = cc
@@ -29,9 +30,8 @@ not_by_fault AfterFault r left now done handed is = handed
 not_by_fault AtLimit r left now done handed is = handed
 
 -- a run in progress has a reader that no fault has stopped
-pub goes_without_fault : (bands : Bool) (r : Reading) (project : Project) (count : ℕ) (refused : Bool) (left now taken_before taken_now : Option (List ℕ))
-    → Progress bands r project count refused left now taken_before taken_now → r.stop ≢ AfterFault
-goes_without_fault bands r project count refused left now taken_before taken_now p = not_by_fault r.stop r left now p.done p.handed_out
+pub goes_without_fault : (r : Reading) (count : ℕ) (left now : Option (List ℕ)) (done : List (List ℕ)) → Read r count left now done → r.stop ≢ AfterFault
+goes_without_fault r count left now done p = not_by_fault r.stop r left now done p.handed_out
 
 -- a line is no fault
 pub line_is_no_fault : (answer : Next) (refused : Bool) → ending_of answer refused ≡ None → answer ≢ next.ReadFault
@@ -98,57 +98,72 @@ over_limit bytes None done covers few = covers.consumed
 over_limit bytes (Some rest) done covers few =
     omega (arith, few, ap length covers.consumed, length-append (covers.read ++ covers.more ∷ []) rest, length-append covers.read (covers.more ∷ []), covers.full)
 
-complete_within : (bands : Bool) (end : Status) (count : ℕ) (bytes : List ℕ) (after taken_before taken_after : Option (List ℕ)) (reads reads_after writes writes_after : ℕ)
-    → Outcome bands end count (Some bytes) after taken_before taken_after
+complete_within : (end : Status) (bytes : List ℕ) (after : Option (List ℕ)) (done : List (List ℕ)) (reads reads_after writes writes_after : ℕ)
+    → Covers end (Some bytes) after done
     → TellsFault status.ReadFault end reads reads_after → TellsFault status.WriteFault end writes writes_after
     → (Rose reads reads_after → ⊥) → (Rose writes writes_after → ⊥) → length bytes ≤ input_limit → IsUnbroken end
-complete_within bands status.Done count bytes after taken_before taken_after reads reads_after writes writes_after outcome read write no_read no_write few = tt
-complete_within bands status.SomeRefused count bytes after taken_before taken_after reads reads_after writes writes_after outcome read write no_read no_write few = tt
-complete_within bands status.Usage count bytes after taken_before taken_after reads reads_after writes writes_after outcome read write no_read no_write few = outcome.covers
-complete_within bands status.ReadFault count bytes after taken_before taken_after reads reads_after writes writes_after outcome read write no_read no_write few = no_read (read.rose refl)
-complete_within bands status.WriteFault count bytes after taken_before taken_after reads reads_after writes writes_after outcome read write no_read no_write few = no_write (write.rose refl)
-complete_within bands status.NoMemory count bytes after taken_before taken_after reads reads_after writes writes_after outcome read write no_read no_write few = tt
-complete_within bands status.InputLimit count bytes after taken_before taken_after reads reads_after writes writes_after outcome read write no_read no_write few = over_limit bytes after outcome.done outcome.covers few
+complete_within status.Done bytes after done reads reads_after writes writes_after covers read write no_read no_write few = tt
+complete_within status.SomeRefused bytes after done reads reads_after writes writes_after covers read write no_read no_write few = tt
+complete_within status.Usage bytes after done reads reads_after writes writes_after covers read write no_read no_write few = covers
+complete_within status.ReadFault bytes after done reads reads_after writes writes_after covers read write no_read no_write few = no_read (read.rose refl)
+complete_within status.WriteFault bytes after done reads reads_after writes writes_after covers read write no_read no_write few = no_write (write.rose refl)
+complete_within status.NoMemory bytes after done reads reads_after writes writes_after covers read write no_read no_write few = tt
+complete_within status.InputLimit bytes after done reads reads_after writes writes_after covers read write no_read no_write few = over_limit bytes after done covers few
 
-pub complete : (bands : Bool) (end : Status) (count : ℕ) (left after taken_before taken_after : Option (List ℕ)) (reads reads_after writes writes_after : ℕ)
-    → Outcome bands end count left after taken_before taken_after
+complete : (end : Status) (left after : Option (List ℕ)) (done : List (List ℕ)) (reads reads_after writes writes_after : ℕ)
+    → Covers end left after done
     → TellsFault status.ReadFault end reads reads_after → TellsFault status.WriteFault end writes writes_after
     → (Rose reads reads_after → ⊥) → (Rose writes writes_after → ⊥) → RunsToTheEnd end left
-complete bands end count None after taken_before taken_after reads reads_after writes writes_after outcome read write no_read no_write = tt
-complete bands end count (Some bytes) after taken_before taken_after reads reads_after writes writes_after outcome read write no_read no_write =
-    complete_within bands end count bytes after taken_before taken_after reads reads_after writes writes_after outcome read write no_read no_write
+complete end None after done reads reads_after writes writes_after covers read write no_read no_write = tt
+complete end (Some bytes) after done reads reads_after writes writes_after covers read write no_read no_write =
+    complete_within end bytes after done reads reads_after writes writes_after covers read write no_read no_write
 
-made_within : (number : ℕ) (end : Status) (count : ℕ) (bytes : List ℕ) (taken_before taken_after : Option (List ℕ)) (writes writes_after : ℕ)
-    → Makes number end count taken_before taken_after → TellsFault status.WriteFault end writes writes_after → (Rose writes writes_after → ⊥) → IsUnbroken end
-made_within number status.Done count bytes taken_before taken_after writes writes_after made write no_write = tt
-made_within number status.SomeRefused count bytes taken_before taken_after writes writes_after made write no_write = tt
-made_within number status.Usage count bytes taken_before taken_after writes writes_after made write no_write = made
-made_within number status.ReadFault count bytes taken_before taken_after writes writes_after made write no_write = made
-made_within number status.WriteFault count bytes taken_before taken_after writes writes_after made write no_write = no_write (write.rose refl)
-made_within number status.NoMemory count bytes taken_before taken_after writes writes_after made write no_write = tt
-made_within number status.InputLimit count bytes taken_before taken_after writes writes_after made write no_write = made
+made_within : (number : ℕ) (end : Status) (count : ℕ) (taken_before taken_after : Option (List ℕ)) (writes writes_after : ℕ)
+    → MakesRow number end count taken_before taken_after → TellsFault status.WriteFault end writes writes_after → (Rose writes writes_after → ⊥) → IsUnbroken end
+made_within number status.Done count taken_before taken_after writes writes_after made write no_write = tt
+made_within number status.SomeRefused count taken_before taken_after writes writes_after made write no_write = tt
+made_within number status.Usage count taken_before taken_after writes writes_after made write no_write = made
+made_within number status.ReadFault count taken_before taken_after writes writes_after made write no_write = made
+made_within number status.WriteFault count taken_before taken_after writes writes_after made write no_write = no_write (write.rose refl)
+made_within number status.NoMemory count taken_before taken_after writes writes_after made write no_write = tt
+made_within number status.InputLimit count taken_before taken_after writes writes_after made write no_write = made
 
 made_complete : (number : ℕ) (end : Status) (count : ℕ) (left taken_before taken_after : Option (List ℕ)) (writes writes_after : ℕ)
-    → Makes number end count taken_before taken_after → TellsFault status.WriteFault end writes writes_after → (Rose writes writes_after → ⊥) → RunsToTheEnd end left
+    → MakesRow number end count taken_before taken_after → TellsFault status.WriteFault end writes writes_after → (Rose writes writes_after → ⊥) → RunsToTheEnd end left
 made_complete number end count None taken_before taken_after writes writes_after made write well = tt
 made_complete number end count (Some bytes) taken_before taken_after writes writes_after made write well = λ few.
-    made_within number end count bytes taken_before taken_after writes writes_after made write well
+    made_within number end count taken_before taken_after writes writes_after made write well
 
 -- over the input, and over a generated site
-pub asked_complete : (make : Option ℕ) (bands : Bool) (end : Status) (count : ℕ) (left after taken_before taken_after : Option (List ℕ)) (reads reads_after writes writes_after : ℕ)
-    → OutcomeOf make bands end count left after taken_before taken_after
+pub asked_complete : (make : Option ℕ) (words : CommandLine) (end : Status) (count : ℕ) (seat : Option BoardSeat) (left after taken_before taken_after : Option (List ℕ)) (reads reads_after writes writes_after : ℕ)
+    → OutcomeOf make words end count seat left after taken_before taken_after
     → TellsFault status.ReadFault end reads reads_after → TellsFault status.WriteFault end writes writes_after
     → (Rose reads reads_after → ⊥) → (Rose writes writes_after → ⊥) → RunsToTheEnd end left
-asked_complete None bands end count left after taken_before taken_after reads reads_after writes writes_after outcome read write no_read no_write =
-    complete bands end count left after taken_before taken_after reads reads_after writes writes_after outcome read write no_read no_write
-asked_complete (Some number) bands end count left after taken_before taken_after reads reads_after writes writes_after outcome read write no_read no_write =
-    made_complete number end count left taken_before taken_after writes writes_after outcome write no_write
+asked_complete None words end count seat left after taken_before taken_after reads reads_after writes writes_after outcome read write no_read no_write =
+    complete end left after outcome.done reads reads_after writes writes_after outcome.covers read write no_read no_write
+asked_complete (Some number) words end count seat left after taken_before taken_after reads reads_after writes writes_after outcome read write no_read no_write =
+    made_complete number end count left taken_before taken_after writes writes_after outcome.writes write no_write
 
 -- a run that has not begun
-pub none_asked : (make : Option ℕ) (bands : Bool) (left taken : Option (List ℕ)) → OutcomeOf make bands status.NoMemory 0 left left taken taken
-none_asked None bands left taken = never_begun bands left taken
-none_asked (Some number) bands left taken = (omega arith, refl)
+pub never_begun : (words : CommandLine) (left taken : Option (List ℕ)) → Outcome words status.NoMemory 0 None left left taken taken
+never_begun words left taken = record {
+  done = [];
+  counted = refl;
+  covers = nothing_covered left;
+  refused = tt;
+  writes = record { part = []; rest = []; front = refl; last = []; others = refl; taken = Appends-nil taken };
+  history = (refl, refl);
+}
 
-pub asked_or_not : (asked : Option CommandLine) (left taken : Option (List ℕ)) → IfSome asked (λ line. RunOutcome line status.NoMemory 0 left left taken taken)
+pub never_made : (number workers : ℕ) (taken : Option (List ℕ)) → Makes number workers status.NoMemory 0 None taken taken
+never_made number workers taken = record { writes = (omega arith, refl); history = (refl, take_none (site_lines number)) } where
+  take_none : (ls : List (List ℕ)) → take 0 ls ≡ []
+  take_none ls = refl
+
+none_asked : (make : Option ℕ) (words : CommandLine) (left taken : Option (List ℕ)) → OutcomeOf make words status.NoMemory 0 None left left taken taken
+none_asked None words left taken = never_begun words left taken
+none_asked (Some number) words left taken = never_made number words.workers taken
+
+pub asked_or_not : (asked : Option CommandLine) (left taken : Option (List ℕ)) → IfSome asked (λ line. RunOutcome line status.NoMemory 0 None left left taken taken)
 asked_or_not None left taken = tt
-asked_or_not (Some line) left taken = none_asked line.make line.bands left taken
+asked_or_not (Some line) left taken = none_asked line.make line left taken

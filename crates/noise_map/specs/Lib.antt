@@ -1,9 +1,13 @@
-pub mod Heard
-pub mod Run
+pub mod Demands
+pub mod Texts
+pub mod Ways
+pub mod Histories
+pub mod Crews
 pub mod Outcome
 pub mod Taking
+pub mod Rows
+pub mod Steps
 pub mod Progress
-pub mod Words
 pub mod Making
 pub mod FirstLine
 pub mod Status

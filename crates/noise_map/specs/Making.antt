@@ -1,21 +1,30 @@
 -- What the lines of a generated site come to, and the one row that tells it.
-use Rattle.std.specs.Prelude.{◌≡◌, ℕ, ◌+◌, ◌<◌, ◌≤◌, pos, List, map, fold, length, Option, Some, None, unwrap_or}
+use Rattle.std.specs.Prelude.{◌≡◌, ℕ, ◌+◌, ◌<◌, ◌≤◌, pos, List, [], map, take, fold, length, Option, Some, None, unwrap_or, Result, Ok, Err}
 use Rattle.std.specs.Io.KnownBytes.{Appends}
 use Rattle.fix_interval.specs.Interval.{Interval}
 use Rattle.fix_interval.specs.Values.{hull_of}
 use Rattle.scene_parts.specs.Views.{Receiver}
 use Rattle.scene_book.specs.Book.{Book}
+use Rattle.scene_book.specs.declared.edits.Edit.{Edit}
 use Rattle.path_calc.specs.Show.{show_of}
+use Rattle.command_lines.specs.declared.commands.Command.TheVariants as commands
 use Rattle.map_io.specs.Lines.{lines}
+use Rattle.map_board.specs.Journal.{newest_scene}
+use Rattle.map_board.specs.declared.answers.Shown.{Shown}
+use Rattle.map_board.specs.declared.answers.Shown.TheVariants.{Current}
+use Rattle.map_board.specs.declared.looks.LookRow.{LookRow}
+use Rattle.map_lock.specs.Seats.{BoardSeat}
+use Rattle.map_text.specs.declared.refusals.Refusal.{Refusal}
 use Rattle.map_text.specs.Rows.{made_row}
 use Rattle.site_maker.specs.Site.{site_text}
-use Rattle.noise_map.specs.declared.project.Project.{Project}
-use Rattle.noise_map.specs.declared.answer.Answer.{Answer}
-use Rattle.noise_map.specs.declared.answer.Answer.TheVariants.{Nothing, Settled, Refused, NotBuilt}
 use Rattle.noise_map.specs.declared.making.Making.{Making}
+use Rattle.noise_map.specs.declared.answer.Answer.{Answer}
+use Rattle.noise_map.specs.declared.answer.Answer.TheVariants.{Nothing, Edited, Refused, Settled, Looked}
 use Rattle.noise_map.specs.declared.status.Status.{Status}
 use Rattle.noise_map.specs.declared.status.Status.TheVariants as status
-use Rattle.noise_map.specs.Run.{empty_project, line_effect}
+use Rattle.noise_map.specs.Demands.{Demand, command, demand_of, journal_after, refused_for}
+use Rattle.noise_map.specs.Histories.{HasHistory}
+use Rattle.noise_map.specs.Steps.{HasMet, HasFailed}
 use Rattle.noise_map.specs.Taking.{TakesFront}
 
 -- ---- the levels of a settle
@@ -39,27 +48,78 @@ span_in book = unwrap_or (fold widened None (map (total_in book) book.receivers)
 
 -- ---- lines
 
+-- what lines have come to: the edits that were accepted, how many lines were refused, and of the last settle the number
+-- of receivers and their levels
+pub record Made : Type 0 where
+  pub journal : List Edit
+  pub refused : ℕ
+  pub receivers : ℕ
+  pub span : Interval
+
 -- before the first line
-abbrev pub nothing_made : Making
-nothing_made = record { project = empty_project; refused = 0; span = no_level }
+abbrev pub nothing_made : Made
+nothing_made = record { journal = []; refused = 0; receivers = 0; span = no_level }
 
--- what an effect adds: one more refused line, or the levels of one more settle
-abbrev pub made_with : Making → Project → Answer → Making
-made_with made project Nothing = record { project = project; refused = made.refused; span = made.span }
-made_with made project Settled =
-    record { project = project; refused = made.refused; span = span_in project.scene }
-made_with made project (Refused fault) =
-    record { project = project; refused = made.refused + 1; span = made.span }
-made_with made project NotBuilt = record { project = project; refused = made.refused + 1; span = made.span }
+-- one more line was refused, or none
+abbrev pub and_refused : ℕ → Option Refusal → ℕ
+and_refused refused None = refused
+and_refused refused (Some fault) = refused + 1
 
--- what one more line comes to; then what several do, one after another
-abbrev pub made_after : Making → List ℕ → Making
-made_after made line =
-    let effect = line_effect made.project line in
-    made_with made effect.project effect.answer
+-- one more line, which had this demand
+abbrev pub made_with : Made → Demand → Made
+made_with made (command commands.Settle) =
+    let book = newest_scene made.journal in
+    record made { receivers = length book.receivers; span = span_in book }
+made_with made demand = record made {
+  journal = journal_after made.journal demand;
+  refused = and_refused made.refused (refused_for made.journal demand);
+}
 
-abbrev pub made_by : List (List ℕ) → Making
+abbrev pub made_after : Made → List ℕ → Made
+made_after made line = made_with made (demand_of line)
+
+abbrev pub made_by : List (List ℕ) → Made
 made_by done = fold made_after nothing_made done
+
+-- ---- the same as a run holds it, with the version in place of the edits
+
+abbrev pub making_of : Made → Making
+making_of made = record {
+  version = length made.journal;
+  refused = made.refused;
+  receivers = made.receivers;
+  span = made.span;
+}
+
+-- the levels so far and those of one more row that is current
+abbrev pub span_with : Option Interval → Shown → Option Interval
+span_with span (Current levels) = widened span levels.total
+span_with span shown = span
+
+-- those of all rows that are current, and 0 dB where there is none
+unfoldable pub span_of_rows : List LookRow → Interval
+span_of_rows rows = unwrap_or (fold (λ span (row : LookRow). span_with span row.shown) None rows) no_level
+
+-- what one more answer adds
+abbrev pub made_with_answer : Making → Answer → Making
+made_with_answer making Nothing = making
+made_with_answer making (Edited version) = record making { version = version }
+made_with_answer making (Refused fault) = record making { refused = making.refused + 1 }
+made_with_answer making (Settled look) = record making { receivers = length look.rows; span = span_of_rows look.rows }
+made_with_answer making (Looked look) = making
+
+-- a line was done at the board and its answer added, or it lacked memory
+abbrev pub AddsLine : {X E : Type 0} → Result X E → BoardSeat → Making → List ℕ → BoardSeat → Making → Type 0
+AddsLine (Ok done) before making line after next =
+    (answer : Answer) × HasMet before (demand_of line) answer after × (next ≡ made_with_answer making answer)
+AddsLine (Err want) before making line after next = HasFailed before (demand_of line) after
+
+-- The row that tells it: the last version, the number of the site, how many lines were refused, and of the last settle
+-- how many receivers there are and their levels
+abbrev pub row_of_making : ℕ → Making → List ℕ
+row_of_making number making =
+    made_row making.version making.receivers number making.refused
+    (unwrap_or making.span.lo (pos 0)) (unwrap_or making.span.hi (pos 0))
 
 -- ---- sites
 
@@ -67,31 +127,31 @@ made_by done = fold made_after nothing_made done
 abbrev pub site_lines : ℕ → List (List ℕ)
 site_lines number = lines (site_text number)
 
-abbrev pub site_made : ℕ → Making
+abbrev pub site_made : ℕ → Made
 site_made number = made_by (site_lines number)
 
--- The row that tells it: the last version, how many receivers there are, the number of the site, how many lines were
--- refused, and the levels of the last settle
-abbrev pub row_of_made : ℕ → Making → List ℕ
-row_of_made number made =
-    made_row made.project.version (length made.project.scene.receivers) number made.refused
-    (unwrap_or made.span.lo (pos 0)) (unwrap_or made.span.hi (pos 0))
-
+-- the row that tells it
 abbrev pub site_row : ℕ → List ℕ
-site_row number = row_of_made number (site_made number)
+site_row number = row_of_making number (making_of (site_made number))
 
 -- ---- runs
 
 -- A run over the site of this number, by its status: how many of its lines were done, and what the sink has taken.
-abbrev pub Makes : ℕ → Status → ℕ → Option (List ℕ) → Option (List ℕ) → Type 0
-Makes number status.Done count before after =
+abbrev pub MakesRow : ℕ → Status → ℕ → Option (List ℕ) → Option (List ℕ) → Type 0
+MakesRow number status.Done count before after =
     (count ≡ length (site_lines number)) × ((site_made number).refused ≡ 0) × Appends before after (site_row number)
-Makes number status.SomeRefused count before after =
+MakesRow number status.SomeRefused count before after =
     (count ≡ length (site_lines number)) × (0 < (site_made number).refused)
     × Appends before after (site_row number)
-Makes number status.Usage count before after = ⊥
-Makes number status.ReadFault count before after = ⊥
-Makes number status.WriteFault count before after =
+MakesRow number status.Usage count before after = ⊥
+MakesRow number status.ReadFault count before after = ⊥
+MakesRow number status.WriteFault count before after =
     (count ≡ length (site_lines number)) × TakesFront before after (site_row number)
-Makes number status.NoMemory count before after = (count ≤ length (site_lines number)) × (after ≡ before)
-Makes number status.InputLimit count before after = ⊥
+MakesRow number status.NoMemory count before after = (count ≤ length (site_lines number)) × (after ≡ before)
+MakesRow number status.InputLimit count before after = ⊥
+
+-- and the history of its board, over the lines that were done
+pub record Makes (number workers : ℕ) (status : Status) (count : ℕ) (seat : Option BoardSeat)
+    (before after : Option (List ℕ)) : Type 0 where
+  pub writes : MakesRow number status count before after
+  pub history : HasHistory workers status (take count (site_lines number)) seat

@@ -5,16 +5,17 @@ use Rattle.std.specs.Io.KnownBytes.{Consumes, Appends, IsAtEnd}
 use Rattle.map_io.specs.Causes.{Rose}
 use Rattle.map_io.specs.Lines.{lines, whole_lines, all_but_last, ended}
 use Rattle.map_io.specs.Reading.{input_limit, read_size}
+use Rattle.command_words.specs.declared.line.CommandLine.{CommandLine}
+use Rattle.map_board.specs.declared.looks.LookAll.{LookAll}
+use Rattle.map_lock.specs.Seats.{BoardSeat}
 use Rattle.noise_map.specs.declared.status.Status.{Status}
 use Rattle.noise_map.specs.declared.status.Status.TheVariants.{Done, SomeRefused, Usage}
 use Rattle.noise_map.specs.declared.status.Status.TheVariants.{ReadFault, WriteFault, NoMemory, InputLimit}
-use Rattle.command_words.specs.declared.line.CommandLine.{CommandLine}
+use Rattle.noise_map.specs.Demands.{point_after}
+use Rattle.noise_map.specs.Texts.{text_of}
+use Rattle.noise_map.specs.Ways.{looks_in}
+use Rattle.noise_map.specs.Histories.{HasHistory}
 use Rattle.noise_map.specs.Making.{Makes}
-use Rattle.noise_map.specs.Run.{Course, empty_project, lines_course}
-
--- what these lines do, from an empty scene on, where the rows of bands are asked for or not
-abbrev pub run_of : Bool → List (List ℕ) → Course
-run_of bands done = lines_course bands 1 empty_project done
 
 -- the input was read to its end, and these are all its lines
 pub record CoversAll (before after : Option (List ℕ)) (done : List (List ℕ)) : Type 0 where
@@ -62,23 +63,24 @@ Covers NoMemory before after done = CoversFront before after done
 Covers InputLimit before after done = CoversLimit before after done
 
 -- The sink has taken a part of the text of these lines, which holds the whole text of all but the last.
-pub record TakesPartOf (bands : Bool) (before after : Option (List ℕ)) (done : List (List ℕ)) : Type 0 where
+pub record TakesPartOf (words : CommandLine) (looks : List LookAll) (before after : Option (List ℕ))
+    (done : List (List ℕ)) : Type 0 where
   pub part : List ℕ
   pub rest : List ℕ
-  pub front : (run_of bands done).text ≡ part ++ rest
+  pub front : text_of words looks done ≡ part ++ rest
   pub last : List ℕ
-  pub others : part ≡ (run_of bands (all_but_last done)).text ++ last
+  pub others : part ≡ text_of words looks (all_but_last done) ++ last
   pub taken : Appends before after part
 
--- what the sink has taken
-abbrev pub Writes : Bool → Status → Option (List ℕ) → Option (List ℕ) → List (List ℕ) → Type 0
-Writes bands Done before after done = Appends before after (run_of bands done).text
-Writes bands SomeRefused before after done = Appends before after (run_of bands done).text
-Writes bands Usage before after done = ⊥
-Writes bands ReadFault before after done = Appends before after (run_of bands done).text
-Writes bands WriteFault before after done = TakesPartOf bands before after done
-Writes bands NoMemory before after done = TakesPartOf bands before after done
-Writes bands InputLimit before after done = Appends before after (run_of bands done).text
+-- what the sink has taken, where settles and looks were answered by these looks
+abbrev pub Writes : CommandLine → List LookAll → Status → Option (List ℕ) → Option (List ℕ) → List (List ℕ) → Type 0
+Writes words looks Done before after done = Appends before after (text_of words looks done)
+Writes words looks SomeRefused before after done = Appends before after (text_of words looks done)
+Writes words looks Usage before after done = ⊥
+Writes words looks ReadFault before after done = Appends before after (text_of words looks done)
+Writes words looks WriteFault before after done = TakesPartOf words looks before after done
+Writes words looks NoMemory before after done = TakesPartOf words looks before after done
+Writes words looks InputLimit before after done = Appends before after (text_of words looks done)
 
 -- whether a line was refused, where the status tells it
 abbrev pub TellsRefused : Status → Bool → Type 0
@@ -90,27 +92,33 @@ TellsRefused WriteFault refused = Unit {0}
 TellsRefused NoMemory refused = Unit {0}
 TellsRefused InputLimit refused = Unit {0}
 
--- A run over an input: it did some lines of it, and wrote their rows.
-pub record Outcome (bands : Bool) (status : Status) (count : ℕ)
+-- the looks that a run's editor was answered
+abbrev pub looks_of : Option BoardSeat → List LookAll
+looks_of None = []
+looks_of (Some seat) = looks_in seat.mine
+
+-- A run over an input: it did some lines of it, wrote their rows, and hands out the whole history of its board.
+pub record Outcome (words : CommandLine) (status : Status) (count : ℕ) (seat : Option BoardSeat)
     (left_before left_after taken_before taken_after : Option (List ℕ)) : Type 0 where
   pub done : List (List ℕ)
   pub counted : length done ≡ count
   pub covers : Covers status left_before left_after done
-  pub refused : TellsRefused status (run_of bands done).refused
-  pub writes : Writes bands status taken_before taken_after done
+  pub refused : TellsRefused status (point_after done).refused
+  pub writes : Writes words (looks_of seat) status taken_before taken_after done
+  pub history : HasHistory words.workers status done seat
 
 -- A run over the words of a command line: over the input, or over a generated site where one is asked for
-abbrev pub OutcomeOf : Option ℕ → Bool → Status → ℕ → Option (List ℕ) → Option (List ℕ) → Option (List ℕ)
-    → Option (List ℕ) → Type 0
-OutcomeOf None bands status count left_before left_after taken_before taken_after =
-    Outcome bands status count left_before left_after taken_before taken_after
-OutcomeOf (Some number) bands status count left_before left_after taken_before taken_after =
-    Makes number status count taken_before taken_after
+abbrev pub OutcomeOf : Option ℕ → CommandLine → Status → ℕ → Option BoardSeat → Option (List ℕ) → Option (List ℕ)
+    → Option (List ℕ) → Option (List ℕ) → Type 0
+OutcomeOf None words status count seat left_before left_after taken_before taken_after =
+    Outcome words status count seat left_before left_after taken_before taken_after
+OutcomeOf (Some number) words status count seat left_before left_after taken_before taken_after =
+    Makes number words.workers status count seat taken_before taken_after
 
-abbrev pub RunOutcome : CommandLine → Status → ℕ → Option (List ℕ) → Option (List ℕ) → Option (List ℕ)
-    → Option (List ℕ) → Type 0
-RunOutcome asked status count left_before left_after taken_before taken_after =
-    OutcomeOf asked.make asked.bands status count left_before left_after taken_before taken_after
+abbrev pub RunOutcome : CommandLine → Status → ℕ → Option BoardSeat → Option (List ℕ) → Option (List ℕ)
+    → Option (List ℕ) → Option (List ℕ) → Type 0
+RunOutcome words status count seat left_before left_after taken_before taken_after =
+    OutcomeOf words.make words status count seat left_before left_after taken_before taken_after
 
 -- This fault is the status only where its count rose in this run, and with every other status the count is as before.
 pub record TellsFault (fault status : Status) (before after : ℕ) : Type 0 where

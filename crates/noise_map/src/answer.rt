@@ -1,20 +1,23 @@
 //! What a line has done.
 ghost use Rattle.std.specs.Prelude.{◌≡◌};
-ghost use Rattle.noise_map.specs.Run.{is_refusal};
+ghost use Rattle.noise_map.specs.Steps.{is_refusal, newest_after};
 
+use map_board::LookAll;
 use map_text::Refusal;
 
 /// What is shown of a line that was done.
-#[derive(Debug, Drop)]
+#[derive(Drop)]
 pub enum Answer {
-    /// Nothing: it was blank, or an edit that was accepted.
+    /// Nothing: it was blank.
     Nothing,
-    /// The rows of a settle.
-    Settled,
+    /// Nothing: it was an edit that was accepted, and this is the version now.
+    Edited(u64),
     /// The row of its refusal.
     Refused(Refusal),
-    /// The row of a refusal, since it asks for what this program doesn't do yet.
-    NotBuilt,
+    /// The rows of a settle.
+    Settled(LookAll),
+    /// The rows of a look.
+    Looked(LookAll),
 }
 
 impl Answer {
@@ -22,6 +25,16 @@ impl Answer {
     pub fn is_refusal(&self) -> bool
         ensures { result ≡ is_refusal self.now }
     {
-        matches!(self, Answer::Refused(_) | Answer::NotBuilt)
+        matches!(self, Answer::Refused(_))
+    }
+
+    /// The version behind the line, where it was this before it.
+    pub fn newest(&self, before: u64) -> u64
+        ensures { result ≡ newest_after before self.now }
+    {
+        match self {
+            Answer::Edited(version) => *version,
+            _ => before,
+        }
     }
 }

@@ -2,15 +2,19 @@
 #![tactic(auto)]
 
 mod answer;
-mod heard;
+mod crew;
+mod lines;
 mod make;
 mod making;
-mod project;
 mod rows;
 mod run;
 mod status;
 mod step;
 mod stopped;
+#[cfg(test)]
+mod test_gate;
+#[cfg(test)]
+mod test_looks;
 #[cfg(test)]
 mod test_make;
 #[cfg(test)]
@@ -44,27 +48,26 @@ fn words_of(rt: &(impl Env + AllocGlobal)) -> Option<Vec<String>> {
     }
 }
 
-/// The run over the words of the command line, standard input and standard output.
-fn report_of(rt: &HostRuntime) -> Report {
-    let Some(words) = words_of(rt) else {
-        return Report {
-            status: Status::NoMemory,
-            lines: 0,
-        };
-    };
-    let mut input = StdSource::new(rt.reader());
-    let mut out = StdSink::new(io::writer(rt));
-    run::run(
-        rt.alloc(),
-        words.as_slice(),
-        &mut input,
-        &mut out,
-        &OpenGate,
-    )
+/// What a run answers whose words no memory was left for.
+fn without_words() -> Report {
+    Report {
+        status: Status::NoMemory,
+        lines: 0,
+        seat: None,
+    }
 }
 
+/// The run over the words of the command line, standard input and standard output.
 fn main(rt: HostRuntime) -> ExitCode {
-    let report = report_of(&rt);
+    let report = match words_of(&rt) {
+        Some(words) => {
+            let words = words.as_slice();
+            let mut input = StdSource::new(rt.reader());
+            let mut out = StdSink::new(io::writer(&rt));
+            run::run(&rt, rt.alloc(), words, &mut input, &mut out, &OpenGate)
+        }
+        None => without_words(),
+    };
     if let Some(fault) = report.status.fault() {
         let _ = eprintln!(rt; "noisemap: {fault}");
     }

@@ -1,16 +1,22 @@
 //! A generated site in place of an input.
-ghost use Rattle.std.specs.Prelude.{◌≡◌, ◌<◌, ◌==◌, position};
+ghost use Rattle.std.specs.Prelude.{◌≡◌, ◌<◌, ◌-◌, ◌^◌, ◌==◌, [], position};
 ghost use Rattle.std.specs.Option.{option_map};
+ghost use Rattle.path_calc.specs.Levels.{IsLevel};
+ghost use Rattle.map_lock.specs.Settling.{HasNotFinished};
 ghost use Rattle.noise_map.specs.FirstLine.{IsFirstLine};
-ghost use Rattle.noise_map.specs.Making.{Makes};
+ghost use Rattle.noise_map.specs.Making.{AddsLine};
 ghost use Rattle.noise_map.specs.Outcome.{TellsFault};
+ghost use Rattle.noise_map.specs.Progress.{HasEnded, HasFinished, SiteEnded};
 ghost use Rattle.noise_map.specs.Progress as progress;
 
 use crate::making::Making;
-use crate::status::{Report, Status};
-use map_io::{Sink, put_all};
+use crate::status::{Ending, Status};
+use crate::step::Shared;
+use map_io::{Gate, Sink, put_all};
+use map_lock::EditorSeat;
+use scene_parts::NoMemory;
 use site_maker::site;
-use std::alloc::Global;
+use std::sync::Wait;
 
 // Where the first line feed stands.
 fn line_feed(bytes: &[u8]) -> Option<usize>
@@ -32,44 +38,14 @@ fn first_line(bytes: &[u8]) -> Option<(&[u8], &[u8])>
     }
 }
 
-fn without_memory(lines: u64) -> Report
+fn without_memory(lines: u64) -> Ending
     ensures status { result.status ≡ Status.NoMemory }
     ensures lines { result.lines ≡ lines }
 {
-    Report {
+    Ending {
         status: Status::NoMemory,
         lines,
     }
-}
-
-/// A run over the lines of the generated site of this number, which writes the one row that tells what they come to.
-pub fn make<K: Sink>(alloc: Global, number: u32, out: &mut K) -> Report
-    ensures made { Makes number result.status result.lines (K.taken out.old) (K.taken out.new) }
-    ensures write_fault { TellsFault Status.WriteFault result.status (K.faults out.old) (K.faults out.new) }
-{
-    let Ok(text) = site(alloc, number) else {
-        return without_memory(0);
-    };
-    let Ok(mut making) = Making::empty(alloc) else {
-        return without_memory(0);
-    };
-    let mut lines = 0;
-    let mut rest = text.as_slice();
-    while let Some((line, after)) = first_line(rest) {
-        if making.line(alloc, line).is_err() {
-            return without_memory(lines);
-        }
-        lines += 1;
-        rest = after;
-    }
-    let Ok(row) = making.row(alloc, number) else {
-        return without_memory(lines);
-    };
-    let status = match put_all(out, row.as_slice()) {
-        Ok(()) => status_at_end(making.refused > 0),
-        Err(_) => Status::WriteFault,
-    };
-    Report { status, lines }
 }
 
 /// The status of a run that has come to its end.
@@ -81,4 +57,79 @@ fn status_at_end(refused: bool) -> Status
     } else {
         Status::Done
     }
+}
+
+/// Does one line of a site, and adds what it has done.
+fn make_line<R: Wait, G: Gate>(
+    shared: &Shared<R, G>,
+    editor: &mut EditorSeat,
+    line: &[u8],
+    making: &mut Making,
+) -> Result<(), NoMemory>
+    requires own { editor.old.table ≡ shared.now.lock.now }
+    requires unfinished { HasNotFinished editor.old.mine }
+    requires refused { making.old.refused < 2 ^ 64 - 1 }
+    requires level { IsLevel making.old.span }
+    ensures adds { AddsLine result editor.old making.old line.now editor.new making.new }
+    ensures level { IsLevel making.new.span }
+{
+    let answer = shared.any_line(editor, line)?;
+    making.add(&answer);
+    Ok(())
+}
+
+/// Does the lines of the generated site of this number, and writes the one row that tells what they come to.
+fn do_site<R: Wait, G: Gate, K: Sink>(
+    shared: &Shared<R, G>,
+    number: u32,
+    editor: &mut EditorSeat,
+    out: &mut K,
+) -> Ending
+    requires own { editor.old.table ≡ shared.now.lock.now }
+    requires nothing { editor.old.mine ≡ [] }
+    ensures ended { SiteEnded number result.status result.lines
+        (λ done. HasEnded result.status done editor.old editor.new)
+        (K.taken out.old) (K.taken out.new) }
+    ensures write_fault { TellsFault Status.WriteFault result.status (K.faults out.old) (K.faults out.new) }
+{
+    let Ok(text) = site(shared.alloc, number) else {
+        return without_memory(0);
+    };
+    let mut making = Making::empty();
+    let mut lines = 0;
+    let mut rest = text.as_slice();
+    while let Some((line, after)) = first_line(rest) {
+        lines += 1;
+        let Ok(()) = make_line(shared, editor, line, &mut making) else {
+            return without_memory(lines);
+        };
+        rest = after;
+    }
+    let Ok(row) = making.row(shared.alloc, number) else {
+        return without_memory(lines);
+    };
+    let status = match put_all(out, row.as_slice()) {
+        Ok(()) => status_at_end(making.refused > 0),
+        Err(_) => Status::WriteFault,
+    };
+    Ending { status, lines }
+}
+
+/// All that the editor does: the lines of the site of this number and their row, and then it finishes the board.
+pub fn edit_site<R: Wait, G: Gate, K: Sink>(
+    shared: &Shared<R, G>,
+    number: u32,
+    editor: &mut EditorSeat,
+    out: &mut K,
+) -> Ending
+    requires own { editor.old.table ≡ shared.now.lock.now }
+    requires nothing { editor.old.mine ≡ [] }
+    ensures finished { SiteEnded number result.status result.lines
+        (λ done. HasFinished result.status done editor.old editor.new)
+        (K.taken out.old) (K.taken out.new) }
+    ensures write_fault { TellsFault Status.WriteFault result.status (K.faults out.old) (K.faults out.new) }
+{
+    let ending = do_site(shared, number, editor, out);
+    shared.lock.finish(shared.rt, editor);
+    ending
 }

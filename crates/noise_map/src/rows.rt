@@ -1,61 +1,33 @@
 //! The rows of a line on their way to the sink.
-ghost use Rattle.std.specs.Prelude.{◌≡◌, flat_map, length};
-ghost use Rattle.noise_map.specs.Taking.{Takes, CausedByWriteFault, IsOfSameLine};
-ghost use Rattle.std.specs.Prelude.{IfOk, string_bytes};
-ghost use Rattle.map_text.specs.Rows.{head_row, current_row, refused_row};
-ghost use Rattle.map_text.specs.declared.heads.Head.TheVariants as heads;
-ghost use Rattle.noise_map.specs.Run.{row_of_band, band_rows, level_rows, receiver_rows, settle_rows, unbuilt_row};
+ghost use Rattle.std.specs.Prelude.{◌≡◌, ◌++◌, ◌≤◌, flat_map, length, map, slice_index};
+ghost use Rattle.scene_book.specs.Limits.{most_receivers};
+ghost use Rattle.map_text.specs.Rows.{head_row, refused_row, counts_row};
+ghost use Rattle.map_text.specs.Looks.{receiver_rows};
+ghost use Rattle.noise_map.specs.Texts.{joined, row_of_look, look_rows, counts_rows};
+ghost use Rattle.noise_map.specs.Taking.{Takes, CausedByWriteFault};
+ghost use Rattle.noise_map.specs.Rows.{IsSameSink};
 
-use crate::heard::PreparedScene;
 use crate::stopped::Stopped;
+use map_board::{LookAll, LookRow};
 use map_io::{Sink, put_all};
-use map_text::{Head, Refusal, band_text, current_text, head_text, refused_text};
-use path_calc::{Band, Levels};
-use scene_book::Scene;
-use scene_parts::{Name, NoMemory, Receiver};
+use map_text::{Head, Refusal, RowText, counts_text, head_text, refused_text, row_text};
 use std::alloc::Global;
 
-/// The row of a line that asks for what this program doesn't do yet, by the line's number from 1 and the version then.
-#[tactic(auto, unfolding(crate::specs::Run::unbuilt_row))]
-fn unbuilt_text(alloc: Global, version: u64, line: u64) -> Result<String, NoMemory>
-    ensures { IfOk result (λ text. string_bytes text ≡ unbuilt_row version line) }
+/// How many receivers a look shows.
+pub fn count_of(look: &LookAll) -> u32
+    requires { length look.now.rows ≤ most_receivers }
+    ensures { result ≡ length look.now.rows }
 {
-    Ok(format!(in alloc; "refused,{version},{line},NotBuilt,,,\n")?)
+    look.rows.items().len() as u32
 }
 
-/// The row of a receiver that is current.
-fn receiver_text(
-    alloc: Global,
-    version: u64,
-    name: &Name,
-    levels: &Levels,
-) -> Result<Vec<u8>, NoMemory>
-    ensures { IfOk result (λ text. text.items ≡ current_row version name.now levels.now.total) }
-{
-    current_text(alloc, version, name, levels.total)
-}
-
-/// The row of a band of a receiver.
-fn text_of_band(
-    alloc: Global,
-    version: u64,
-    name: &Name,
-    levels: &Levels,
-    band: Band,
-) -> Result<Vec<u8>, NoMemory>
-    ensures { IfOk result (λ text. text.items ≡ row_of_band version name.now levels.now band) }
-{
-    let level = levels.bands[band.place()];
-    band_text(alloc, version, name, band, level)
-}
-
-/// Where the rows of one line go, and what they show of it: the version and the line's number from 1.
+/// Where the rows of lines go, and whether those of bands and of counts are asked for.
 #[derive(Drop)]
 pub struct Rows<'a, K> {
     pub alloc: Global,
     pub out: &'a mut K,
-    pub version: u64,
-    pub number: u64,
+    pub bands: bool,
+    pub counts: bool,
 }
 
 impl<'a, K: Sink> Rows<'a, K> {
@@ -64,124 +36,111 @@ impl<'a, K: Sink> Rows<'a, K> {
         ensures taken { Takes result (K.taken self.old.out.now) (K.taken self.new.out.now)
             (row.now) }
         ensures cause { CausedByWriteFault result (K.faults self.old.out.now) (K.faults self.new.out.now) }
-        ensures same { IsOfSameLine self.old self.new }
+        ensures same { IsSameSink self.old self.new }
     {
         put_all(self.out, row)?;
         Ok(())
     }
 
-    /// Writes the row of the line's refusal.
-    pub fn refuse(&mut self, fault: &Refusal) -> Result<(), Stopped>
+    /// Writes the row of a refused line, by its number from 1 and the version then.
+    pub fn refuse(&mut self, version: u64, number: u64, fault: &Refusal) -> Result<(), Stopped>
         ensures taken { Takes result (K.taken self.old.out.now) (K.taken self.new.out.now)
-            (refused_row self.old.version self.old.number fault.now) }
+            (refused_row version number fault.now) }
         ensures cause { CausedByWriteFault result (K.faults self.old.out.now) (K.faults self.new.out.now) }
-        ensures same { IsOfSameLine self.old self.new }
+        ensures same { IsSameSink self.old self.new }
     {
-        let row = refused_text(self.alloc, self.version, self.number, fault)?;
+        let row = refused_text(self.alloc, version, number, fault)?;
         self.put(row.as_slice())
     }
 
-    /// Writes the row of a line that asks for what this program doesn't do yet.
-    pub fn refuse_unbuilt(&mut self) -> Result<(), Stopped>
+    /// Writes the rows of a look, and where the head is a settle's and counts are asked for, the row of counts.
+    pub fn settle(&mut self, look: &LookAll) -> Result<(), Stopped>
+        requires { length look.now.rows ≤ most_receivers }
         ensures taken { Takes result (K.taken self.old.out.now) (K.taken self.new.out.now)
-            (unbuilt_row self.old.version self.old.number) }
+            (look_rows Head.Settle self.old.bands look.now ++ counts_rows self.old.counts look.now) }
         ensures cause { CausedByWriteFault result (K.faults self.old.out.now) (K.faults self.new.out.now) }
-        ensures same { IsOfSameLine self.old self.new }
+        ensures same { IsSameSink self.old self.new }
     {
-        let row = unbuilt_text(self.alloc, self.version, self.number)?;
-        self.put(row.as_bytes())
+        self.look(Head::Settle, look)?;
+        self.counts_asked(look)
     }
 
-    /// Writes the rows of a settle, each as soon as it is there.
-    #[tactic(auto, unfolding(crate::specs::Run::settle_rows))]
-    pub fn settle(&mut self, bands: bool, scene: &Scene) -> Result<(), Stopped>
+    /// Writes the rows of a look under this head.
+    #[tactic(auto, unfolding(crate::specs::Texts::look_rows))]
+    pub fn look(&mut self, head: Head, look: &LookAll) -> Result<(), Stopped>
+        requires { length look.now.rows ≤ most_receivers }
         ensures taken { Takes result (K.taken self.old.out.now) (K.taken self.new.out.now)
-            (settle_rows bands self.old.version scene.now) }
+            (look_rows head self.old.bands look.now) }
         ensures cause { CausedByWriteFault result (K.faults self.old.out.now) (K.faults self.new.out.now) }
-        ensures same { IsOfSameLine self.old self.new }
+        ensures same { IsSameSink self.old self.new }
     {
-        let prepared = PreparedScene::of(self.alloc, scene)?;
-        self.head(scene)?;
-        self.receivers(bands, &prepared)
+        let count = count_of(look);
+        let row = head_text(self.alloc, head, look.version, count)?;
+        self.put(row.as_slice())?;
+        self.receivers(look.version, look.rows.items())
     }
 
-    fn head(&mut self, scene: &Scene) -> Result<(), Stopped>
+    fn receivers(&mut self, version: u64, rows: &[LookRow]) -> Result<(), Stopped>
         ensures taken { Takes result (K.taken self.old.out.now) (K.taken self.new.out.now)
-            (head_row heads.Settle self.old.version (length scene.now.receivers)) }
+            (flat_map (row_of_look self.old.bands version) rows.now) }
         ensures cause { CausedByWriteFault result (K.faults self.old.out.now) (K.faults self.new.out.now) }
-        ensures same { IsOfSameLine self.old self.new }
+        ensures same { IsSameSink self.old self.new }
     {
-        let count = scene.receivers().len() as u32;
-        let head = head_text(self.alloc, Head::Settle, self.version, count)?;
-        self.put(head.as_slice())
-    }
-
-    fn receivers(&mut self, bands: bool, prepared: &PreparedScene) -> Result<(), Stopped>
-        ensures taken { Takes result (K.taken self.old.out.now) (K.taken self.new.out.now)
-            (flat_map (receiver_rows bands self.old.version prepared.now.scene.now)
-            prepared.now.scene.now.receivers) }
-        ensures cause { CausedByWriteFault result (K.faults self.old.out.now) (K.faults self.new.out.now) }
-        ensures same { IsOfSameLine self.old self.new }
-    {
-        for receiver in prepared.scene.receivers() {
-            self.receiver(bands, prepared, receiver)?;
+        for row in rows {
+            self.receiver(version, row)?;
         }
         Ok(())
     }
 
-    /// Calculates the levels at a receiver, and writes their rows.
-    #[tactic(auto, unfolding(crate::specs::Run::receiver_rows))]
-    fn receiver(
-        &mut self,
-        bands: bool,
-        prepared: &PreparedScene,
-        receiver: &Receiver,
-    ) -> Result<(), Stopped>
-        ensures taken { Takes result (K.taken self.old.out.now) (K.taken self.new.out.now)
-            (receiver_rows bands self.old.version prepared.now.scene.now receiver.now) }
-        ensures cause { CausedByWriteFault result (K.faults self.old.out.now) (K.faults self.new.out.now) }
-        ensures same { IsOfSameLine self.old self.new }
-    {
-        let levels = prepared.levels_at(self.alloc, receiver)?;
-        self.levels(bands, &receiver.name, &levels)
-    }
-
     /// Writes the row of a receiver, and those of its bands where they are asked for.
-    fn levels(&mut self, bands: bool, name: &Name, levels: &Levels) -> Result<(), Stopped>
+    fn receiver(&mut self, version: u64, row: &LookRow) -> Result<(), Stopped>
         ensures taken { Takes result (K.taken self.old.out.now) (K.taken self.new.out.now)
-            (level_rows bands self.old.version name.now levels.now) }
+            (row_of_look self.old.bands version row.now) }
         ensures cause { CausedByWriteFault result (K.faults self.old.out.now) (K.faults self.new.out.now) }
-        ensures same { IsOfSameLine self.old self.new }
+        ensures same { IsSameSink self.old self.new }
     {
-        let row = receiver_text(self.alloc, self.version, name, levels)?;
-        self.put(row.as_slice())?;
-        self.bands_asked(bands, name, levels)
+        let texts = row_text(self.alloc, version, row, self.bands)?;
+        self.put_each(texts.items())
     }
 
-    fn bands_asked(&mut self, bands: bool, name: &Name, levels: &Levels) -> Result<(), Stopped>
+    fn put_each(&mut self, texts: &[RowText]) -> Result<(), Stopped>
         ensures taken { Takes result (K.taken self.old.out.now) (K.taken self.new.out.now)
-            (band_rows bands self.old.version name.now levels.now) }
+            (joined texts.now) }
         ensures cause { CausedByWriteFault result (K.faults self.old.out.now) (K.faults self.new.out.now) }
-        ensures same { IsOfSameLine self.old self.new }
+        ensures same { IsSameSink self.old self.new }
     {
-        if bands {
-            let all = Band::all();
-            self.bands(all.as_slice(), name, levels)
+        for text in texts {
+            self.put(text.items())?;
+        }
+        Ok(())
+    }
+
+    fn counts_asked(&mut self, look: &LookAll) -> Result<(), Stopped>
+        requires { length look.now.rows ≤ most_receivers }
+        ensures taken { Takes result (K.taken self.old.out.now) (K.taken self.new.out.now)
+            (counts_rows self.old.counts look.now) }
+        ensures cause { CausedByWriteFault result (K.faults self.old.out.now) (K.faults self.new.out.now) }
+        ensures same { IsSameSink self.old self.new }
+    {
+        if self.counts {
+            self.tally(look)
         } else {
             Ok(())
         }
     }
 
-    fn bands(&mut self, bands: &[Band], name: &Name, levels: &Levels) -> Result<(), Stopped>
+    /// Writes the row of counts of a settle.
+    fn tally(&mut self, look: &LookAll) -> Result<(), Stopped>
+        requires { length look.now.rows ≤ most_receivers }
         ensures taken { Takes result (K.taken self.old.out.now) (K.taken self.new.out.now)
-            (flat_map (row_of_band self.old.version name.now levels.now) bands.now) }
+            (counts_row look.now.version (length look.now.rows) (slice_index look.now.counts 0)
+            (slice_index look.now.counts 1) (slice_index look.now.counts 2) (slice_index look.now.counts 3)) }
         ensures cause { CausedByWriteFault result (K.faults self.old.out.now) (K.faults self.new.out.now) }
-        ensures same { IsOfSameLine self.old self.new }
+        ensures same { IsSameSink self.old self.new }
     {
-        for band in bands {
-            let row = text_of_band(self.alloc, self.version, name, levels, *band)?;
-            self.put(row.as_slice())?;
-        }
-        Ok(())
+        let count = count_of(look);
+        let [taken, kept, gone, back] = look.counts;
+        let row = counts_text(self.alloc, look.version, count, taken, kept, gone, back)?;
+        self.put(row.as_slice())
     }
 }

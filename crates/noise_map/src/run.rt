@@ -1,215 +1,243 @@
 //! The top call: all that the program does.
-ghost use Rattle.std.specs.Prelude.{◌≡◌, ◌≢◌, ◌↔◌, ◌-◌, ◌≤◌, ◌<◌, ◌^◌, ℕ, List, length, map, string_bytes, None, IfSome};
+ghost use Rattle.std.specs.Prelude.{◌≡◌, ◌≢◌, ◌≤◌, ◌<◌, ◌^◌, ◌⊎◌, [], length, All, map, string_bytes, Some, None, IsSome, IfSome};
+ghost use Rattle.std.specs.List.{AllZip};
 ghost use Rattle.map_io.specs.Causes.{Rose};
 ghost use Rattle.map_io.specs.Reading.{fresh};
-ghost use Rattle.std.specs.Prelude.{◌⊎◌, IsSome};
-ghost use Rattle.command_words.specs.Answers.{ReadsUnlessMemory};
-ghost use Rattle.noise_map.specs.Words.{asked_by};
-ghost use Rattle.noise_map.specs.Run.{empty_project, line_effect, line_course, rows_of};
-ghost use Rattle.noise_map.specs.Taking.{Takes, HasCourse, HasEffect, CausedByWriteFault};
-ghost use Rattle.noise_map.specs.Progress.{ending_of, status_of, IsLineOf, IsTextOf};
+ghost use Rattle.command_words.specs.Words.{command_line_of};
+ghost use Rattle.noise_map.specs.Crews.{IsFresh, IsBack};
+ghost use Rattle.noise_map.specs.Making.{Makes};
+ghost use Rattle.noise_map.specs.Progress.{HasFinished, Ended, SiteEnded};
 ghost use Rattle.noise_map.specs.Outcome.{Outcome, RunOutcome, TellsFault, RunsToTheEnd};
 
-use crate::answer::Answer;
-use crate::make::make;
-use crate::project::Project;
-use crate::rows::Rows;
-use crate::status::{Report, Status};
-use crate::step::{do_line, refuse_long};
-use crate::stopped::Stopped;
+use crate::crew::{Crew, join_all};
+use crate::lines::edit_lines;
+use crate::make::edit_site;
+use crate::status::{Ending, Report, Status};
+use crate::step::Shared;
 use command_words::{CommandLine, WordsFault, command_line};
-use map_io::{Gate, LineReader, Next, Sink, Source};
-use scene_parts::NoMemory;
+use map_io::{Gate, LineReader, Sink, Source};
+use map_lock::{EditorSeat, WorkerSeat};
+use receiver_workers::with_workers;
 use std::alloc::Global;
+use std::sync::Wait;
+use std::thread::Threads;
 
-/// The status with which an answer of the reader ends a run, if it is no line.
-fn ending(next: Next, refused: bool) -> Option<Status>
-    ensures { result ≡ ending_of next refused }
+/// What a run answers that could not be begun.
+fn not_begun(status: Status) -> Report
+    ensures { result ≡ record { status = status; lines = 0; seat = None } }
 {
-    match next {
-        Next::Line(_) | Next::LongLine => None,
-        Next::End if refused => Some(Status::SomeRefused),
-        Next::End => Some(Status::Done),
-        Next::ReadFault => Some(Status::ReadFault),
-        Next::InputLimit => Some(Status::InputLimit),
+    Report {
+        status,
+        lines: 0,
+        seat: None,
     }
 }
 
-fn status_when(stopped: Stopped) -> Status
-    ensures { result ≡ status_of stopped }
-{
-    match stopped {
-        Stopped::WriteFault => Status::WriteFault,
-        Stopped::NoMemory => Status::NoMemory,
-    }
-}
-
-/// Writes the rows of a line of this number, after which the scene is this one.
-fn show<K: Sink>(
-    alloc: Global,
-    bands: bool,
-    number: u64,
-    project: &Project,
-    answer: &Answer,
-    out: &mut K,
-) -> Result<(), Stopped>
-    ensures taken { Takes result (K.taken out.old) (K.taken out.new)
-        (rows_of bands number project.now answer.now) }
-    ensures cause { CausedByWriteFault result (K.faults out.old) (K.faults out.new) }
-{
-    let mut rows = Rows {
-        alloc,
-        out,
-        version: project.version,
-        number,
-    };
-    match answer {
-        Answer::Nothing => Ok(()),
-        Answer::Settled => rows.settle(bands, &project.scene),
-        Answer::Refused(fault) => rows.refuse(fault),
-        Answer::NotBuilt => rows.refuse_unbuilt(),
-    }
-}
-
-/// Does the line that the reader has handed out, or refuses the long one that it has passed over.
-fn do_next(
-    alloc: Global,
-    project: &mut Project,
-    next: Next,
-    line: &[u8],
-) -> Result<Answer, NoMemory>
-    requires version { project.old.version < 2 ^ 64 - 1 }
-    requires line { IsLineOf next line.now }
-    ensures { (text : List ℕ) → IsTextOf next line.now text
-        → HasEffect result (line_effect project.old text) project.old project.new }
-{
-    if matches!(next, Next::LongLine) {
-        Ok(refuse_long())
-    } else {
-        do_line(alloc, project, line)
-    }
-}
-
-/// Does that line, writes its rows, and answers whether it was refused.
-fn do_and_show<K: Sink>(
-    alloc: Global,
-    bands: bool,
-    project: &mut Project,
-    number: u64,
-    next: Next,
-    line: &[u8],
-    out: &mut K,
-) -> Result<bool, Stopped>
-    requires version { project.old.version < 2 ^ 64 - 1 }
-    requires line { IsLineOf next line.now }
-    ensures done { (text : List ℕ) → IsTextOf next line.now text
-        → HasCourse result (line_course bands number project.old text)
-        project.new (K.taken out.old) (K.taken out.new) }
-    ensures cause { CausedByWriteFault result (K.faults out.old) (K.faults out.new) }
-{
-    let answer = do_next(alloc, project, next, line)?;
-    show(alloc, bands, number, project, &answer, out)?;
-    Ok(answer.is_refusal())
-}
-
-/// Reads line after line and does each, until the input ends or something stops it.
-fn do_lines<S: Source, K: Sink>(
-    alloc: Global,
-    bands: bool,
+/// The editor does the lines of the input and finishes the board, beside the workers.
+fn lines_beside<R: Threads + Wait + Sync, G: Gate + Sync, S: Source + Send, K: Sink + Send>(
+    shared: &Shared<R, G>,
+    words: CommandLine,
+    workers: &mut [WorkerSeat],
     reader: &mut LineReader,
-    project: &mut Project,
+    editor: &mut EditorSeat,
     input: &mut S,
     out: &mut K,
-) -> Report
+) -> Ending
+    requires own { editor.old.table ≡ shared.now.lock.now }
+    requires theirs { All (IsFresh shared.now.lock.now) workers.old }
+    requires few { length workers.old < 2 ^ 32 }
     requires reader { reader.old ≡ fresh }
-    requires project { project.old ≡ empty_project }
-    ensures outcome { Outcome bands result.status result.lines
+    requires nothing { editor.old.mine ≡ [] }
+    ensures finished { Ended words result.status result.lines
+        (λ done. HasFinished result.status done editor.old editor.new) editor.new
         (S.left input.old) (S.left input.new) (K.taken out.old) (K.taken out.new) }
     ensures read_fault { TellsFault Status.ReadFault result.status (S.faults input.old) (S.faults input.new) }
     ensures write_fault { TellsFault Status.WriteFault result.status (K.faults out.old) (K.faults out.new) }
+    ensures back { All (IsBack shared.now.lock.now) workers.new }
 {
-    let mut lines = 0;
-    let mut refused = false;
-    loop {
-        let next = reader.next(input);
-        if let Some(status) = ending(next, refused) {
-            return Report { status, lines };
-        }
-        lines += 1;
-        match do_and_show(alloc, bands, project, lines, next, reader.line(), out) {
-            Ok(was_refused) => refused |= was_refused,
-            Err(stopped) => {
-                return Report {
-                    status: status_when(stopped),
-                    lines,
-                };
-            }
-        }
-    }
+    with_workers(
+        shared.rt,
+        shared.lock,
+        shared.gate,
+        workers,
+        &mut || -> Ending
+            requires { (editor.now.table ≡ shared.now.lock.now) × (reader.now ≡ fresh)
+                × (editor.now.mine ≡ []) }
+            ensures { Ended words result.status result.lines
+                (λ done. HasFinished result.status done editor.entry.now editor.exit.now) editor.exit.now
+                (S.left input.entry.now) (S.left input.exit.now) (K.taken out.entry.now) (K.taken out.exit.now)
+                × TellsFault Status.ReadFault result.status (S.faults input.entry.now) (S.faults input.exit.now)
+                × TellsFault Status.WriteFault result.status (K.faults out.entry.now) (K.faults out.exit.now) }
+        { edit_lines(shared, words, reader, editor, input, out) },
+    )
 }
 
-/// A run with an empty scene over all lines of the input.
-fn run_lines<S: Source, K: Sink>(alloc: Global, bands: bool, input: &mut S, out: &mut K) -> Report
-    ensures outcome { Outcome bands result.status result.lines
+/// A run with an empty board over all lines of the input.
+fn run_lines<R: Threads + Wait + Sync, S: Source + Send, K: Sink + Send, G: Gate + Sync>(
+    rt: &R,
+    alloc: Global,
+    words: CommandLine,
+    input: &mut S,
+    out: &mut K,
+    gate: &G,
+) -> Report
+    requires { words.workers ≤ 16 }
+    ensures outcome { Outcome words result.status result.lines result.seat
         (S.left input.old) (S.left input.new) (K.taken out.old) (K.taken out.new) }
     ensures read_fault { TellsFault Status.ReadFault result.status (S.faults input.old) (S.faults input.new) }
     ensures write_fault { TellsFault Status.WriteFault result.status (K.faults out.old) (K.faults out.new) }
 {
     let Ok(mut reader) = LineReader::new(alloc) else {
-        return Report {
-            status: Status::NoMemory,
-            lines: 0,
-        };
+        return not_begun(Status::NoMemory);
     };
-    let Ok(mut project) = Project::empty(alloc) else {
-        return Report {
-            status: Status::NoMemory,
-            lines: 0,
-        };
+    let Ok(crew) = Crew::gather(rt, alloc, words.workers) else {
+        return not_begun(Status::NoMemory);
     };
-    do_lines(alloc, bands, &mut reader, &mut project, input, out)
+    let Crew {
+        lock,
+        mut editor,
+        mut workers,
+    } = crew;
+    let shared = Shared {
+        rt,
+        alloc,
+        lock: &lock,
+        gate,
+    };
+    let ending = lines_beside(
+        &shared,
+        words,
+        workers.as_mut_slice(),
+        &mut reader,
+        &mut editor,
+        input,
+        out,
+    );
+    join_all(&lock, &mut editor, workers);
+    Report {
+        status: ending.status,
+        lines: ending.lines,
+        seat: Some(editor),
+    }
+}
+
+/// The editor does the lines of a generated site, writes the row that tells what they come to and finishes the board, beside
+/// the workers.
+fn site_beside<R: Threads + Wait + Sync, G: Gate + Sync, K: Sink + Send>(
+    shared: &Shared<R, G>,
+    number: u32,
+    workers: &mut [WorkerSeat],
+    editor: &mut EditorSeat,
+    out: &mut K,
+) -> Ending
+    requires own { editor.old.table ≡ shared.now.lock.now }
+    requires theirs { All (IsFresh shared.now.lock.now) workers.old }
+    requires few { length workers.old < 2 ^ 32 }
+    requires nothing { editor.old.mine ≡ [] }
+    ensures finished { SiteEnded number result.status result.lines
+        (λ done. HasFinished result.status done editor.old editor.new)
+        (K.taken out.old) (K.taken out.new) }
+    ensures write_fault { TellsFault Status.WriteFault result.status (K.faults out.old) (K.faults out.new) }
+    ensures back { All (IsBack shared.now.lock.now) workers.new }
+{
+    with_workers(
+        shared.rt,
+        shared.lock,
+        shared.gate,
+        workers,
+        &mut || -> Ending
+            requires { (editor.now.table ≡ shared.now.lock.now) × (editor.now.mine ≡ []) }
+            ensures { SiteEnded number result.status result.lines
+                (λ done. HasFinished result.status done editor.entry.now editor.exit.now)
+                (K.taken out.entry.now) (K.taken out.exit.now)
+                × TellsFault Status.WriteFault result.status (K.faults out.entry.now) (K.faults out.exit.now) }
+        { edit_site(shared, number, editor, out) },
+    )
+}
+
+/// A run with an empty board over the lines of the generated site of this number.
+fn make<R: Threads + Wait + Sync, K: Sink + Send, G: Gate + Sync>(
+    rt: &R,
+    alloc: Global,
+    count: u8,
+    number: u32,
+    out: &mut K,
+    gate: &G,
+) -> Report
+    requires { count ≤ 16 }
+    ensures outcome { Makes number count result.status result.lines result.seat
+        (K.taken out.old) (K.taken out.new) }
+    ensures write_fault { TellsFault Status.WriteFault result.status (K.faults out.old) (K.faults out.new) }
+{
+    let Ok(crew) = Crew::gather(rt, alloc, count) else {
+        return not_begun(Status::NoMemory);
+    };
+    let Crew {
+        lock,
+        mut editor,
+        mut workers,
+    } = crew;
+    let shared = Shared {
+        rt,
+        alloc,
+        lock: &lock,
+        gate,
+    };
+    let ending = site_beside(&shared, number, workers.as_mut_slice(), &mut editor, out);
+    join_all(&lock, &mut editor, workers);
+    Report {
+        status: ending.status,
+        lines: ending.lines,
+        seat: Some(editor),
+    }
 }
 
 /// What there is to do, and where: a run over the input, or over a generated site in its place.
-fn run_asked<S: Source, K: Sink>(
+fn run_asked<R: Threads + Wait + Sync, S: Source + Send, K: Sink + Send, G: Gate + Sync>(
+    rt: &R,
     alloc: Global,
-    asked: CommandLine,
+    words: CommandLine,
     input: &mut S,
     out: &mut K,
+    gate: &G,
 ) -> Report
-    ensures outcome { RunOutcome asked result.status result.lines
+    requires { words.workers ≤ 16 }
+    ensures outcome { RunOutcome words result.status result.lines result.seat
         (S.left input.old) (S.left input.new) (K.taken out.old) (K.taken out.new) }
     ensures read_fault { TellsFault Status.ReadFault result.status (S.faults input.old) (S.faults input.new) }
     ensures write_fault { TellsFault Status.WriteFault result.status (K.faults out.old) (K.faults out.new) }
-    ensures unread { IsSome asked.make → input.new ≡ input.old }
+    ensures unread { IsSome words.make → input.new ≡ input.old }
 {
-    match asked.make {
-        Some(number) => make(alloc, number, out),
-        None => run_lines(alloc, asked.bands, input, out),
+    match words.make {
+        Some(number) => make(rt, alloc, words.workers, number, out, gate),
+        None => run_lines(rt, alloc, words, input, out, gate),
     }
 }
 
 /// All that the program does: it reads the words of the command line, then line after line of the input, and writes the
-/// rows of each line before the next is read; or it does the lines of a generated site, and writes one row.
-pub fn run<S: Source + Send, K: Sink + Send, G: Gate + Sync>(
+/// rows of each line before the next is read; or it does the lines of a generated site, and writes one row. So many workers
+/// as the words ask for calculate beside it, from the start to the end.
+pub fn run<R: Threads + Wait + Sync, S: Source + Send, K: Sink + Send, G: Gate + Sync>(
+    rt: &R,
     alloc: Global,
     words: &[String],
     input: &mut S,
     out: &mut K,
-    _gate: &G,
+    gate: &G,
 ) -> Report
     // The words are no command line: nothing is read or written.
-    ensures usage { result.status ≡ Status.Usage → asked_by (map string_bytes words.now) ≡ None }
-    ensures no_command { asked_by (map string_bytes words.now) ≡ None
+    ensures usage { result.status ≡ Status.Usage → command_line_of (map string_bytes words.now) ≡ None }
+    ensures no_command { command_line_of (map string_bytes words.now) ≡ None
         → ((result.status ≡ Status.Usage) ⊎ (result.status ≡ Status.NoMemory))
-        × (input.new ≡ input.old) × (out.new ≡ out.old) × (result.lines ≡ 0) }
+        × (input.new ≡ input.old) × (out.new ≡ out.old) × (result.lines ≡ 0) × (result.seat ≡ None) }
 
-    // Else the lines done, by the status, and what the sink has taken of their text: with the rows of bands where they are
-    // asked for, or the one row of a generated site, for which nothing of the input is read.
-    ensures outcome { IfSome (asked_by (map string_bytes words.now)) (λ asked.
-        RunOutcome asked result.status result.lines
+    // Else the lines done, by the status, what the sink has taken of their text, and the history of the board: with the rows
+    // of bands and of counts where they are asked for, or the one row of a generated site, for which nothing of the input is
+    // read.
+    ensures outcome { IfSome (command_line_of (map string_bytes words.now)) (λ asked.
+        RunOutcome asked result.status result.lines result.seat
         (S.left input.old) (S.left input.new) (K.taken out.old) (K.taken out.new)) }
-    ensures unread { IfSome (asked_by (map string_bytes words.now)) (λ asked.
+    ensures unread { IfSome (command_line_of (map string_bytes words.now)) (λ asked.
         IsSome asked.make → input.new ≡ input.old) }
 
     // A fault is answered only where the source or the sink has failed in this call.
@@ -217,31 +245,13 @@ pub fn run<S: Source + Send, K: Sink + Send, G: Gate + Sync>(
     ensures write_fault { TellsFault Status.WriteFault result.status (K.faults out.old) (K.faults out.new) }
 
     // Without a fault the run comes to the end of an input within the limit, unless there is no memory.
-    ensures complete { asked_by (map string_bytes words.now) ≢ None
+    ensures complete { command_line_of (map string_bytes words.now) ≢ None
         → (Rose (S.faults input.old) (S.faults input.new) → ⊥) → (Rose (K.faults out.old) (K.faults out.new) → ⊥)
         → RunsToTheEnd result.status (S.left input.old) }
 {
-    match asked_in(alloc, words) {
-        Ok(asked) => run_asked(alloc, asked, input, out),
-        Err(WordsFault::Usage) => Report {
-            status: Status::Usage,
-            lines: 0,
-        },
-        Err(WordsFault::NoMemory) => Report {
-            status: Status::NoMemory,
-            lines: 0,
-        },
-    }
-}
-
-/// What the words ask for. The rows of counts aren't there yet.
-fn asked_in(alloc: Global, words: &[String]) -> Result<CommandLine, WordsFault>
-    ensures { ReadsUnlessMemory result (asked_by (map string_bytes words.now)) }
-{
-    let line = command_line(alloc, words)?;
-    if line.counts {
-        Err(WordsFault::Usage)
-    } else {
-        Ok(line)
+    match command_line(alloc, words) {
+        Ok(asked) => run_asked(rt, alloc, asked, input, out, gate),
+        Err(WordsFault::Usage) => not_begun(Status::Usage),
+        Err(WordsFault::NoMemory) => not_begun(Status::NoMemory),
     }
 }

@@ -2,6 +2,7 @@
 ghost use Rattle.std.specs.Prelude.{◌≡◌};
 ghost use Rattle.noise_map.specs.Status.{exit_code_of, fault_of};
 
+use map_lock::EditorSeat;
 use thiserror::Error;
 
 /// How a run ended.
@@ -69,12 +70,22 @@ pub enum Fault {
     Limit,
 }
 
-/// What a run answers.
+/// How the lines of a run ended.
 #[derive(Clone, Copy, Debug, PartialEq, Eq)]
+pub struct Ending {
+    pub status: Status,
+    /// How many lines were done, blank and refused ones among them.
+    pub lines: u64,
+}
+
+/// What a run answers.
+#[derive(Drop)]
 pub struct Report {
     /// How it ended.
     pub status: Status,
     /// How many lines were done, blank and refused ones among them: lines of the input that the reader handed out, or lines
     /// of a generated site; 0 with `Usage`.
     pub lines: u64,
+    /// The editor's seat, with the whole history of the board. There is none where nothing was begun.
+    pub seat: Option<EditorSeat>,
 }

@@ -1,68 +1,45 @@
-//! One line after another: what each does to the scene, and what is shown of it.
-ghost use Rattle.std.specs.Prelude.{◌≡◌, ◌-◌, ◌<◌, ◌≤◌, ◌^◌, ℕ, List, length, Option, Result, Err};
-ghost use Rattle.noise_map.specs.declared.project.Project.{Project};
+//! One line after another: what each does at the board.
+ghost use Rattle.std.specs.Prelude.{◌≡◌, ◌≤◌, ◌<◌, ℕ, List, length};
 ghost use Rattle.scene_parts.specs.Answers.{MatchesUnlessMemory};
-ghost use Rattle.scene_parts.specs.declared.parts.Part.{Part};
-ghost use Rattle.scene_book.specs.Book.{Book};
 ghost use Rattle.scene_book.specs.Applying as applying;
-ghost use Rattle.scene_book.specs.Applying.{apply_of};
 ghost use Rattle.command_lines.specs.declared.commands.Command.{Command as CommandSaid};
+ghost use Rattle.command_lines.specs.declared.commands.Command.TheVariants as commands;
 ghost use Rattle.command_lines.specs.Answers as answers;
 ghost use Rattle.command_lines.specs.Lines.{command_of};
 ghost use Rattle.map_io.specs.Reading.{line_limit};
-ghost use Rattle.noise_map.specs.Taking.{HasEffect};
-ghost use Rattle.noise_map.specs.Run.{apply_effect, edit_effect, command_effect, answer_effect, line_effect, is_blank, is_blank_byte};
+ghost use Rattle.map_lock.specs.Settling.{HasNotFinished};
+ghost use Rattle.map_lock.specs.Seats.{BoardSeat};
+ghost use Rattle.noise_map.specs.Demands.{command as asks, demand_read, demand_of, is_blank, is_blank_byte};
+ghost use Rattle.noise_map.specs.Rows.{ShowsFew};
+ghost use Rattle.noise_map.specs.Steps.{MeetsUnlessMemory, HasMet};
 
 use crate::answer::Answer;
-use crate::project::Project;
 use command_lines::{Command, LineFault, command};
+use map_board::laws::runs_show_right;
+use map_io::Gate;
+use map_lock::{EditorSeat, MapLock};
 use map_text::Refusal;
 use scene_book::{Edit, EditFault};
 use scene_parts::NoMemory;
 use std::alloc::Global;
+use std::sync::Wait;
+
+/// How many bytes a line has at most.
+const LONGEST: usize = 65_536;
+
+/// The board that lines act on, and what its calls need.
+#[derive(Drop)]
+pub struct Shared<'a, R, G> {
+    pub rt: &'a R,
+    pub alloc: Global,
+    pub lock: &'a MapLock,
+    pub gate: &'a G,
+}
 
 fn edit_lacks_memory(fault: &EditFault) -> bool
     ensures { result ≡ applying.lacks_memory fault.now }
 {
     matches!(fault, EditFault::NoMemory)
-}
-
-/// The refusal of an edit that the scene can't take, unless it had no memory for it.
-fn refuse_edit(fault: EditFault) -> Result<Answer, NoMemory>
-    ensures { (project : Project) (after : Book) (said : Result (Book × Option Part) EditFault)
-        → applying.Leaves after (Err fault) said → HasEffect result (apply_effect project said) project project }
-{
-    if edit_lacks_memory(&fault) {
-        return Err(NoMemory);
-    }
-    Ok(Answer::Refused(Refusal::Edit(fault)))
-}
-
-/// Applies an edit: where the scene takes it, this is the next version.
-#[tactic(auto, unfolding(crate::specs::Run::edit_effect))]
-fn apply(alloc: Global, project: &mut Project, edit: &Edit) -> Result<Answer, NoMemory>
-    requires { project.old.version < 2 ^ 64 - 1 }
-    ensures { HasEffect result (edit_effect project.old edit.now) project.old project.new }
-{
-    match project.scene.apply(alloc, edit) {
-        Ok(_) => {
-            project.version += 1;
-            Ok(Answer::Nothing)
-        }
-        Err(fault) => refuse_edit(fault),
-    }
-}
-
-#[tactic(auto, unfolding(crate::specs::Run::command_effect))]
-fn execute(alloc: Global, project: &mut Project, command: &Command) -> Result<Answer, NoMemory>
-    requires { project.old.version < 2 ^ 64 - 1 }
-    ensures { HasEffect result (command_effect project.old command.now) project.old project.new }
-{
-    match command {
-        Command::Edit(edit) => apply(alloc, project, edit),
-        Command::Settle => Ok(Answer::Settled),
-        Command::Look => Ok(Answer::NotBuilt),
-    }
 }
 
 fn is_blank_text(line: &[u8]) -> bool
@@ -83,47 +60,98 @@ fn line_lacks_memory(fault: &LineFault) -> bool
     matches!(fault, LineFault::NoMemory)
 }
 
-/// Refuses a line that says no command, unless there was no memory to read it.
-fn refuse_line(fault: LineFault) -> Result<Answer, NoMemory>
-    ensures { (project : Project) (said : Result CommandSaid LineFault)
-        → MatchesUnlessMemory answers.lacks_memory (Err fault) said → HasEffect result (answer_effect project said) project project }
-{
-    if line_lacks_memory(&fault) {
-        return Err(NoMemory);
+impl<'a, R: Wait, G: Gate> Shared<'a, R, G> {
+    /// Has an edit made: where the scene takes it, this is the next version.
+    fn edit(&self, editor: &mut EditorSeat, edit: Edit) -> Result<Answer, NoMemory>
+        requires { editor.old.table ≡ self.now.lock.now }
+        ensures { MeetsUnlessMemory editor.old (asks (commands.Edit edit)) result editor.new }
+    {
+        runs_show_right();
+        match self.lock.edit(self.rt, self.alloc, editor, edit) {
+            Ok(version) => Ok(Answer::Edited(version)),
+            Err(fault) if edit_lacks_memory(&fault) => Err(NoMemory),
+            Err(fault) => Ok(Answer::Refused(Refusal::Edit(fault))),
+        }
     }
-    Ok(Answer::Refused(Refusal::Line(fault)))
+
+    fn settle(&self, editor: &mut EditorSeat) -> Result<Answer, NoMemory>
+        requires own { editor.old.table ≡ self.now.lock.now }
+        requires unfinished { HasNotFinished editor.old.mine }
+        ensures { MeetsUnlessMemory editor.old (asks commands.Settle) result editor.new }
+    {
+        runs_show_right();
+        let look = self.lock.settle(self.rt, self.alloc, editor, self.gate)?;
+        Ok(Answer::Settled(look))
+    }
+
+    fn look(&self, editor: &mut EditorSeat) -> Result<Answer, NoMemory>
+        requires { editor.old.table ≡ self.now.lock.now }
+        ensures { MeetsUnlessMemory editor.old (asks commands.Look) result editor.new }
+    {
+        runs_show_right();
+        let look = self.lock.look_as_editor(self.rt, self.alloc, editor)?;
+        Ok(Answer::Looked(look))
+    }
+
+    fn execute(&self, editor: &mut EditorSeat, command: Command) -> Result<Answer, NoMemory>
+        requires own { editor.old.table ≡ self.now.lock.now }
+        requires unfinished { HasNotFinished editor.old.mine }
+        ensures { MeetsUnlessMemory editor.old (asks command) result editor.new }
+    {
+        match command {
+            Command::Edit(edit) => self.edit(editor, edit),
+            Command::Settle => self.settle(editor),
+            Command::Look => self.look(editor),
+        }
+    }
+
+    fn read_and_execute(&self, editor: &mut EditorSeat, line: &[u8]) -> Result<Answer, NoMemory>
+        requires own { editor.old.table ≡ self.now.lock.now }
+        requires unfinished { HasNotFinished editor.old.mine }
+        ensures { MeetsUnlessMemory editor.old (demand_read (command_of line.now)) result editor.new }
+    {
+        match command(self.alloc, line) {
+            Ok(command) => self.execute(editor, command),
+            Err(fault) if line_lacks_memory(&fault) => Err(NoMemory),
+            Err(fault) => Ok(Answer::Refused(Refusal::Line(fault))),
+        }
+    }
+
+    /// Does a line of at most 65,536 bytes.
+    #[tactic(auto, unfolding(crate::specs::Demands::demand_of))]
+    pub fn line(&self, editor: &mut EditorSeat, line: &[u8]) -> Result<Answer, NoMemory>
+        requires own { editor.old.table ≡ self.now.lock.now }
+        requires unfinished { HasNotFinished editor.old.mine }
+        requires length { length line.now ≤ line_limit }
+        ensures { MeetsUnlessMemory editor.old (demand_of line.now) result editor.new }
+    {
+        if is_blank_text(line) {
+            Ok(Answer::Nothing)
+        } else {
+            self.read_and_execute(editor, line)
+        }
+    }
+
+    /// Does a line of any length.
+    pub fn any_line(&self, editor: &mut EditorSeat, line: &[u8]) -> Result<Answer, NoMemory>
+        requires own { editor.old.table ≡ self.now.lock.now }
+        requires unfinished { HasNotFinished editor.old.mine }
+        ensures { MeetsUnlessMemory editor.old (demand_of line.now) result editor.new }
+    {
+        if line.len() > LONGEST {
+            Ok(refuse_long())
+        } else {
+            self.line(editor, line)
+        }
+    }
 }
 
-#[tactic(auto, unfolding(crate::specs::Run::answer_effect))]
-fn read_and_execute(alloc: Global, project: &mut Project, line: &[u8]) -> Result<Answer, NoMemory>
-    requires { project.old.version < 2 ^ 64 - 1 }
-    ensures { HasEffect result (answer_effect project.old (command_of line.now)) project.old project.new }
-{
-    match command(alloc, line) {
-        Ok(command) => execute(alloc, project, &command),
-        Err(fault) => refuse_line(fault),
-    }
-}
-
-/// Does a line of at most 65,536 bytes. Want of memory leaves the scene as it was.
-#[tactic(auto, unfolding(crate::specs::Run::line_effect))]
-pub fn do_line(alloc: Global, project: &mut Project, line: &[u8]) -> Result<Answer, NoMemory>
-    requires version { project.old.version < 2 ^ 64 - 1 }
-    requires length { length line.now ≤ line_limit }
-    ensures { HasEffect result (line_effect project.old line.now) project.old project.new }
-{
-    if is_blank_text(line) {
-        Ok(Answer::Nothing)
-    } else {
-        read_and_execute(alloc, project, line)
-    }
-}
-
-/// The refusal of a line of more than 65,536 bytes.
-#[tactic(auto, unfolding(crate::specs::Run::line_effect))]
+/// The refusal of a line of more than 65,536 bytes, for which nothing is asked of the board.
+#[tactic(auto, unfolding(crate::specs::Demands::demand_of))]
 pub fn refuse_long() -> Answer
-    ensures { (project : Project) (line : List ℕ) → line_limit < length line
-        → (result ≡ (line_effect project line).answer) × (project ≡ (line_effect project line).project) }
+    ensures met { (seat : BoardSeat) (line : List ℕ) → line_limit < length line
+        → HasMet seat (demand_of line) result seat }
+    ensures few { ShowsFew result }
 {
     Answer::Refused(Refusal::LongLine)
 }

@@ -3,7 +3,9 @@ use crate::status::Status;
 use crate::tests::written;
 use std::alloc::Global;
 use std::process::Abort;
+use std::sync::Wait;
 use std::test::Fail;
+use std::thread::Threads;
 
 /// A whole run: what it shows, whether the rows of bands are asked for, the input, and the rows and the status expected.
 pub(crate) type Run = (&'static str, bool, &'static str, &'static str, Status);
@@ -214,10 +216,10 @@ const RUNS: [Run; 35] = [
         Status::SomeRefused,
     ),
     (
-        "not built",
+        "a look, walls that let sound back, the weather, and names of other classes",
         false,
         "{\"do\":\"source\",\"name\":\"s\",\"kind\":\"industry\",\"x\":0,\"y\":0,\"h\":2000,\"lw\":[null,null,null,null,10000,null,null,null]}\n{\"do\":\"receiver\",\"name\":\"r\",\"x\":100000,\"y\":0,\"h\":2000}\n{\"do\":\"look\"}\n{\"do\":\"barrier\",\"name\":\"s\",\"points\":[[0,0],[1000,0]],\"h\":4000,\"density\":10,\"rho\":500}\n{\"do\":\"building\",\"name\":\"b\",\"points\":[[0,0],[1000,0],[1000,1000]],\"h\":4000,\"rho\":201}\n{\"do\":\"set\",\"c0\":1}\n{\"do\":\"set\",\"reach\":1,\"c0\":1}\n{\"do\":\"set\",\"c0\":0,\"reach\":100000}\n{\"do\":\"zone\",\"name\":\"s\",\"points\":[[-50000,-50000],[150000,-50000],[150000,50000],[-50000,50000]],\"g\":100}\n{\"do\":\"zone\",\"name\":\"z\",\"points\":[[-50000,-50000],[150000,-50000],[150000,50000],[-50000,50000]],\"g\":100}\n{\"do\":\"set\",\"g\":1}\n{\"do\":\"set\",\"g\":0}\n{\"do\":\"settle\"}\n",
-        "refused,2,3,NotBuilt,,,\nrefused,2,4,OtherClass,s,source,\nrefused,6,9,OtherClass,s,source,\nsettle,9,1,,,,\nrow,9,r,current,,35.42,35.43\n",
+        "look,2,1,,,,\nrow,2,r,new,,,\nrefused,2,4,OtherClass,s,source,\nrefused,6,9,OtherClass,s,source,\nsettle,9,1,,,,\nrow,9,r,current,,35.42,35.43\n",
         Status::SomeRefused,
     ),
     (
@@ -251,9 +253,13 @@ const RUNS: [Run; 35] = [
 ];
 
 /// Each of these runs writes its rows and ends with its status.
-pub(crate) fn write_their_rows(rt: &impl Abort, alloc: Global, runs: &[Run]) -> Result<(), Fail> {
+pub(crate) fn write_their_rows<R: Abort + Threads + Wait + Sync>(
+    rt: &R,
+    alloc: Global,
+    runs: &[Run],
+) -> Result<(), Fail> {
     for (name, bands, input, rows, status) in runs {
-        let (report, taken) = written(alloc, *bands, input.as_bytes(), 0, 0)?;
+        let (report, taken) = written(rt, alloc, *bands, input.as_bytes(), 0, 0)?;
         assert_eq!(rt; report.status, *status, "{name}");
         assert_eq!(rt; taken.as_slice(), rows.as_bytes(), "{name}");
     }

@@ -6,8 +6,10 @@ use crate::status::{Fault, Report, Status};
 use map_io::{Failed, FreeSink, FreeSource, MemSink, MemSource, OpenGate, Sink, Source};
 use std::alloc::Global;
 use std::process::Abort;
+use std::sync::Wait;
 use std::sync::atomic::{AtomicU64, Ordering};
 use std::test::Fail;
+use std::thread::Threads;
 
 const FAN: &str =
     r#"{"do":"source","name":"s","kind":"industry","x":0,"y":0,"h":2000,"lw":[null,null,null,null,10000,null,null,null]}"#;
@@ -19,7 +21,8 @@ const SETTLE: &str = r#"{"do":"settle"}"#;
 const SETTLED: &str = "settle,2,1,,,,\nrow,2,r,current,,51.62,51.64\n";
 
 // What a run over these bytes answers, and what its sink has taken.
-pub(crate) fn written(
+pub(crate) fn written<R: Threads + Wait + Sync>(
+    rt: &R,
     alloc: Global,
     bands: bool,
     input: &[u8],
@@ -33,7 +36,14 @@ pub(crate) fn written(
     let mut source = MemSource::new(input.to_vec(alloc)?, 10, vec![in alloc; read_fault]?);
     let mut sink = MemSink::new(vec![in alloc; write_fault]?);
     sink.reserve(alloc, 65_536)?;
-    let report = run(alloc, words.as_slice(), &mut source, &mut sink, &OpenGate);
+    let report = run(
+        rt,
+        alloc,
+        words.as_slice(),
+        &mut source,
+        &mut sink,
+        &OpenGate,
+    );
     Ok((report, sink.bytes().to_vec(alloc)?))
 }
 
@@ -43,11 +53,11 @@ fn lines_end_as_they_may(rt: HostRuntime) -> Result<(), Fail> {
     let unended = format!(in alloc; "{FAN}\n{HOUSE}\n{SETTLE}")?;
     let returns = format!(in alloc; "{FAN}\r\n{HOUSE}\r\n{SETTLE}\r\n")?;
     for input in [unended.as_bytes(), returns.as_bytes()] {
-        let (report, taken) = written(alloc, false, input, 0, 0)?;
+        let (report, taken) = written(&rt, alloc, false, input, 0, 0)?;
         assert_eq!(rt; (report.status, report.lines), (Status::Done, 3));
         assert_eq!(rt; taken.as_slice(), SETTLED.as_bytes());
     }
-    let (report, taken) = written(alloc, false, b"\xff\n{\"do\":\"settle\"}\n", 0, 0)?;
+    let (report, taken) = written(&rt, alloc, false, b"\xff\n{\"do\":\"settle\"}\n", 0, 0)?;
     assert_eq!(rt; report.status, Status::SomeRefused);
     assert_eq!(rt;
         taken.as_slice(),
@@ -79,7 +89,7 @@ fn long_lines_and_deep_nests_are_refused(rt: HostRuntime) -> Result<(), Fail> {
             input.push(b']')?;
         }
         input.extend_from_slice(b"}\n")?;
-        let (_, taken) = written(alloc, false, input.as_slice(), 0, 0)?;
+        let (_, taken) = written(&rt, alloc, false, input.as_slice(), 0, 0)?;
         assert_eq!(rt;
             taken.as_slice(),
             rows.as_bytes(),
@@ -93,11 +103,11 @@ fn long_lines_and_deep_nests_are_refused(rt: HostRuntime) -> Result<(), Fail> {
 fn faults_break_a_run_off(rt: HostRuntime) -> Result<(), Fail> {
     let alloc = rt.alloc();
     let input = format!(in alloc; "{FAN}\n{HOUSE}\n{SETTLE}\n")?;
-    let (report, taken) = written(alloc, false, input.as_bytes(), 3, 0)?;
+    let (report, taken) = written(&rt, alloc, false, input.as_bytes(), 3, 0)?;
     assert_eq!(rt; (report.status, report.lines), (Status::ReadFault, 0));
     assert!(rt; taken.is_empty());
     for (write, rows) in [(1, ""), (2, "settle,2,1,,,,\n"), (3, SETTLED)] {
-        let (report, taken) = written(alloc, false, input.as_bytes(), 0, write)?;
+        let (report, taken) = written(&rt, alloc, false, input.as_bytes(), 0, write)?;
         let status = if write == 3 {
             Status::Done
         } else {
@@ -166,7 +176,14 @@ fn rows_are_written_before_the_next_line_is_read(rt: HostRuntime) -> Result<(), 
         rows: &rows,
     };
     let mut sink = CountingSink { rows: &rows };
-    let report = run(alloc, words.as_slice(), &mut source, &mut sink, &OpenGate);
+    let report = run(
+        &rt,
+        alloc,
+        words.as_slice(),
+        &mut source,
+        &mut sink,
+        &OpenGate,
+    );
     assert_eq!(rt; (report.status, report.lines), (Status::Done, 3));
     assert_eq!(rt; rows.load(Ordering::SeqCst), 3);
     Ok(())
@@ -175,18 +192,14 @@ fn rows_are_written_before_the_next_line_is_read(rt: HostRuntime) -> Result<(), 
 #[test]
 fn the_4097th_receiver_is_refused(rt: HostRuntime) -> Result<(), Fail> {
     let alloc = rt.alloc();
-    let mut input = String::new(alloc);
-    for number in 0..4097 {
-        let line = format!(in alloc;
-            "{{\"do\":\"receiver\",\"name\":\"r{number}\",\"x\":0,\"y\":0,\"h\":1}}\n"
-        )?;
-        input.push_str(line.as_str())?;
-    }
-    let (report, taken) = written(alloc, false, input.as_bytes(), 0, 0)?;
+    let grid =
+        r#"{"do":"grid","name":"g","x":0,"y":0,"step":1000,"columns":64,"rows":64,"h":4000}"#;
+    let input = format!(in alloc; "{grid}\n{HOUSE}\n")?;
+    let (report, taken) = written(&rt, alloc, false, input.as_bytes(), 0, 0)?;
     assert_eq!(rt; report.status, Status::SomeRefused);
     assert_eq!(rt;
         taken.as_slice(),
-        b"refused,4096,4097,Full,receiver,4096,\n".as_slice()
+        b"refused,1,2,Full,receiver,4096,\n".as_slice()
     );
     Ok(())
 }
@@ -201,7 +214,7 @@ fn the_129th_source_is_refused(rt: HostRuntime) -> Result<(), Fail> {
         )?;
         input.push_str(line.as_str())?;
     }
-    let (report, taken) = written(alloc, false, input.as_bytes(), 0, 0)?;
+    let (report, taken) = written(&rt, alloc, false, input.as_bytes(), 0, 0)?;
     assert_eq!(rt; report.status, Status::SomeRefused);
     assert_eq!(rt;
         taken.as_slice(),
@@ -225,6 +238,7 @@ fn the_input_has_a_limit(rt: HostRuntime) -> Result<(), Fail> {
             input.push(b' ')?;
         }
         let report = run(
+            &rt,
             alloc,
             words.as_slice(),
             &mut FreeSource::new(input),
@@ -249,19 +263,26 @@ fn other_words_are_no_command_line(rt: HostRuntime) -> Result<(), Fail> {
         String::from_str(alloc, "--bands")?,
         String::from_str(alloc, "--bands")?,
     ]?;
-    // The rows of counts aren't there yet.
-    let counts = vec![in alloc;
+    let workers = vec![in alloc;
         String::from_str(alloc, "noisemap")?,
-        String::from_str(alloc, "--counts")?,
+        String::from_str(alloc, "--workers")?,
+        String::from_str(alloc, "17")?,
     ]?;
     for words in [
         none.as_slice(),
         two.as_slice(),
         twice.as_slice(),
-        counts.as_slice(),
+        workers.as_slice(),
     ] {
         let mut source = FreeSource::new(SETTLE.as_bytes().to_vec(alloc)?);
-        let report = run(alloc, words, &mut source, &mut FreeSink::new(), &OpenGate);
+        let report = run(
+            &rt,
+            alloc,
+            words,
+            &mut source,
+            &mut FreeSink::new(),
+            &OpenGate,
+        );
         assert_eq!(rt; (report.status, report.lines), (Status::Usage, 0));
     }
     Ok(())

@@ -1,14 +1,10 @@
 use Rattle.std.proofs.Common.{ap, ◌∙◌}
 use Rattle.fix_interval.specs.Interval.{Interval}
-use Rattle.noise_map.specs.declared.project.Project.{Project}
-use Rattle.noise_map.specs.Run.{empty_project}
 use Rattle.noise_map.proofs.Sites.{nothing-level, nothing-is_level}
 use Rattle.noise_map.proofs.making.Making.empty.Goals as goal
 
 pub returns-clause-made : goal.returns-clause-made
-returns-clause-made c =
-    ap (λ (p : Project). record { project = p; refused = 0; span = c.exact.result }) c.in_ok-empty.ensures
-    ∙ ap (λ (i : Interval). record { project = empty_project; refused = 0; span = i }) (c.exact.ensures ∙ nothing-level)
+returns-clause-made c = ap (λ (i : Interval). record { version = 0; refused = 0; receivers = 0; span = i }) (c.exact.ensures ∙ nothing-level)
 
 pub returns-clause-level : goal.returns-clause-level
 returns-clause-level c = rw (c.exact.ensures ∙ nothing-level) nothing-is_level

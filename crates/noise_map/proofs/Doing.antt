@@ -1,0 +1,176 @@
+-- A line was done behind others.
+use Rattle.std.proofs.Common.{◌≡◌, ℕ, ◌+◌, Bool, ◌||◌, List, [], ◌∷◌, ◌++◌, length, refl, sym, ap, ◌∙◌, subst, arith, inl, inr, append_assoc, length-append}
+use Rattle.std.specs.Prelude.{Option, slice_get}
+use Rattle.std.specs.Io.KnownBytes.{Appends}
+use Rattle.std.proofs.KnownBytes.{Appends-trans}
+use Rattle.std.proofs.lemmas.List.{append-nil}
+use Rattle.command_words.specs.declared.line.CommandLine.{CommandLine}
+use Rattle.map_io.specs.Lines.{all_but_last}
+use Rattle.turn_lock.proofs.Histories.{begins_self, begins_trans}
+use Rattle.scene_book.specs.declared.edits.Edit.{Edit}
+use Rattle.map_board.specs.declared.looks.LookAll.{LookAll}
+use Rattle.map_board.specs.Seats.{Entries}
+use Rattle.map_board.specs.Showing.{accepted_edits}
+use Rattle.map_lock.specs.Seats.{BoardSeat}
+use Rattle.noise_map.specs.declared.answer.Answer.{Answer}
+use Rattle.noise_map.specs.declared.stopped.Stopped.{Stopped}
+use Rattle.noise_map.specs.declared.stopped.Stopped.TheVariants as stops
+use Rattle.noise_map.specs.declared.status.Status.TheVariants as status
+use Rattle.noise_map.specs.Demands.{demand_of, looks_asked, journal_after, refused_for, is_refused, Point, at_start, point_after, journal_of}
+use Rattle.noise_map.specs.Texts.{answer_to, rows_of, line_text, text_of}
+use Rattle.noise_map.specs.Ways.{looks_in, Does, Way, and_line}
+use Rattle.noise_map.specs.Taking.{TakesFront}
+use Rattle.noise_map.specs.Steps.{HasGone, HasMet, HasFailed, is_refusal, newest_after}
+use Rattle.noise_map.specs.Progress.{IsSameSeat, Did, Told, HasEnded, status_of}
+use Rattle.noise_map.specs.Outcome.{TakesPartOf}
+use Rattle.noise_map.proofs.Ways.{looks_in-append, way-grown}
+use Rattle.noise_map.proofs.Demands.{point-push, text-push, text-more, get-behind, newest-is, refusal-is, count-is}
+
+pub same-gone : (before seat after : BoardSeat) (added : Entries) → IsSameSeat before seat → HasGone seat added after → IsSameSeat before after
+same-gone before seat after added same goes = record {
+  seen = begins_trans same.seen goes.seen;
+  table = goes.table ∙ same.table;
+  number = goes.number ∙ same.number;
+  parts = goes.parts ∙ same.parts;
+  joined = goes.joined ∙ same.joined;
+}
+
+pub same-self : (seat : BoardSeat) → IsSameSeat seat seat
+same-self seat = record { seen = begins_self seat.seen; table = refl; number = refl; parts = refl; joined = refl }
+
+-- the looks of a seat that went on
+pub looks-gone : (seat after : BoardSeat) (added : Entries) → HasGone seat added after → looks_in after.mine ≡ looks_in seat.mine ++ looks_in added
+looks-gone seat after added goes = ap looks_in goes.mine ∙ looks_in-append seat.mine added
+
+pub way-push : (seat after : BoardSeat) (done : List (List ℕ)) (line : List ℕ) (added : Entries) → Way seat.seen done seat.mine → accepted_edits seat.mine ≡ journal_of done → HasGone seat added after
+    → Does after.seen seat.mine (accepted_edits seat.mine) (demand_of line) added → Way after.seen (done ++ line ∷ []) after.mine
+way-push seat after done line added way journal goes does =
+    subst (Way after.seen (done ++ line ∷ [])) (sym goes.mine)
+    (and_line done line seat.mine added (way-grown seat.seen after.seen done seat.mine way goes.seen)
+    (subst (λ (es : List Edit). Does after.seen seat.mine es (demand_of line) added) journal does))
+
+module _ (before seat after : BoardSeat) (done : List (List ℕ)) (line : List ℕ) (answer : Answer) (did : Did before seat done) (met : HasMet seat (demand_of line) answer after) where
+  pub did-more : Did before after (done ++ line ∷ [])
+  did-more = record {
+    same = same-gone before seat after met.added did.same met.goes;
+    way = way-push seat after done line met.added did.way did.journal met.goes met.does;
+    journal = met.accepts ∙ (ap (λ (es : List Edit). journal_after es (demand_of line)) did.journal ∙ ap (λ (p : Point). p.journal) (sym (point-push done line)));
+    asked =
+        ap (λ (p : Point). p.asked) (point-push done line)
+        ∙ (ap (λ n. n + looks_asked (demand_of line)) did.asked
+        ∙ (ap (λ n. length (looks_in seat.mine) + n) (sym met.asked)
+        ∙ (sym (length-append (looks_in seat.mine) (looks_in met.added)) ∙ ap length (sym (looks-gone seat after met.added met.goes)))));
+    unfinished = met.goes.unfinished did.unfinished;
+  }
+
+  -- the rows of the line are its text
+  pub line-text-is : (words : CommandLine) (version : ℕ) → version ≡ length (journal_of done)
+      → line_text words (looks_in after.mine) (point_after done) line ≡ rows_of words (length done + 1) version answer
+  unfolding line_text
+  line-text-is words version is =
+      let looks = looks-gone seat after met.added met.goes in
+      let there : slice_get (looks_in after.mine) (point_after done).asked ≡ slice_get (looks_in met.added) 0 =
+      (λ i. slice_get (looks i) (did.asked i)) ∙ get-behind (looks_in seat.mine) (looks_in met.added) in
+      let said : answer_to (journal_of done) (slice_get (looks_in after.mine) (point_after done).asked) (demand_of line) ≡ answer =
+      (λ i. answer_to (sym did.journal i) (there i) (demand_of line)) ∙ sym met.answered in
+      λ i. rows_of words (count-is done i + 1) (sym is i) (said i)
+
+  text-before : (words : CommandLine) → text_of words (looks_in after.mine) done ≡ text_of words (looks_in seat.mine) done
+  text-before words =
+      ap (λ (ls : List LookAll). text_of words ls done) (looks-gone seat after met.added met.goes)
+      ∙ text-more words (looks_in seat.mine) (looks_in met.added) at_start done (omega (arith, did.asked))
+
+  -- the text with this line
+  pub text-then : (words : CommandLine) (version : ℕ) → version ≡ length (journal_of done)
+      → text_of words (looks_in after.mine) (done ++ line ∷ []) ≡ text_of words (looks_in seat.mine) done ++ rows_of words (length done + 1) version answer
+  text-then words version is =
+      let here = line-text-is words version is in
+      let front = text-before words in
+      text-push words (looks_in after.mine) at_start done line ∙ (λ i. front i ++ here i)
+
+  pub told-more : (words : CommandLine) (version : ℕ) (refused : Bool) (taken_before taken_now taken_after : Option (List ℕ)) → Told words version refused seat taken_before taken_now done
+      → Appends taken_now taken_after (rows_of words (length done + 1) version answer)
+      → Told words (newest_after version answer) (refused || is_refusal answer) after taken_before taken_after (done ++ line ∷ [])
+  told-more words version refused taken_before taken_now taken_after told wrote =
+      let journal = accepted_edits seat.mine in
+      let version_is : version ≡ length journal = told.version_is ∙ ap length (sym did.journal) in
+      let look = slice_get (looks_in met.added) 0 in
+      record {
+        version_is =
+            ap (newest_after version) met.answered
+            ∙ (newest-is journal look version (demand_of line) version_is
+            ∙ (ap (λ (es : List Edit). length (journal_after es (demand_of line))) did.journal ∙ ap (λ (p : Point). length p.journal) (sym (point-push done line))));
+        refused_is =
+            ap (λ (p : Point). p.refused) (point-push done line)
+            ∙ (λ i. told.refused_is i || (ap (λ (es : List Edit). is_refused (refused_for es (demand_of line))) (sym did.journal)
+            ∙ (sym (refusal-is journal look (demand_of line)) ∙ ap is_refusal (sym met.answered))) i);
+        written =
+            subst (Appends taken_before taken_after) (sym (text-then words version told.version_is))
+            (Appends-trans taken_before taken_now taken_after (text_of words (looks_in seat.mine) done) (rows_of words (length done + 1) version answer) told.written wrote);
+      }
+
+pub all_but_last-push : (done : List (List ℕ)) (line : List ℕ) → all_but_last (done ++ line ∷ []) ≡ done
+all_but_last-push [] line = refl
+all_but_last-push (first ∷ []) line = refl
+all_but_last-push (first ∷ second ∷ more) line = ap (λ ls. first ∷ ls) (all_but_last-push (second ∷ more) line)
+
+-- ---- lines that were broken off
+
+-- the rows of the last line, or some of them
+pub broken-told : (words : CommandLine) (version : ℕ) (refused : Bool) (before seat after : BoardSeat) (taken_before taken_now taken_after : Option (List ℕ)) (done : List (List ℕ)) (line : List ℕ) (answer : Answer)
+    → Did before seat done → HasMet seat (demand_of line) answer after → Told words version refused seat taken_before taken_now done
+    → TakesFront taken_now taken_after (rows_of words (length done + 1) version answer)
+    → TakesPartOf words (looks_in after.mine) taken_before taken_after (done ++ line ∷ [])
+broken-told words version refused before seat after taken_before taken_now taken_after done line answer did met told takes =
+    let text = text_of words (looks_in seat.mine) done in
+    record {
+      part = text ++ takes.front;
+      rest = takes.rest;
+      front =
+          text-then before seat after done line answer did met words version told.version_is
+          ∙ (ap (λ t. text ++ t) takes.parts ∙ sym (append_assoc text takes.front takes.rest));
+      last = takes.front;
+      others =
+          ap (λ t. t ++ takes.front)
+          (sym (ap (text_of words (looks_in after.mine)) (all_but_last-push done line) ∙ text-before before seat after done line answer did met words));
+      taken = Appends-trans taken_before taken_now taken_after text takes.front told.written takes.taken;
+    }
+
+-- nothing of the last line
+pub failed-told : (words : CommandLine) (version : ℕ) (refused : Bool) (before seat after : BoardSeat) (taken_before taken_now taken_after : Option (List ℕ)) (done : List (List ℕ)) (line : List ℕ)
+    → HasFailed seat (demand_of line) after → Told words version refused seat taken_before taken_now done → Appends taken_now taken_after []
+    → TakesPartOf words (looks_in after.mine) taken_before taken_after (done ++ line ∷ [])
+failed-told words version refused before seat after taken_before taken_now taken_after done line failed told none =
+    let looks : looks_in after.mine ≡ looks_in seat.mine =
+    looks-gone seat after failed.added failed.goes ∙ (ap (λ (l : List LookAll). looks_in seat.mine ++ l) failed.unanswered ∙ append-nil (looks_in seat.mine)) in
+    let text = text_of words (looks_in seat.mine) done in
+    record {
+      part = text;
+      rest = line_text words (looks_in seat.mine) (point_after done) line;
+      front = ap (λ (ls : List LookAll). text_of words ls (done ++ line ∷ [])) looks ∙ text-push words (looks_in seat.mine) at_start done line;
+      last = [];
+      others =
+          (λ i. text_of words (sym looks i) (sym (all_but_last-push done line) i))
+          ∙ sym (append-nil (text_of words (looks_in after.mine) (all_but_last (done ++ line ∷ []))));
+      taken = subst (Appends taken_before taken_after) (append-nil text) (Appends-trans taken_before taken_now taken_after text [] told.written none);
+    }
+
+pub failed-way : (before seat after : BoardSeat) (done : List (List ℕ)) (line : List ℕ) → Did before seat done → HasFailed seat (demand_of line) after
+    → HasEnded status.NoMemory (done ++ line ∷ []) before after
+failed-way before seat after done line did failed = record {
+  same = same-gone before seat after failed.added did.same failed.goes;
+  way = inr (record {
+    before = done;
+    line = line;
+    whole = refl;
+    front = seat.mine;
+    added = failed.added;
+    way = way-grown seat.seen after.seen done seat.mine did.way failed.goes.seen;
+    fails = failed.fails;
+    own_is = failed.goes.mine;
+  });
+}
+
+pub stopped-way : (stopped : Stopped) (before seat : BoardSeat) (done : List (List ℕ)) → Did before seat done → HasEnded (status_of stopped) done before seat
+stopped-way stops.WriteFault before seat done did = record { same = did.same; way = did.way }
+stopped-way stops.NoMemory before seat done did = record { same = did.same; way = inl did.way }

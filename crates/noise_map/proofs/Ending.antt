@@ -1,0 +1,209 @@
+-- How a run over an input ends, and how its seats come together.
+use Rattle.std.proofs.Common.{◌≡◌, ℕ, ◌+◌, ◌≤◌, Bool, true, false, ◌||◌, List, [], ◌∷◌, ◌++◌, length, Some, None, refl, sym, ap, ◌∙◌, subst, inl, inr, append_assoc}
+use Rattle.std.specs.Prelude.{Option, Ok, Err}
+use Rattle.std.specs.Io.KnownBytes.{Appends}
+use Rattle.std.proofs.KnownBytes.{Appends-nil}
+use Rattle.std.proofs.lemmas.List.{append-nil}
+use Rattle.std.proofs.lemmas.List.Elements.{All-nil}
+use Rattle.command_words.specs.declared.line.CommandLine.{CommandLine}
+use Rattle.map_io.specs.declared.reader.Stop.TheVariants.{Going}
+use Rattle.map_io.specs.declared.reader.Next.{Next}
+use Rattle.map_io.specs.declared.reader.Next.TheVariants as next
+use Rattle.map_io.specs.Reading.{Reading, NextGives, fresh, bytes_read, input_limit, read_size}
+use Rattle.turn_lock.specs.History.{Begins, entry}
+use Rattle.turn_lock.proofs.Histories.{begins_trans}
+use Rattle.map_board.specs.declared.calls.BoardCall.TheVariants as calls
+use Rattle.map_board.specs.declared.calls.BoardReply.TheVariants as replies
+use Rattle.map_board.specs.declared.looks.LookAll.{LookAll}
+use Rattle.map_board.specs.Seats.{Entries, editor}
+use Rattle.map_lock.specs.Seats.{BoardSeat, BoardEntry, IsEditor}
+use Rattle.map_board.specs.Showing.{accepted_edits}
+use Rattle.map_lock.specs.Turns.{HasTurned}
+use Rattle.map_lock.specs.Settling.{HasNotFinished, is_finish}
+use Rattle.noise_map.specs.declared.lines.LineDone.{LineDone}
+use Rattle.noise_map.specs.declared.stopped.Stopped.{Stopped}
+use Rattle.noise_map.specs.declared.stopped.Stopped.TheVariants as stops
+use Rattle.noise_map.specs.declared.status.Status.{Status}
+use Rattle.noise_map.specs.Texts.{text_of, rows_of}
+use Rattle.noise_map.specs.Ways.{Way, begun, looks_in}
+use Rattle.noise_map.specs.Histories.{IsWay}
+use Rattle.noise_map.specs.Taking.{TakesFront}
+use Rattle.noise_map.specs.Steps.{is_refusal, newest_after}
+use Rattle.noise_map.specs.Progress.{Read, Did, Progress, HasWritten, HasEnded, HasFinished, Ended, IsTextOf, ending_of, status_at_end, status_of}
+use Rattle.noise_map.specs.Outcome.{Writes, TellsRefused, TakesPartOf}
+use Rattle.noise_map.proofs.Ways.{looks_in-append, looks_in-one, is_way-grown}
+use Rattle.noise_map.proofs.Doing.{same-self, did-more, told-more, broken-told, failed-told, failed-way, stopped-way}
+use Rattle.noise_map.proofs.Reading.{StaysStopped, started_as, read_ended, line_handed, read_more, text_held, covers_front}
+
+-- ---- the beginning
+
+did-none : (seat : BoardSeat) → seat.mine ≡ [] → Did seat seat []
+did-none seat none = record {
+  same = same-self seat;
+  way = subst (Way seat.seen []) (sym none) begun;
+  journal = ap accepted_edits none;
+  asked = ap (λ (es : Entries). length (looks_in es)) (sym none);
+  unfinished = subst HasNotFinished (sym none) (All-nil (λ (e : BoardEntry). is_finish e.call ≡ false));
+}
+
+pub started : (words : CommandLine) (r : Reading) (seat : BoardSeat) (left taken : Option (List ℕ)) → r ≡ fresh → seat.mine ≡ []
+    → Progress words r 0 0 false seat seat left left taken taken
+started words r seat left taken is none = record {
+  done = [];
+  read = started_as r left is;
+  did = did-none seat none;
+  told = record { version_is = refl; refused_is = refl; written = Appends-nil taken };
+}
+
+pub did-at-start : (seat : BoardSeat) → seat.mine ≡ [] → Did seat seat []
+did-at-start seat none = did-none seat none
+
+-- ---- the end
+
+some_injective : {X : Type 0} {x y : X} → Some x ≡ Some y → x ≡ y
+some_injective e = cc
+
+-- where the reader ended the run, all lines were done, and all their rows were written
+abbrev AsEnded : CommandLine → Status → BoardSeat → Option (List ℕ) → Option (List ℕ) → List (List ℕ) → Type 0
+AsEnded words s seat taken_before taken_now done = Writes words (looks_in seat.mine) s taken_before taken_now done × IsWay s seat.seen done seat.mine
+
+at_end : (words : CommandLine) (refused : Bool) (seat : BoardSeat) (taken_before taken_now : Option (List ℕ)) (done : List (List ℕ))
+    → Appends taken_before taken_now (text_of words (looks_in seat.mine) done) → Way seat.seen done seat.mine → AsEnded words (status_at_end refused) seat taken_before taken_now done
+at_end words true seat taken_before taken_now done written way = (written, way)
+at_end words false seat taken_before taken_now done written way = (written, way)
+
+as_ended : (words : CommandLine) (answer : Next) (refused : Bool) (s : Status) (seat : BoardSeat) (taken_before taken_now : Option (List ℕ)) (done : List (List ℕ)) → ending_of answer refused ≡ Some s
+    → Appends taken_before taken_now (text_of words (looks_in seat.mine) done) → Way seat.seen done seat.mine → AsEnded words s seat taken_before taken_now done
+as_ended words (next.Line n) refused s seat taken_before taken_now done ends written way = cc
+as_ended words next.LongLine refused s seat taken_before taken_now done ends written way = cc
+as_ended words next.End refused s seat taken_before taken_now done ends written way =
+    subst (λ (x : Status). AsEnded words x seat taken_before taken_now done) (some_injective ends) (at_end words refused seat taken_before taken_now done written way)
+as_ended words next.ReadFault refused s seat taken_before taken_now done ends written way =
+    subst (λ (x : Status). AsEnded words x seat taken_before taken_now done) (some_injective ends) (written, way)
+as_ended words next.InputLimit refused s seat taken_before taken_now done ends written way =
+    subst (λ (x : Status). AsEnded words x seat taken_before taken_now done) (some_injective ends) (written, way)
+
+pub ended-reading : (words : CommandLine) (answer : Next) (s : Status) (r r' : Reading) (count version : ℕ) (refused : Bool) (before seat : BoardSeat) (left now after taken_before taken_now : Option (List ℕ))
+    → (p : Progress words r count version refused before seat left now taken_before taken_now) → bytes_read r' ≤ input_limit
+    → ending_of answer refused ≡ Some s → (r.stop ≡ Going → NextGives answer r r' now after) → StaysStopped answer r r' now after
+    → Ended words s count (λ done. HasEnded s done before seat) seat left after taken_before taken_now
+ended-reading words answer s r r' count version refused before seat left now after taken_before taken_now p within ends gives stays =
+    let covered = read_ended answer s r r' count refused left now after p.done p.read within ends gives stays in
+    let written = as_ended words answer refused s seat taken_before taken_now p.done ends p.told.written p.did.way in
+    record {
+      done = p.done;
+      counted = p.read.counted;
+      covers = covered.0;
+      refused = subst (TellsRefused s) (sym p.told.refused_is) covered.1;
+      writes = written.0;
+      goes = record { same = p.did.same; way = written.1 };
+    }
+
+-- ---- one line more
+
+module _ (words : CommandLine) (answer : Next) (held : List ℕ) (r r' : Reading) (count version : ℕ) (refused : Bool) (before seat after : BoardSeat)
+    (left now later taken_before taken_now taken_after : Option (List ℕ)) (p : Progress words r count version refused before seat left now taken_before taken_now)
+    (goes : ending_of answer refused ≡ None) (gives : r.stop ≡ Going → NextGives answer r r' now later) (stays : StaysStopped answer r r' now later)
+    (within : bytes_read r' ≤ input_limit) (is : held ≡ r'.line) where
+  abbrev this_line : List ℕ
+  this_line = (line_handed answer r r' count refused left now later p.done p.read goes gives stays).line
+
+  read-on : Read r' (count + 1) left later (p.done ++ this_line ∷ [])
+  read-on = read_more answer r r' count refused left now later p.done p.read goes gives stays within
+
+  this-text : IsTextOf answer held this_line
+  this-text = text_held answer r r' count refused left now later p.done p.read goes gives stays held is
+
+  abbrev On : ℕ → Bool → Type 0
+  On newest any = Progress words r' (count + 1) newest any before after left later taken_before taken_after
+
+  pub turned : (one : LineDone) → ((text : List ℕ) → IsTextOf answer held text → HasWritten (Ok one) words (count + 1) version seat text after taken_now taken_after)
+      → On one.version (refused || one.refused)
+  turned one does =
+      let w = does this_line this-text in
+      let on : On (newest_after version w.0) (refused || is_refusal w.0) = record {
+        done = p.done ++ this_line ∷ [];
+        read = read-on;
+        did = did-more before seat after p.done this_line w.0 p.did w.1;
+        told = told-more before seat after p.done this_line w.0 p.did w.1 words version refused taken_before taken_now taken_after p.told
+            (subst (λ n. Appends taken_now taken_after (rows_of words (n + 1) version w.0)) (sym p.read.counted) w.2);
+      } in
+      subst (λ (v : ℕ). On v (refused || one.refused)) (sym w.3) (subst (λ (b : Bool). On (newest_after version w.0) (refused || b)) (sym w.4) on)
+
+  abbrev Broke : Status → Type 0
+  Broke s = Ended words s (count + 1) (λ done. HasEnded s done before after) after left later taken_before taken_after
+
+  broke-at : (stopped : Stopped) → TakesPartOf words (looks_in after.mine) taken_before taken_after (p.done ++ this_line ∷ []) → HasEnded (status_of stopped) (p.done ++ this_line ∷ []) before after
+      → length r'.pending ≤ read_size → Broke (status_of stopped)
+  broke-at stops.WriteFault part ended few = record {
+    done = p.done ++ this_line ∷ [];
+    counted = read-on.counted;
+    covers = covers_front r' (count + 1) left later (p.done ++ this_line ∷ []) read-on within few;
+    refused = tt;
+    writes = part;
+    goes = ended;
+  }
+  broke-at stops.NoMemory part ended few = record {
+    done = p.done ++ this_line ∷ [];
+    counted = read-on.counted;
+    covers = covers_front r' (count + 1) left later (p.done ++ this_line ∷ []) read-on within few;
+    refused = tt;
+    writes = part;
+    goes = ended;
+  }
+
+  broke-by : (stopped : Stopped) → HasWritten (Err stopped) words (count + 1) version seat this_line after taken_now taken_after → length r'.pending ≤ read_size → Broke (status_of stopped)
+  broke-by stopped (inl failed) few =
+      subst (λ (x : Stopped). Broke (status_of x)) (sym failed.1)
+      (broke-at stops.NoMemory
+      (failed-told words version refused before seat after taken_before taken_now taken_after p.done this_line failed.0 p.told failed.2)
+      (failed-way before seat after p.done this_line p.did failed.0) few)
+  broke-by stopped (inr (said, met, front)) few =
+      broke-at stopped
+      (broken-told words version refused before seat after taken_before taken_now taken_after p.done this_line said p.did met p.told
+      (subst (λ n. TakesFront taken_now taken_after (rows_of words (n + 1) version said)) (sym p.read.counted) front))
+      (stopped-way stopped before after (p.done ++ this_line ∷ []) (did-more before seat after p.done this_line said p.did met)) few
+
+  pub turned-off : (stopped : Stopped) → ((text : List ℕ) → IsTextOf answer held text → HasWritten (Err stopped) words (count + 1) version seat text after taken_now taken_after)
+      → length r'.pending ≤ read_size → Broke (status_of stopped)
+  turned-off stopped does few = broke-by stopped (does this_line this-text) few
+
+-- ---- the finish
+
+pub finished : (s : Status) (done : List (List ℕ)) (before seat after : BoardSeat) → HasEnded s done before seat → HasTurned seat calls.Finish replies.Done after → IsEditor after
+    → HasFinished s done before after
+finished s done before seat after ended turn sound =
+    let number : seat.number ≡ editor = sym turn.called.number ∙ sound.number in
+    let e : BoardEntry = entry seat.number calls.Finish replies.Done in
+    let seen : Begins seat.seen after.seen = record { rest = turn.called.between ++ e ∷ []; is = turn.called.seen ∙ append_assoc seat.seen turn.called.between (e ∷ []) } in
+    record {
+      sound = sound;
+      own = seat.mine;
+      own_is = turn.called.mine ∙ (λ i. seat.mine ++ entry (number i) calls.Finish replies.Done ∷ []);
+      same = record {
+        seen = begins_trans ended.same.seen seen;
+        table = turn.called.table ∙ ended.same.table;
+        number = turn.called.number ∙ ended.same.number;
+        parts = turn.called.parts ∙ ended.same.parts;
+        joined = turn.called.joined ∙ ended.same.joined;
+      };
+      way = is_way-grown s seat.seen after.seen done seat.mine ended.way seen;
+    }
+
+-- the looks of a seat that finished
+pub finished-looks : (seat after : BoardSeat) → HasTurned seat calls.Finish replies.Done after → looks_in after.mine ≡ looks_in seat.mine
+finished-looks seat after turn =
+    let e : BoardEntry = entry seat.number calls.Finish replies.Done in
+    ap looks_in turn.called.mine ∙ (looks_in-append seat.mine (e ∷ []) ∙ (ap (λ (l : List LookAll). looks_in seat.mine ++ l) (looks_in-one e) ∙ append-nil (looks_in seat.mine)))
+
+pub finished-run : (words : CommandLine) (s : Status) (count : ℕ) (before seat after : BoardSeat) (left later taken_before taken_after : Option (List ℕ))
+    → Ended words s count (λ done. HasEnded s done before seat) seat left later taken_before taken_after → HasTurned seat calls.Finish replies.Done after → IsEditor after
+    → Ended words s count (λ done. HasFinished s done before after) after left later taken_before taken_after
+finished-run words s count before seat after left later taken_before taken_after ended turn sound = record {
+  done = ended.done;
+  counted = ended.counted;
+  covers = ended.covers;
+  refused = ended.refused;
+  writes = subst (λ (ls : List LookAll). Writes words ls s taken_before taken_after ended.done) (sym (finished-looks seat after turn)) ended.writes;
+  goes = finished s ended.done before seat after ended.goes turn sound;
+}

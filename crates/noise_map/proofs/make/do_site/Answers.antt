@@ -1,0 +1,115 @@
+use Rattle.std.proofs.Common.{◌≡◌, ℕ, ◌++◌, ◌∷◌, ◌+◌, List, ap, sym, subst, refl, [], ◌∙◌, arith, length, take, inl, zero-add}
+use Rattle.std.proofs.lemmas.List.{append-nil}
+use Rattle.std.specs.Prelude.{Some}
+use Rattle.std.specs.Io.KnownBytes.{Appends}
+use Rattle.map_io.specs.Lines.{lines}
+use Rattle.map_io.specs.LineLaws.{lines-empty}
+use Rattle.noise_map.specs.declared.making.Making.{Making}
+use Rattle.noise_map.specs.declared.status.Status.{Status}
+use Rattle.noise_map.specs.declared.status.Status.TheVariants as status
+use Rattle.noise_map.specs.Demands.{demand_of}
+use Rattle.noise_map.specs.FirstLine.{IsFirstLine}
+use Rattle.noise_map.specs.Making.{making_of, made_by, made_with, made_with_answer, site_made, site_lines, site_row, row_of_making}
+use Rattle.noise_map.specs.Progress.{Did, HasEnded, SiteEnded}
+use Rattle.noise_map.proofs.Doing.{did-more, failed-way}
+use Rattle.noise_map.proofs.Ending.{did-at-start}
+use Rattle.noise_map.proofs.Sites.{line-step, line-whole, made-push, made-journal, made-more, with-refused, ended, broken_off, no-line, unmade, way-at-end}
+use Rattle.noise_map.proofs.make.do_site.Goals.{in-Ok-put_all, in-Err}
+use Rattle.noise_map.proofs.make.do_site.Goals as goal
+
+pub loop-line-init : goal.loop-line-init
+loop-line-init g c =
+    let text = c.as_slice-rest.ensures.value ∙ c.in-Ok.ensures.text in
+    record {
+      whole = ap lines text;
+      counted = zero-add _ ∙ ap (λ (bytes : List ℕ). length (lines bytes)) text;
+      did = did-at-start c.args.editor.now c.requires.nothing;
+      made = c.empty-making.ensures.made;
+      few = omega (arith, ap length text, c.in-Ok.ensures.short, ap length c.in-Ok.ensures.text);
+      refused = omega (arith, ap (λ (m : Making). m.refused) c.empty-making.ensures.made);
+      level = c.empty-making.ensures.level;
+      own = c.requires.own;
+    }
+
+pub loop-line-preserved : goal.loop-line-preserved
+loop-line-preserved g c =
+    let all = site_lines c.args.number in
+    let k = c.loop-line.lines in
+    let done = take k all in
+    let line = c.in-Some.line.now in
+    let after = c.in-Some.after.now in
+    let kept = c.loop-line.invariant in
+    let parts : IsFirstLine c.loop-line.rest.now (Some (line, after)) = rw c.in-Some.is at c.first_line.ensures in
+    let whole : done ++ line ∷ lines after ≡ all = ap (λ l. done ++ l) (sym parts.0) ∙ kept.whole in
+    let counted : k + length (line ∷ lines after) ≡ length all = omega (arith, kept.counted, ap length parts.0) in
+    let step : take (k + 1) all ≡ done ++ line ∷ [] = line-step all k line (lines after) whole counted in
+    let added = c.in-Ok-make_line.ensures.adds in
+    let met = added.1 in
+    let did = did-more c.args.editor.now c.loop-line.editor c.make_line.new.editor done line added.0 kept.did met in
+    let more = made-more (made_by done) c.loop-line.editor c.make_line.new.editor (demand_of line) added.0 (kept.did.journal ∙ sym (made-journal done)) met in
+    let made : c.make_line.new.making ≡ making_of (made_with (made_by done) (demand_of line)) =
+    added.2 ∙ (ap (λ (m : Making). made_with_answer m added.0) kept.made ∙ more) in
+    record {
+      whole = line-whole all k line (lines after) whole counted;
+      counted = omega (arith, counted);
+      did = subst (Did c.args.editor.now c.make_line.new.editor) (sym step) did;
+      made = made ∙ ap making_of (sym (ap made_by step ∙ made-push done line));
+      few = omega (arith, kept.few, parts.1);
+      refused = omega (arith, kept.refused, ap (λ (m : Making). m.refused) kept.made, with-refused (made_by done) (demand_of line), ap (λ (m : Making). m.refused) made);
+      level = c.make_line.ensures.level;
+      own = did.same.table ∙ c.requires.own;
+    }
+
+pub returns-clause-ended : goal.returns-clause-ended
+returns-clause-ended g c =
+    let all = site_lines c.args.number in
+    let k = c.loop-line.lines in
+    let kept = c.loop-line.invariant in
+    let rest : c.loop-line.rest.now ≡ [] = no-line c.loop-line.rest.now c.first_line.result _ c.first_line.ensures c.in_default-first_line.is in
+    let none : lines c.loop-line.rest.now ≡ [] = ap lines rest ∙ lines-empty in
+    let counted : k ≡ length all = omega (arith, kept.counted, ap length none) in
+    let done : take k all ≡ all = sym (append-nil (take k all)) ∙ (ap (λ l. take k all ++ l) (sym none) ∙ kept.whole) in
+    let making : c.loop-line.making ≡ making_of (site_made c.args.number) = kept.made ∙ ap (λ (ls : List (List ℕ)). making_of (made_by ls)) done in
+    let row : c.as_slice.result.now ≡ site_row c.args.number = c.as_slice.ensures.value ∙ (c.in-Ok-row.ensures ∙ ap (row_of_making c.args.number) making) in
+    let So = λ (s : Status). SiteEnded c.args.number s k (λ done. HasEnded s done c.args.editor.now c.loop-line.editor) (g.K.Sink.taken c.args.out.now) (g.K.Sink.taken c.put_all.new.sink) in
+    elim c.match-put_all.branch [
+      | in-Ok-put_all w ↦
+          subst So (sym (w.status-is ∙ w.status_at_end-status.ensures)) (record {
+            writes = ended c.args.number k c.loop-line.making.refused _ _ counted (ap (λ (m : Making). m.refused) making) (subst (Appends _ _) row w.in-Ok-put_all.ensures.whole) _ refl;
+            goes = way-at-end _ _ _ _ kept.did;
+          })
+      | in-Err w ↦
+          subst So (sym w.status-is) (record {
+            writes = broken_off c.args.number k _ _ _ counted row w.in-Err.ensures.part;
+            goes = record { same = kept.did.same; way = kept.did.way };
+          })
+    ]
+
+pub returns-in_default-clause-ended : goal.returns-in_default-clause-ended
+returns-in_default-clause-ended g c =
+    let did = did-at-start c.args.editor.now c.requires.nothing in
+    unmade c.args.number 0 c.args.editor.now c.args.editor.now (g.K.Sink.taken c.args.out.now) (omega arith) (record { same = did.same; way = inl did.way }) c.without_memory.result.status c.without_memory.result.lines
+    c.without_memory.ensures.status c.without_memory.ensures.lines
+
+pub returns-in_default-make_line-clause-ended : goal.returns-in_default-make_line-clause-ended
+returns-in_default-make_line-clause-ended g c =
+    let all = site_lines c.args.number in
+    let k = c.loop-line.lines in
+    let done = take k all in
+    let line = c.in-Some.line.now in
+    let after = c.in-Some.after.now in
+    let kept = c.loop-line.invariant in
+    let parts : IsFirstLine c.loop-line.rest.now (Some (line, after)) = rw c.in-Some.is at c.first_line.ensures in
+    let whole : done ++ line ∷ lines after ≡ all = ap (λ l. done ++ l) (sym parts.0) ∙ kept.whole in
+    let counted : k + length (line ∷ lines after) ≡ length all = omega (arith, kept.counted, ap length parts.0) in
+    let step : take (k + 1) all ≡ done ++ line ∷ [] = line-step all k line (lines after) whole counted in
+    let ended = failed-way c.args.editor.now c.loop-line.editor c.make_line.new.editor done line kept.did c.in_default-make_line.ensures.adds in
+    unmade c.args.number (k + 1) c.args.editor.now c.make_line.new.editor (g.K.Sink.taken c.args.out.now) (omega (arith, counted))
+    (subst (λ (l : List (List ℕ)). HasEnded status.NoMemory l c.args.editor.now c.make_line.new.editor) (sym step) ended)
+    c.without_memory-in_default-make_line.result.status c.without_memory-in_default-make_line.result.lines c.without_memory-in_default-make_line.ensures.status c.without_memory-in_default-make_line.ensures.lines
+
+pub returns-in_default-row-clause-ended : goal.returns-in_default-row-clause-ended
+returns-in_default-row-clause-ended g c =
+    let kept = c.loop-line.invariant in
+    unmade c.args.number c.loop-line.lines c.args.editor.now c.loop-line.editor (g.K.Sink.taken c.args.out.now) (omega (arith, kept.counted)) (record { same = kept.did.same; way = inl kept.did.way })
+    c.without_memory-in_default-row.result.status c.without_memory-in_default-row.result.lines c.without_memory-in_default-row.ensures.status c.without_memory-in_default-row.ensures.lines

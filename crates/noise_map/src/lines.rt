@@ -1,0 +1,203 @@
+//! The lines of an input, one after another.
+ghost use Rattle.std.specs.Prelude.{◌≡◌, ℕ, List, [], IfOk};
+ghost use Rattle.map_io.specs.Reading.{fresh};
+ghost use Rattle.map_lock.specs.Settling.{HasNotFinished};
+ghost use Rattle.noise_map.specs.Demands.{demand_of};
+ghost use Rattle.noise_map.specs.Texts.{rows_of};
+ghost use Rattle.noise_map.specs.Rows.{ShowsFew};
+ghost use Rattle.noise_map.specs.Taking.{Takes, CausedByWriteFault};
+ghost use Rattle.noise_map.specs.Steps.{MeetsUnlessMemory};
+ghost use Rattle.noise_map.specs.Progress.{ending_of, status_of, IsLineOf, IsTextOf, HasWritten, HasEnded, HasFinished, Ended};
+ghost use Rattle.noise_map.specs.Outcome.{TellsFault};
+
+use crate::answer::Answer;
+use crate::rows::Rows;
+use crate::status::{Ending, Status};
+use crate::step::{Shared, refuse_long};
+use crate::stopped::Stopped;
+use command_words::CommandLine;
+use map_io::{Gate, LineReader, Next, Sink, Source};
+use map_lock::EditorSeat;
+use map_text::Head;
+use scene_parts::NoMemory;
+use std::alloc::Global;
+use std::sync::Wait;
+
+/// The status with which an answer of the reader ends a run, if it is no line.
+fn ending(next: Next, refused: bool) -> Option<Status>
+    ensures { result ≡ ending_of next refused }
+{
+    match next {
+        Next::Line(_) | Next::LongLine => None,
+        Next::End if refused => Some(Status::SomeRefused),
+        Next::End => Some(Status::Done),
+        Next::ReadFault => Some(Status::ReadFault),
+        Next::InputLimit => Some(Status::InputLimit),
+    }
+}
+
+fn status_when(stopped: Stopped) -> Status
+    ensures { result ≡ status_of stopped }
+{
+    match stopped {
+        Stopped::WriteFault => Status::WriteFault,
+        Stopped::NoMemory => Status::NoMemory,
+    }
+}
+
+/// Writes the rows of a line of this number, before which the version was this.
+fn show<K: Sink>(
+    alloc: Global,
+    words: CommandLine,
+    number: u64,
+    version: u64,
+    answer: &Answer,
+    out: &mut K,
+) -> Result<(), Stopped>
+    requires { ShowsFew answer.now }
+    ensures taken { Takes result (K.taken out.old) (K.taken out.new)
+        (rows_of words number version answer.now) }
+    ensures cause { CausedByWriteFault result (K.faults out.old) (K.faults out.new) }
+{
+    let mut rows = Rows {
+        alloc,
+        out,
+        bands: words.bands,
+        counts: words.counts,
+    };
+    match answer {
+        Answer::Nothing | Answer::Edited(_) => Ok(()),
+        Answer::Refused(fault) => rows.refuse(version, number, fault),
+        Answer::Settled(look) => rows.settle(look),
+        Answer::Looked(look) => rows.look(Head::Look, look),
+    }
+}
+
+/// Does the line that the reader has handed out, or refuses the long one that it has passed over.
+fn do_next<R: Wait, G: Gate>(
+    shared: &Shared<R, G>,
+    editor: &mut EditorSeat,
+    next: Next,
+    line: &[u8],
+) -> Result<Answer, NoMemory>
+    requires own { editor.old.table ≡ shared.now.lock.now }
+    requires unfinished { HasNotFinished editor.old.mine }
+    requires line { IsLineOf next line.now }
+    ensures done { (text : List ℕ) → IsTextOf next line.now text
+        → MeetsUnlessMemory editor.old (demand_of text) result editor.new }
+    ensures few { IfOk result ShowsFew }
+{
+    if matches!(next, Next::LongLine) {
+        Ok(refuse_long())
+    } else {
+        shared.line(editor, line)
+    }
+}
+
+/// What the lines behind one that was done go on with: the version, and whether it was refused.
+#[derive(Clone, Copy, Debug, PartialEq, Eq)]
+pub struct LineDone {
+    pub version: u64,
+    pub refused: bool,
+}
+
+/// Does that line, of this number, and writes its rows.
+fn do_and_show<R: Wait, G: Gate, K: Sink>(
+    shared: &Shared<R, G>,
+    words: CommandLine,
+    editor: &mut EditorSeat,
+    number: u64,
+    version: u64,
+    next: Next,
+    line: &[u8],
+    out: &mut K,
+) -> Result<LineDone, Stopped>
+    requires own { editor.old.table ≡ shared.now.lock.now }
+    requires unfinished { HasNotFinished editor.old.mine }
+    requires line { IsLineOf next line.now }
+    ensures done { (text : List ℕ) → IsTextOf next line.now text
+        → HasWritten result words number version editor.old text editor.new
+        (K.taken out.old) (K.taken out.new) }
+    ensures cause { CausedByWriteFault result (K.faults out.old) (K.faults out.new) }
+{
+    let answer = do_next(shared, editor, next, line)?;
+    show(shared.alloc, words, number, version, &answer, out)?;
+    Ok(LineDone {
+        version: answer.newest(version),
+        refused: answer.is_refusal(),
+    })
+}
+
+/// Reads line after line and does each, until the input ends or something stops it.
+fn do_lines<R: Wait, G: Gate, S: Source, K: Sink>(
+    shared: &Shared<R, G>,
+    words: CommandLine,
+    reader: &mut LineReader,
+    editor: &mut EditorSeat,
+    input: &mut S,
+    out: &mut K,
+) -> Ending
+    requires own { editor.old.table ≡ shared.now.lock.now }
+    requires reader { reader.old ≡ fresh }
+    requires nothing { editor.old.mine ≡ [] }
+    ensures ended { Ended words result.status result.lines
+        (λ done. HasEnded result.status done editor.old editor.new) editor.new
+        (S.left input.old) (S.left input.new) (K.taken out.old) (K.taken out.new) }
+    ensures read_fault { TellsFault Status.ReadFault result.status (S.faults input.old) (S.faults input.new) }
+    ensures write_fault { TellsFault Status.WriteFault result.status (K.faults out.old) (K.faults out.new) }
+{
+    let mut lines = 0;
+    let mut version = 0;
+    let mut refused = false;
+    loop {
+        let next = reader.next(input);
+        if let Some(status) = ending(next, refused) {
+            return Ending { status, lines };
+        }
+        lines += 1;
+        match do_and_show(
+            shared,
+            words,
+            editor,
+            lines,
+            version,
+            next,
+            reader.line(),
+            out,
+        ) {
+            Ok(done) => {
+                version = done.version;
+                refused |= done.refused;
+            }
+            Err(stopped) => {
+                return Ending {
+                    status: status_when(stopped),
+                    lines,
+                };
+            }
+        }
+    }
+}
+
+/// All that the editor does: the lines of the input, and then it finishes the board.
+pub fn edit_lines<R: Wait, G: Gate, S: Source, K: Sink>(
+    shared: &Shared<R, G>,
+    words: CommandLine,
+    reader: &mut LineReader,
+    editor: &mut EditorSeat,
+    input: &mut S,
+    out: &mut K,
+) -> Ending
+    requires own { editor.old.table ≡ shared.now.lock.now }
+    requires reader { reader.old ≡ fresh }
+    requires nothing { editor.old.mine ≡ [] }
+    ensures finished { Ended words result.status result.lines
+        (λ done. HasFinished result.status done editor.old editor.new) editor.new
+        (S.left input.old) (S.left input.new) (K.taken out.old) (K.taken out.new) }
+    ensures read_fault { TellsFault Status.ReadFault result.status (S.faults input.old) (S.faults input.new) }
+    ensures write_fault { TellsFault Status.WriteFault result.status (K.faults out.old) (K.faults out.new) }
+{
+    let ending = do_lines(shared, words, reader, editor, input, out);
+    shared.lock.finish(shared.rt, editor);
+    ending
+}
