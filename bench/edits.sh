@@ -1,29 +1,77 @@
 #!/bin/sh
-# Prints the time of 10,000 edits of a scene at its limits by the proved program: receivers replaced, removed and put,
-# sources replaced. It is that of an input with the edits less that of the same input without them.
+# Prints what edits cost by the proved program: 20 edits, each followed by a settle, of 16 sources and 1,024 receivers among
+# 500 buildings, beside the same where each edit touches every receiver; the time of one edit of each kind that touches none
+# of 262,144 settled paths; the bytes of a settled path, and the greatest memory of 128 sources and 4,096 receivers in a free
+# field.
 set -e
 . "$(dirname "$0")/timing.sh"
+. "$(dirname "$0")/site.sh"
 
-scene() {
-    sources 128
-    echo '{"do":"grid","name":"g","x":0,"y":0,"step":1000,"columns":64,"rows":64,"h":4000}'
+# free SOURCES: so many sources and 4,096 receivers with nothing between them.
+free() {
+    sources "$1"
+    receivers 4096
+    echo '{"do":"settle"}'
 }
 
-# 2,500 rounds: a receiver replaced by a grid of one, one removed, one put, a source replaced.
-edits() {
+# moves: 20 times a building of its own moved by a metre, and a settle.
+moves() {
     awk 'BEGIN {
-        for (i = 0; i < 2500; i++) {
-            printf "{\"do\":\"grid\",\"name\":\"g\",\"x\":%d,\"y\":0,\"step\":1,\"columns\":1,\"rows\":1,\"h\":4000}\n", i
-            printf "{\"do\":\"remove\",\"name\":\"g/%d/%d\"}\n", (i + 1) % 64, int((i + 1) / 64)
-            printf "{\"do\":\"receiver\",\"name\":\"r%d\",\"x\":%d,\"y\":0,\"h\":4000}\n", i, i
-            printf "{\"do\":\"source\",\"name\":\"s%d\",\"kind\":\"road\",\"x\":%d,\"y\":0,\"h\":1000,\"lw\":[9000,9500,9800,10000,10000,9700,9200,8500]}\n", i % 128, i
+        for (i = 0; i < 20; i++) {
+            x = i * 25000 - 311000
+            y = i * 25000 - 250000
+            printf "{\"do\":\"building\",\"name\":\"b%d\",\"points\":[[%d,%d],[%d,%d],[%d,%d],[%d,%d]],\"h\":9000}\n{\"do\":\"settle\"}\n", i * 26 % 500, x, y, x + 8000, y, x + 8000, y + 8000, x, y + 8000
         }
     }'
 }
 
-scene > "$work/scene"
-{ scene; edits; } > "$work/edited"
-before=$(milliseconds "$work/scene")
-after=$(milliseconds "$work/edited")
-echo 'edits  refused  ms  microseconds an edit'
-printf '%5d  %7d  %2d  %20d\n' 10000 "$(wc -l < "$work/rows")" $((after - before)) $(((after - before) / 10))
+# lines COUNT LINE: a line so many times.
+lines() {
+    yes "$2" | head -n "$1"
+}
+
+# once INPUT: the time of one run over a file, in milliseconds.
+once() {
+    begin=$(date +%s%N)
+    "$root/noisemap" < "$1" > "$work/rows" || true
+    end=$(date +%s%N)
+    echo $(((end - begin) / 1000000))
+}
+
+# peak INPUT: the greatest memory of a run over a file, in KiB.
+peak() {
+    python3 -c 'import resource, subprocess, sys
+subprocess.run([sys.argv[1]], stdin=open(sys.argv[2]), stdout=subprocess.DEVNULL)
+print(resource.getrusage(resource.RUSAGE_CHILDREN).ru_maxrss)' "$root/noisemap" "$1"
+}
+
+among > "$work/among"
+{ among; moves; } > "$work/moved"
+{ among; lines 40 '{"do":"set"}' | sed '2~2s/set/settle/'; } > "$work/all"
+first=$(once "$work/among")
+moved=$(once "$work/moved")
+all=$(once "$work/all")
+echo 'the first settle ms  20 moves and settles ms  20 times all of it ms'
+printf '%19d  %23d  %22d\n' "$first" $((moved - first)) $((all - first))
+
+free 64 > "$work/free"
+before=$(once "$work/free")
+echo 'edit that touches nothing     us  ns a path of 262,144'
+one() {
+    { cat "$work/free"; lines 100 "$2"; } > "$work/edited"
+    spent=$(($(once "$work/edited") - before))
+    printf '%-24s  %6d  %20d\n' "$1" $((spent * 10)) $((spent * 10000 / 262144))
+}
+one barrier '{"do":"barrier","name":"w","points":[[900000,900000],[900000,910000]],"h":4000,"density":20}'
+one building '{"do":"building","name":"b","points":[[900000,900000],[910000,900000],[910000,910000]],"h":4000}'
+one zone '{"do":"zone","name":"z","points":[[900000,900000],[910000,900000],[910000,910000]],"g":50}'
+one source '{"do":"source","name":"far","kind":"road","x":3900000,"y":3900000,"h":1000,"lw":[9000,9500,9800,10000,10000,9700,9200,8500]}'
+one receiver '{"do":"receiver","name":"r/0/0","x":900000,"y":900000,"h":4000}'
+one grid '{"do":"grid","name":"g","x":900000,"y":900000,"step":1,"columns":1,"rows":1,"h":4000}'
+
+free 1 > "$work/one"
+free 128 > "$work/many"
+low=$(peak "$work/one")
+high=$(peak "$work/many")
+echo 'KiB of 4,096 paths  KiB of 524,288 paths  bytes a path'
+printf '%18d  %20d  %12d\n' "$low" "$high" $(((high - low) * 1024 / (524288 - 4096)))

@@ -12,12 +12,9 @@ sources() {
     }'
 }
 
-# receivers COUNT: so many lines of receivers, 10 m apart in rows of 64.
+# receivers COUNT: a grid of so many, 10 m apart in rows of 64.
 receivers() {
-    awk -v count="$1" 'BEGIN {
-        for (i = 0; i < count; i++)
-            printf "{\"do\":\"receiver\",\"name\":\"r%d\",\"x\":%d,\"y\":%d,\"h\":4000}\n", i, i % 64 * 10000 - 320000, int(i / 64) * 10000 - 320000
-    }'
+    echo "{\"do\":\"grid\",\"name\":\"r\",\"x\":-320000,\"y\":-320000,\"step\":10000,\"columns\":64,\"rows\":$(($1 / 64)),\"h\":4000}"
 }
 
 # milliseconds INPUT: the least time of five runs over a file. The rows of the last are in $work/rows.
