@@ -14,6 +14,7 @@ use Rattle.fix_interval.specs.Lg.{is_at_least}
 use Rattle.fix_interval.specs.Ten.{fraction_high, raised_high, ten_low, ten_high, ten_of}
 use Rattle.fix_interval.specs.ExpNeg.{exp_neg_low, exp_neg_of}
 use Rattle.fix_interval.specs.Ranges.{IsFrom, IsUpTo, LiesIn, IsRanged, from_to, power_limit, power_range, decay_range}
+use Rattle.fix_interval.proofs.Ceilings.{div_ceil-mono}
 use Rattle.fix_interval.proofs.Ranging.{LiesIn-All}
 use Rattle.fix_interval.proofs.TenTables.{fraction_high-small}
 use Rattle.enclose_exp.proofs.Exponents.{ten_high-least, ten_high-within}
@@ -24,10 +25,6 @@ use Rattle.enclose_exp.proofs.DecayInterval.{ends, exp_neg_of-ends}
 
 -- ---- powers of ten
 
--- a quotient rounded up grows with what is divided
-div_ceil-grows : (m n d : ℕ) → 0 < d → m ≤ n → div_ceil m d ≤ div_ceil n d
-div_ceil-grows m n d positive h = grind arith
-
 -- the limit of a power whose exponent counts from -20
 abbrev limit_of : ℕ → ℕ
 limit_of s = div_ceil (2 ^ 64 * 10 ^ (s / unit)) (10 ^ 20 * 2 ^ 28)
@@ -37,7 +34,7 @@ raised-below s t h =
     let whole : s / unit ≤ t / unit = div-grows s t h in
     let powers = pow-le-pow_right {n = 10} (omega arith) {i = s / unit} {j = t / unit} whole in
     let small : fraction_high (s % unit) ≤ 2 ^ 64 = omega (arith, fraction_high-small (s % unit)) in
-    div_ceil-grows (fraction_high (s % unit) * 10 ^ (s / unit)) (2 ^ 64 * 10 ^ (t / unit)) (10 ^ 20 * 2 ^ 28) (omega arith)
+    div_ceil-mono (fraction_high (s % unit) * 10 ^ (s / unit)) (2 ^ 64 * 10 ^ (t / unit)) (10 ^ 20 * 2 ^ 28) (omega arith)
     (mul-le (fraction_high (s % unit)) (10 ^ (s / unit)) (2 ^ 64) (10 ^ (t / unit)) small powers)
   where
     div-grows : (s t : ℕ) → s ≤ t → s / unit ≤ t / unit

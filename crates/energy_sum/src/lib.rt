@@ -14,7 +14,7 @@ ghost use Rattle.energy_sum.specs.Energies.{energy_form, level_form};
 
 use enclose_exp::ten;
 use enclose_log::lg;
-use fix_interval::{Iv, div, exact, max, mul};
+use fix_interval::{Iv, exact, max, mul, over};
 pub use laws::every_formula_is_enclosed;
 pub use sum::Sum;
 pub use weather::c_met;
@@ -28,7 +28,7 @@ pub fn energy(level: Iv) -> Iv
     ensures bounds { AreBetween (neg_ℤ (pos (2 ^ 61))) (pos (189 * 2 ^ 32)) level
         → AreBetween (pos 0) (pos (2 ^ 96)) result }
 {
-    ten(div(level, exact(10)))
+    ten(over(level, 10))
 }
 
 /// The level in dB of a sum of energies: ten times its logarithm, and 0 dB where the sum is below 1 (ISO 9613-2,

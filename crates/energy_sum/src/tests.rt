@@ -1,5 +1,6 @@
 //! Energies and levels with ends from outside, by an independent program.
 use super::*;
+use fix_interval::div;
 use std::process::Abort;
 
 fn has_ends(rt: &impl Abort, found: Iv, lo: i128, hi: i128) {

@@ -50,3 +50,7 @@ quotient_up-le a b d positive h =
     let bounds = div_ceil_times a d positive in
     let less : div_ceil a d < b + 1 = lt_of_mul-lt-mul_right d (omega (arith, bounds.1, h)) in
     omega (arith, less)
+
+-- it grows with what is divided
+pub div_ceil-mono : (a b d : ℕ) → 0 < d → a ≤ b → div_ceil a d ≤ div_ceil b d
+div_ceil-mono a b d positive h = grind arith

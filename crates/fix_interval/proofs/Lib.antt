@@ -27,3 +27,4 @@ pub mod TenTables
 pub mod TenLaw
 pub mod DigitSteps
 pub mod DigitTables
+pub mod WholeFactors

@@ -3,6 +3,7 @@ pub mod ExpNeg
 pub mod Interval
 pub mod Lawful
 pub mod Lg
+pub mod Numbers
 pub mod Powers
 pub mod Roots
 pub mod Round

@@ -1,7 +1,7 @@
 //! The type of an interval and its ends.
 
-ghost use Rattle.std.specs.Prelude.{◌≡◌, ◌-◌, ◌^◌, pos, neg_ℤ, unwrap_or};
-ghost use Rattle.fix_interval.specs.Interval.{Interval, IsInterval, All};
+ghost use Rattle.std.specs.Prelude.{◌≡◌, unwrap_or};
+ghost use Rattle.fix_interval.specs.Interval.{Interval, IsInterval, open_low, open_high};
 
 use std::marker::Model;
 
@@ -13,35 +13,54 @@ pub const OPEN_HI: i128 = i128::MAX;
 
 /// An interval: the least and the greatest value that a quantity may have, each in units of 2^-32, or
 /// unbounded. A bounded end lies strictly between -2^126 and 2^126, and the low end is not above the
-/// high end.
+/// high end. It is kept as two numbers, where `OPEN_LO` and `OPEN_HI` stand for unbounded ends.
 #[derive(Clone, Copy, Drop)]
 pub struct Iv {
-    lo: Option<i128>,
-    hi: Option<i128>,
+    lo: i128,
+    hi: i128,
 }
 
 impl Model for Iv {
-    ghost use Rattle.fix_interval.specs.Interval.{Interval, IsInterval};
+    ghost use Rattle.std.specs.Prelude.{unwrap_or};
+    ghost use Rattle.fix_interval.specs.Interval.{Interval, IsInterval, open_low, open_high};
+    ghost use Rattle.fix_interval.specs.Numbers.{of_numbers, number-kept};
 
     ghost Value = { Interval };
 
-    ghost view = { λ v. record { lo = v.lo; hi = v.hi } };
+    ghost view = { λ v. of_numbers v.lo v.hi };
 
-    ghost invariant = { λ v. IsInterval (record { lo = v.lo; hi = v.hi }) };
+    ghost invariant = { λ v. IsInterval (of_numbers v.lo v.hi) };
 
-    ghost inverse = { λ i. record { lo = i.lo; hi = i.hi } };
+    ghost inverse = { λ i. record { lo = unwrap_or i.lo open_low; hi = unwrap_or i.hi open_high } };
+
+    ghost inverse_ok = { λ v h i. record {
+      lo = number-kept open_low v.lo i;
+      hi = number-kept open_high v.hi i;
+    } };
 }
 
 impl Iv {
     /// The interval of all numbers: both ends are unbounded.
-    pub const ALL: Iv = Iv { lo: None, hi: None };
+    pub const ALL: Iv = Iv {
+        lo: OPEN_LO,
+        hi: OPEN_HI,
+    };
 
     /// The interval with these ends, in units of 2^-32; `None` is an unbounded end.
     pub const fn of_ends(lo: Option<i128>, hi: Option<i128>) -> Iv
         requires { IsInterval (record { lo = lo; hi = hi }) }
         ensures { result ≡ record { lo = lo; hi = hi } }
     {
-        Iv { lo, hi }
+        Iv {
+            lo: match lo {
+                Some(end) => end,
+                None => OPEN_LO,
+            },
+            hi: match hi {
+                Some(end) => end,
+                None => OPEN_HI,
+            },
+        }
     }
 
     /// The low end in units of 2^-32, or `None` where it is unbounded.
@@ -49,7 +68,11 @@ impl Iv {
         ensures end { result ≡ self.now.lo }
         ensures interval { IsInterval self.now }
     {
-        self.lo
+        if self.lo == OPEN_LO {
+            None
+        } else {
+            Some(self.lo)
+        }
     }
 
     /// The high end in units of 2^-32, or `None` where it is unbounded.
@@ -57,26 +80,24 @@ impl Iv {
         ensures end { result ≡ self.now.hi }
         ensures interval { IsInterval self.now }
     {
-        self.hi
+        if self.hi == OPEN_HI {
+            None
+        } else {
+            Some(self.hi)
+        }
     }
 
     /// The low end in units of 2^-32, or `OPEN_LO` where it is unbounded.
     pub const fn lo(&self) -> i128
-        ensures { result ≡ unwrap_or self.now.lo (neg_ℤ (pos (2 ^ 127))) }
+        ensures { result ≡ unwrap_or self.now.lo open_low }
     {
-        match self.lo {
-            Some(end) => end,
-            None => OPEN_LO,
-        }
+        self.lo
     }
 
     /// The high end in units of 2^-32, or `OPEN_HI` where it is unbounded.
     pub const fn hi(&self) -> i128
-        ensures { result ≡ unwrap_or self.now.hi (pos (2 ^ 127 - 1)) }
+        ensures { result ≡ unwrap_or self.now.hi open_high }
     {
-        match self.hi {
-            Some(end) => end,
-            None => OPEN_HI,
-        }
+        self.hi
     }
 }

@@ -13,11 +13,13 @@ mod powers_of_ten;
 mod products;
 mod quotients;
 mod roots;
+mod short;
 mod span;
 mod square_root;
 mod starts;
 mod truth;
 mod values;
+mod whole_factors;
 mod whole_quotient;
 
 pub use fraction_digits::{six_digits, taken};
@@ -34,6 +36,7 @@ pub use quotients::{div, exact, ratio};
 pub use roots::root;
 pub use truth::Truth;
 pub use values::{add, hull, less, max, min, neg, pick, sub};
+pub use whole_factors::{over, times};
 
 #[cfg(test)]
 mod tests;

@@ -329,3 +329,29 @@ fn values_are_those_of_the_model(rt: HostRuntime) {
         expect_ends(&rt, exact(n), end, end);
     }
 }
+
+fn is(rt: &impl Abort, found: Iv, low: Option<i128>, high: Option<i128>) {
+    assert_eq!(rt; (found.low(), found.high()), (low, high));
+}
+
+fn thirds(rt: &impl Abort) {
+    let few = Iv::of_ends(Some(-7), Some(5));
+    is(rt, times(few, 3), Some(-21), Some(15));
+    is(rt, over(few, 3), Some(-3), Some(2));
+}
+
+fn long_thirds(rt: &impl Abort) {
+    let many = Iv::of_ends(Some(1 << 70), Some(1 << 70));
+    is(rt, times(many, 3), Some(3 << 70), Some(3 << 70));
+    let (low, high) = (393_530_540_239_137_101_141, 393_530_540_239_137_101_142);
+    is(rt, over(many, 3), Some(low), Some(high));
+}
+
+// -7 and 5 units, 2^70 units, and unbounded ends, times 3 and over 3.
+#[test]
+fn a_whole_factor_takes_short_and_long_ends(rt: HostRuntime) {
+    thirds(&rt);
+    long_thirds(&rt);
+    is(&rt, times(Iv::ALL, 3), None, None);
+    is(&rt, over(Iv::ALL, 3), None, None);
+}

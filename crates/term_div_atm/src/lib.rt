@@ -3,11 +3,11 @@
 
 ghost use Rattle.std.specs.Prelude.{◌≡◌, ◌*◌, ◌<◌, ◌^◌, pos, ◌≤ℤ◌, IsSomeAnd};
 ghost use Rattle.fix_interval.specs.Bounds.{AreBetween};
-ghost use Rattle.fix_interval.specs.Tree.{Known, Const, enc};
+ghost use Rattle.fix_interval.specs.Tree.{Known, enc};
 ghost use Rattle.term_div_atm.specs.Terms.{at_least_one, divergence, absorption};
 
 use enclose_log::lg;
-use fix_interval::{Iv, add, div, exact, max, mul};
+use fix_interval::{Iv, add, exact, max, mul, over, times};
 
 /// The attenuation by geometrical divergence in dB (ISO 9613-2, equation 7), at a distance in metres, which counts as
 /// 1 m at least. Where the distance is from 0 m to 2^28 m, both ends are from 11 dB to 191 dB.
@@ -27,7 +27,7 @@ pub fn a_atm(d: Iv, alpha10: u32) -> Iv
     ensures bounds { AreBetween (pos 0) (pos (2 ^ 60)) d → alpha10 < 4096
         → AreBetween (pos 0) (pos (2 ^ 59)) result }
 {
-    div(mul(one_metre_at_least(d), whole(alpha10)), exact(10_000))
+    over(times(one_metre_at_least(d), alpha10), 10_000)
 }
 
 /// A distance in metres, which counts as 1 m at least.
@@ -36,13 +36,6 @@ fn one_metre_at_least(d: Iv) -> Iv
     ensures low { IsSomeAnd result.lo (λ z. pos (2 ^ 32) ≤ℤ z) }
 {
     max(exact(1), d)
-}
-
-/// A whole number.
-fn whole(n: u32) -> Iv
-    ensures { result ≡ enc (Const (pos n) 1) }
-{
-    exact(n.into())
 }
 
 #[cfg(test)]

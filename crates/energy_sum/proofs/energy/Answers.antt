@@ -2,4 +2,4 @@ use Rattle.energy_sum.proofs.Ends.{energy-between}
 use Rattle.energy_sum.proofs.energy.Goals as goal
 
 pub returns-clause-bounds : goal.returns-clause-bounds
-returns-clause-bounds c h = rw (c.ten.ensures.value, c.div.ensures, c.exact.ensures) (energy-between c.args.level h)
+returns-clause-bounds c h = rw (c.ten.ensures.value, c.over.ensures) (energy-between c.args.level h)
