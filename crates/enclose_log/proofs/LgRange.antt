@@ -27,7 +27,7 @@ greatest-grows p q (suc limit) more = by_tests (p (suc limit)) (q (suc limit)) r
   by_tests false true e f h = omega (arith, greatest-le p limit)
   by_tests false false e f h = h
 
-decade-grows : (m n : ℕ) → m ≤ n → decade_of m ≤ decade_of n
+pub decade-grows : (m n : ℕ) → m ≤ n → decade_of m ≤ decade_of n
 unfolding decade_of
 decade-grows m n h = greatest-grows (λ k. nat_le (10 ^ k * unit) (10 ^ 10 * m)) (λ k. nat_le (10 ^ k * unit) (10 ^ 10 * n)) 38 (λ k e. grind arith)
 

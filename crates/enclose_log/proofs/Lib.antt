@@ -8,3 +8,4 @@ pub mod Value
 pub mod LgRange
 pub mod Between
 pub mod TestedDigits
+pub mod Monotone

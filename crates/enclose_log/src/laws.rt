@@ -1,9 +1,9 @@
 //! What the logarithm's value encloses.
 
-ghost use Rattle.std.specs.Prelude.{◌≤ℤ◌, IsSomeAnd, pos};
+ghost use Rattle.std.specs.Prelude.{ℕ, ◌<◌, ◌≤◌, ◌^◌, ◌≤ℤ◌, IsSomeAnd, pos};
 ghost use Rattle.fix_interval.specs.Interval.{Interval, IsInterval};
 ghost use Rattle.fix_interval.specs.Lawful.{IsLawful};
-ghost use Rattle.fix_interval.specs.Lg.{lg_of};
+ghost use Rattle.fix_interval.specs.Lg.{lg_low, lg_high, lg_of};
 ghost use Rattle.fix_interval.specs.Rules.{HoldsLogarithm};
 ghost use Rattle.fix_interval.specs.Ranges.{IsRanged, logarithm_range};
 ghost use Rattle.fix_interval.specs.Tree.{Lg};
@@ -21,4 +21,13 @@ pub fn logarithm_is_enclosed()
 /// of its bounds.
 pub fn logarithm_keeps_its_range()
     ensures { IsRanged lg_of logarithm_range }
+{}
+
+/// The logarithm of a greater end isn't less, neither rounded down nor rounded up. So the greatest of some intervals, end
+/// by end, has the greatest of their logarithms.
+pub fn logarithm_keeps_order()
+    ensures low { (m n : ℕ) → 0 < m → m ≤ n → n < 2 ^ 126
+        → lg_low m ≤ℤ lg_low n }
+    ensures high { (m n : ℕ) → 0 < m → m ≤ n → n < 2 ^ 126
+        → lg_high m ≤ℤ lg_high n }
 {}

@@ -165,7 +165,7 @@ limited-attenuation : (limit : ℕ) (b : Interval) → limit ≤ 25 → IsLimite
 unfolding attenuation
 limited-attenuation limit b few = limited-min limit (enc (ten_lg (Known b))) few (ten-from_zero b)
 
-known-attenuation : (limit : ℕ) (b : Tree) → enc (attenuation limit (Known (enc b))) ≡ enc (attenuation limit b)
+pub known-attenuation : (limit : ℕ) (b : Tree) → enc (attenuation limit (Known (enc b))) ≡ enc (attenuation limit b)
 unfolding attenuation ten_lg
 known-attenuation limit b = refl
 

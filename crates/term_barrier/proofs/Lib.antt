@@ -13,3 +13,5 @@ pub mod Lengths
 pub mod LateralBounds
 pub mod Fitting
 pub mod Slants
+pub mod OneLogarithm
+pub mod Deciding

@@ -13,7 +13,7 @@ use Rattle.term_barrier.specs.declared.joined.Joined.{Joined}
 use Rattle.term_barrier.specs.Diffraction.{at_one_edge, attenuation, ten_lg}
 use Rattle.term_barrier.specs.Edges.{single_argument}
 use Rattle.term_barrier.specs.Screening.{Passing, edges_above, marked, pairs_of, screening}
-use Rattle.term_barrier.specs.Prepared.{single_of, known_argument, known_single, single_is_above, single_value, argument_value, both_value, risen, edges_in, is_marked, joined_value, numbered_value, are_marked, marked_values, Numbered, IsSingle, ArePrepared, greatest_from, best_over, best_argument, screened_by}
+use Rattle.term_barrier.specs.Prepared.{single_of, known_argument, known_single, single_is_above, single_value, argument_value, both_value, risen, edges_in, is_marked, joined_value, numbered_value, are_marked, marked_values, Numbered, IsSingle, ArePrepared, greatest_from, best_marked, best_over, best_argument, screened_by}
 use Rattle.term_barrier.proofs.Screened.{screening-is}
 use Rattle.term_barrier.proofs.Lists.{map-map, map-same, filter-map, both, each, filter-pairs, map-pairs, marked-map, marked-none, marked-step}
 
@@ -97,16 +97,12 @@ singles-are path d singles h = along singles (recursion_from_All (IsSingle path 
 
 -- ---- what is greatest
 
-pub over-known : (path : Path) (d : Interval) (singles : List Single) (pairs : List Joined) (band : Band) (marks : List Bool) (alone best : Option Interval)
-    → ArePrepared path d singles pairs
-    → alone ≡ greatest_from None (map (known_single band) (filter single_is_above (marked marks singles)))
-    → best ≡ greatest_from alone (marked_values marks (map (joined_value band) pairs))
-    → best ≡ best_over path d band (marked marks (edges_in singles))
-over-known path d singles pairs band marks alone best h a b =
+pub over-known : (path : Path) (d : Interval) (singles : List Single) (pairs : List Joined) (band : Band) (marks : List Bool)
+    → ArePrepared path d singles pairs → best_marked band marks singles pairs ≡ best_over path d band (marked marks (edges_in singles))
+over-known path d singles pairs band marks h =
     let edges = edges_in singles in
     let first = ap (λ (singles : List Single). map (known_single band) (filter single_is_above (marked marks singles))) (singles-are path d singles h.singles_are) ∙ singles-known path d band marks edges in
-    b
-    ∙ ap (λ (from : Option Interval). greatest_from from (marked_values marks (map (joined_value band) pairs))) (a ∙ ap (greatest_from None) first)
+    ap (λ (from : Option Interval). greatest_from from (marked_values marks (map (joined_value band) pairs))) (ap (greatest_from None) first)
     ∙ ap (greatest_from (greatest_from None (map (single_value path d band) (edges_above (marked marks edges))))) (pairs-known path d singles pairs band marks h)
 
 pub argument-over : (path : Path) (d : Interval) (singles : List Single) (band : Band) (marks : List Bool) → All (IsSingle path d) singles
@@ -117,15 +113,14 @@ argument-over path d singles band marks h =
 
 -- A_bar, from what was prepared
 pub screened-known : (now : Passing) (path : Path) (d gr : Interval) (singles : List Single) (pairs : List Joined) (band : Band) (marks : List Bool)
-    (alone best argument : Option Interval) → ArePrepared path d singles pairs
+    (best argument : Option Interval) → ArePrepared path d singles pairs
     → record { path = path; edges = edges_in singles; d = d } ≡ now
-    → alone ≡ greatest_from None (map (known_single band) (filter single_is_above (marked marks singles)))
-    → best ≡ greatest_from alone (marked_values marks (map (joined_value band) pairs))
+    → best ≡ best_marked band marks singles pairs
     → argument ≡ greatest_from None (map (known_argument band) (marked marks singles))
     → screened_by best argument gr ≡ enc (screening now.path (Known now.path.dp) (marked marks now.edges) (Known now.d) (Known gr) band)
-screened-known now path d gr singles pairs band marks alone best argument h view a b g =
+screened-known now path d gr singles pairs band marks best argument h view b g =
     let edges = marked marks (edges_in singles) in
-    ap (λ (best : Option Interval). screened_by best argument gr) (over-known path d singles pairs band marks alone best h a b)
+    ap (λ (best : Option Interval). screened_by best argument gr) (b ∙ over-known path d singles pairs band marks h)
     ∙ ap (λ (argument : Option Interval). screened_by (best_over path d band edges) argument gr) (g ∙ argument-over path d singles band marks h.singles_are)
     ∙ sym (screening-is path d gr band edges)
     ∙ ap (λ (v : Passing). enc (screening v.path (Known v.path.dp) (marked marks v.edges) (Known v.d) (Known gr) band)) view

@@ -1,6 +1,6 @@
 -- Scaffolding between the code and the definitions: what the bands of a path share, as the code keeps it, and the
 -- greatest of intervals that are found one after another.
-use Rattle.std.specs.Prelude.{◌≡◌, ℕ, suc, List, [], ◌∷◌, ◌++◌, map, filter, Bool, false, ◌&&◌, Option, Some, None, unwrap_or, slice_get}
+use Rattle.std.specs.Prelude.{◌≡◌, ℕ, suc, List, [], ◌∷◌, ◌++◌, map, filter, Bool, false, ◌&&◌, Option, Some, None, IsSome, unwrap_or, slice_get}
 use Rattle.std.specs.List.{All}
 use Rattle.fix_interval.specs.Interval.{Interval}
 use Rattle.fix_interval.specs.Values.{max_of, pick_of}
@@ -17,7 +17,7 @@ use Rattle.term_barrier.specs.declared.pair.Pair.{Pair}
 use Rattle.term_barrier.specs.declared.joined.Joined.{Joined}
 use Rattle.term_barrier.specs.Diffraction.{whole, c_2_by_wavelength, five_wavelengths_squared, at_one_edge, three_and, attenuation, single_limit, double_limit}
 use Rattle.term_barrier.specs.Edges.{FitsEdge, across, beside, place, source_to_edge, single_difference, single_k, single_argument, where_convex, pair_attenuation}
-use Rattle.term_barrier.specs.Screening.{is_above, edges_above, pairs_of, less_ground, grazing}
+use Rattle.term_barrier.specs.Screening.{is_above, edges_above, marked, pairs_of, less_ground, grazing}
 
 -- ---- edges
 
@@ -109,6 +109,10 @@ abbrev pub greatest_from : Option Interval → List Interval → Option Interval
 greatest_from best [] = best
 greatest_from best (next ∷ others) = greatest_from (greater_of best next) others
 
+-- where its high end is bounded, a number under the logarithm decides what is greatest: that is D_z of the number
+abbrev pub Decides : ℕ → Interval → Option Interval → Type 0
+Decides limit number best = IsSome number.hi → best ≡ Some (enc (attenuation limit (Known number)))
+
 -- D_z of an edge alone, what stands under its logarithm, and D_z of two edges
 abbrev pub single_value : Path → Interval → Band → Edge → Interval
 single_value path d band edge = enc (attenuation single_limit (single_argument path edge (Known d) band))
@@ -177,6 +181,15 @@ are_marked marks pair = is_marked marks pair.0 && is_marked marks pair.1
 
 abbrev pub marked_values : List Bool → List Numbered → List Interval
 marked_values marks pairs = map (λ pair. pair.2) (filter (are_marked marks) pairs)
+
+-- the greatest attenuation of marked edges alone that rise above the line of sight, and with all pairs of marked edges
+abbrev pub best_alone : Band → List Bool → List Single → Option Interval
+best_alone band marks singles =
+    greatest_from None (map (known_single band) (filter single_is_above (marked marks singles)))
+
+abbrev pub best_marked : Band → List Bool → List Single → List Joined → Option Interval
+best_marked band marks singles pairs =
+    greatest_from (best_alone band marks singles) (marked_values marks (map (joined_value band) pairs))
 
 -- what was prepared of some pairs stands behind the rest
 abbrev pub Adds : Path → Interval → List Joined → List Joined → List ((ℕ × Edge) × (ℕ × Edge)) → Type 0

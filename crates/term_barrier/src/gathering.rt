@@ -1,19 +1,21 @@
 //! What the bands of a path share, gathered over its edges, and what each band makes of it.
 
-ghost use Rattle.std.specs.Prelude.{◌≡◌, ◌<◌, ◌+◌, ◌++◌, ◌∷◌, [], None, length, drop, map, filter, flat_map, All, IfOk, OnOk};
+ghost use Rattle.std.specs.Prelude.{◌≡◌, ◌<◌, ◌+◌, ◌++◌, ◌∷◌, [], Some, None, length, drop, map, flat_map, is_some, ◌&&◌, All, IfSome, IfOk, OnOk};
+ghost use Rattle.fix_interval.specs.Tree.{Known, enc};
+ghost use Rattle.term_barrier.specs.Diffraction.{attenuation, single_limit, double_limit};
 ghost use Rattle.term_barrier.specs.Edges.{FitsEdge};
 ghost use Rattle.term_barrier.specs.Screening.{marked, pairs_of, both_ways};
-ghost use Rattle.term_barrier.specs.Prepared.{bend_of, edges_in, risen, Adds, IsSingle, known_single, known_argument};
-ghost use Rattle.term_barrier.specs.Prepared.{single_is_above, greatest_from, joined_value, marked_values};
+ghost use Rattle.term_barrier.specs.Prepared.{bend_of, edges_in, risen, Adds, IsSingle, known_argument};
+ghost use Rattle.term_barrier.specs.Prepared.{greatest_from, joined_value, marked_values, best_marked, Decides};
 ghost use Rattle.term_barrier.specs.Prepared as prepared;
 
 use crate::bend::Bend;
-use crate::formulas::single_attenuation;
+use crate::formulas::{double_attenuation, single_attenuation};
 use crate::greater::greater;
 use crate::joined::Joined;
 use crate::pair::Pair;
 use crate::single::Single;
-use fix_interval::Iv;
+use fix_interval::{Iv, exact, max, min};
 use path_shape::Path;
 use scene_geom::Band;
 use scene_parts::{Edge, NoMemory};
@@ -110,10 +112,77 @@ fn add_both(
     Ok(())
 }
 
+/// The greatest D_z of marked edges that rise above the line of sight and of each two of them, where one rises. Where all
+/// high ends under their logarithms are bounded, the greatest number decides, by one logarithm. Else each has a logarithm of
+/// its own: ten times one with an unbounded end has no bounds at all, but that of another edge has.
+pub(crate) fn best_over(
+    singles: &[Single],
+    pairs: &[Joined],
+    marks: &[bool],
+    band: Band,
+) -> Option<Iv>
+    ensures { result ≡ best_marked band marks.now singles.now pairs.now }
+{
+    match deciding_argument(singles, pairs, marks, band) {
+        Some(argument) => Some(double_attenuation(argument)),
+        None => best_pair(best_alone(singles, marks, band), pairs, marks, band),
+    }
+}
+
+/// The number of which D_z, as that of two edges, is the greatest, where an edge rises above the line of sight and all high
+/// ends are bounded. A single edge is at its 20 dB from 100 on, so its number counts as at most that.
+fn deciding_argument(singles: &[Single], pairs: &[Joined], marks: &[bool], band: Band) -> Option<Iv>
+    ensures { IfSome result (λ b. best_marked band marks.now singles.now pairs.now
+        ≡ Some (enc (attenuation double_limit (Known b)))) }
+{
+    let alone = greatest_above(singles, marks, band)?;
+    if !is_bounded(alone) {
+        return None;
+    }
+    let most = greatest_with_pairs(min(exact(100), alone), pairs, marks, band);
+    if is_bounded(most) { Some(most) } else { None }
+}
+
+/// Whether a high end is bounded.
+fn is_bounded(b: Iv) -> bool
+    ensures { result ≡ is_some b.hi }
+{
+    b.high().is_some()
+}
+
+/// The greatest that stands under the logarithm of a marked edge alone, where one rises above the line of sight.
+fn greatest_above(singles: &[Single], marks: &[bool], band: Band) -> Option<Iv>
+    ensures { IfSome result
+        (λ b. Decides single_limit b (prepared.best_alone band marks.now singles.now)) }
+{
+    let mut best = None;
+    for i in 0..singles.len() {
+        let single = &singles[i];
+        if is_marked(marks, i) && single.bend.edge.above {
+            best = greater(best, single.argument(band));
+        }
+    }
+    best
+}
+
+/// The greatest of a number and what stands under the logarithm of each two edges that are both marked.
+fn greatest_with_pairs(least: Iv, pairs: &[Joined], marks: &[bool], band: Band) -> Iv
+    ensures { Decides double_limit result
+        (greatest_from (Some (enc (attenuation double_limit (Known least))))
+        (marked_values marks.now (map (joined_value band) pairs.now))) }
+{
+    let mut best = least;
+    for joined in pairs {
+        if are_marked(marks, joined) {
+            best = max(best, joined.pair.argument(band));
+        }
+    }
+    best
+}
+
 /// The greatest D_z of a marked edge alone, where one rises above the line of sight.
-pub(crate) fn best_alone(singles: &[Single], marks: &[bool], band: Band) -> Option<Iv>
-    ensures { result ≡ greatest_from None
-        (map (known_single band) (filter single_is_above (marked marks.now singles.now))) }
+fn best_alone(singles: &[Single], marks: &[bool], band: Band) -> Option<Iv>
+    ensures { result ≡ prepared.best_alone band marks.now singles.now }
 {
     let mut best = None;
     for i in 0..singles.len() {
@@ -126,17 +195,12 @@ pub(crate) fn best_alone(singles: &[Single], marks: &[bool], band: Band) -> Opti
 }
 
 /// The greatest so far, and D_z of each two edges that are both marked.
-pub(crate) fn best_pair(
-    best: Option<Iv>,
-    pairs: &[Joined],
-    marks: &[bool],
-    band: Band,
-) -> Option<Iv>
+fn best_pair(best: Option<Iv>, pairs: &[Joined], marks: &[bool], band: Band) -> Option<Iv>
     ensures { result ≡ greatest_from best (marked_values marks.now (map (joined_value band) pairs.now)) }
 {
     let mut best = best;
     for joined in pairs {
-        if is_marked(marks, joined.first) && is_marked(marks, joined.second) {
+        if are_marked(marks, joined) {
             best = greater(best, joined.pair.attenuation(band));
         }
     }
@@ -155,6 +219,14 @@ pub(crate) fn greatest_argument(singles: &[Single], marks: &[bool], band: Band) 
         }
     }
     best
+}
+
+/// Whether the numbers of both edges are marked by true.
+fn are_marked(marks: &[bool], joined: &Joined) -> bool
+    ensures { let pair = joined.now in result
+        ≡ (prepared.is_marked marks.now pair.first && prepared.is_marked marks.now pair.second) }
+{
+    is_marked(marks, joined.first) && is_marked(marks, joined.second)
 }
 
 /// Whether a number is marked by true.

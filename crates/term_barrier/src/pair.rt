@@ -2,6 +2,7 @@
 
 ghost use Rattle.std.specs.Prelude.{◌≡◌};
 ghost use Rattle.fix_interval.specs.Tree.{Known, enc};
+ghost use Rattle.term_barrier.specs.Diffraction.{attenuation, double_limit};
 ghost use Rattle.term_barrier.specs.Edges.{FitsEdge};
 ghost use Rattle.term_barrier.specs.Prepared.{bend_of, both_of, pair_value, IsPair, IsConvexity};
 
@@ -60,11 +61,18 @@ impl Pair {
     pub(crate) fn attenuation(&self, band: Band) -> Iv
         ensures { result ≡ pair_value self.now band }
     {
+        double_attenuation(self.argument(band))
+    }
+
+    /// What stands under the logarithm in a band: 1 where sound doesn't bend over both edges.
+    pub(crate) fn argument(&self, band: Band) -> Iv
+        ensures { pair_value self.now band ≡ enc (attenuation double_limit (Known result)) }
+    {
         if let Truth::Never = self.convex {
-            return exact(0);
+            return exact(1);
         }
         let b = three_and(mul(at_two_edges(band, &self.apart, self.z), self.k));
-        pick(self.convex, double_attenuation(b), exact(0))
+        pick(self.convex, b, exact(1))
     }
 }
 

@@ -7,7 +7,7 @@ ghost use Rattle.term_barrier.specs.Limits.{IsGroundEffect, IsScreening};
 ghost use Rattle.term_barrier.specs.Screening.{marked, screening};
 
 use crate::formulas::{below_line, less_ground};
-use crate::gathering::{best_alone, best_pair, greatest_argument, prepare, prepare_pairs};
+use crate::gathering::{best_over, greatest_argument, prepare, prepare_pairs};
 use crate::joined::Joined;
 use crate::single::Single;
 use fix_interval::Iv;
@@ -64,8 +64,7 @@ impl Screens {
         ensures bounds { IsGroundEffect gr → IsScreening result }
     {
         let singles = self.singles.as_slice();
-        let alone = best_alone(singles, marks, band);
-        match best_pair(alone, self.pairs.as_slice(), marks, band) {
+        match best_over(singles, self.pairs.as_slice(), marks, band) {
             Some(best) => less_ground(best, gr),
             None => below_line(greatest_argument(singles, marks, band), gr),
         }

@@ -379,3 +379,43 @@ fn marks_leave_edges_out(rt: HostRuntime) -> Result<(), Fail> {
     }
     Ok(())
 }
+
+/// The edge with its side shrunk to a point: then nothing bounds what stands under its logarithm.
+fn at_a_point(edge: Edge) -> Edge
+    requires { FitsEdge edge }
+    ensures { FitsEdge result }
+{
+    let from = edge.side.from;
+    Edge {
+        side: Side { from, to: from },
+        ..edge
+    }
+}
+
+/// Marks, and the ends of A_bar at 1000 Hz of two edges, the second of which is without bounds.
+const BESIDE: [([bool; 2], (i128, i128)); 3] = [
+    ([true, true], (43_640_964_770, 107_374_182_400)),
+    ([true, false], (43_640_964_770, 43_640_968_800)),
+    ([false, true], (0, 85_899_345_920)),
+];
+
+#[test]
+fn an_edge_without_bounds_leaves_the_others_theirs(rt: HostRuntime) -> Result<(), Fail> {
+    let alloc = rt.alloc();
+    let (s, r) = (at((0, 0)), at((100_000, 0)));
+    let path = Path::direct(s, 2000, r, 2000);
+    let behind = edge(&((60_000, -50_000), (60_000, 50_000), 5000, true), s, r);
+    let before = edge(&((40_000, -50_000), (40_000, 50_000), 6000, true), s, r);
+    let (Some(behind), Some(before)) = (behind, before) else {
+        return Err(AllocError.into());
+    };
+    let edges = [behind, at_a_point(before)];
+    let Ok(screens) = Screens::of(alloc, &path, &edges, metres(10_000_000_000)) else {
+        return Err(AllocError.into());
+    };
+    for (marks, expected) in &BESIDE {
+        let attenuation = screens.a_bar(marks, ratio(0, 1), Band::Hz1000);
+        assert_eq!(rt; ends(attenuation), (Some(expected.0), Some(expected.1)));
+    }
+    Ok(())
+}
