@@ -16,7 +16,7 @@ use Rattle.fix_interval.specs.Round.{floor_of, ceil_of}
 use Rattle.fix_interval.specs.Values.{ratio_of, add_of, neg_of, mul_of}
 use Rattle.fix_interval.specs.Tree.{Known, Const, Add, Sub, Mul, Root, Lg, enc}
 use Rattle.fix_interval.specs.Lg.{lg_of, lg_low, lg_high, greatest, decade_of, digits_low, digits_high, turns}
-use Rattle.fix_interval.specs.Ranges.{from_to, constant, sum, negation, product, square_root, logarithm, sum_range, root_limit, root_range, logarithm_range}
+use Rattle.fix_interval.specs.Ranges.{is_inside, from_to, constant, sum, negation, product, square_root, logarithm, sum_range, root_limit, root_range, logarithm_range}
 use Rattle.enclose_log.proofs.LgRange.{logarithm-ranged}
 use Rattle.fix_interval.proofs.Ratios.{ratio_of-small}
 use Rattle.fix_interval.proofs.Rounding.{floor_of-mono, ceil_of-mono, floor_of-le-ceil_of, ceil_of-pos}
@@ -32,7 +32,7 @@ use Rattle.path_calc.specs.Contributions.{unscreened_level, reflection_level}
 use Rattle.path_calc.specs.Propagations.{IsReflectionLevel}
 use Rattle.path_calc.specs.Prepared.{IsEmission, IsSent}
 use Rattle.energy_sum.specs.Weather.{IsWeatherCorrection}
-use Rattle.path_calc.specs.Ranges.{IsPower, IsDirectivity, IsCorrection, IsWeight, IsOnMap, IsReflectedSquare, IsUnscreened, IsAtReceiver, IsHearable}
+use Rattle.path_calc.specs.Ranges.{IsPower, IsDirectivity, IsCorrection, IsWeight, IsOnMap, IsReflectedSquare, IsUnscreened, IsAtReceiver, IsHearable, IsSmall, IsSumOf}
 use Rattle.path_calc.specs.Hearing.{past}
 use Rattle.path_calc.specs.Levels.{IsLevel, IsLevelEnd}
 
@@ -67,11 +67,6 @@ unfolding unit
 directivity-within z p =
     ratio-between (neg_ℤ (pos 3000)) (pos 2000) z _ _ 100 (lit< tt) (abs-small z (omega (arith, ints, p.low)) (omega (arith, ints, p.high))) p.low p.high refl refl refl refl
 
-pub weight-within : (z : ℤ) → neg_ℤ (pos 300) ≤ℤ z → z ≤ℤ pos 20 → IsWeight (ratio_of z 10)
-unfolding unit
-weight-within z low high =
-    ratio-between (neg_ℤ (pos 300)) (pos 20) z _ _ 10 (lit< tt) (abs-small z (omega (arith, ints, low)) (omega (arith, ints, high))) low high refl refl refl refl
-
 -- ---- levels
 
 pub emission-within : (p : ℤ) (directivity : Interval) → IsPower p → IsCorrection directivity → IsEmission (enc (Add (Const p 100) (Known directivity)))
@@ -95,6 +90,35 @@ pub weighted-level : (level weight c_met : Interval) → IsAtReceiver level → 
 unfolding sum_range neg_of
 weighted-level level weight c_met p q w =
     between _ _ {t = Sub (Add (Known level) (Known weight)) (Known c_met)} (sum (sum (part-between _ _ p) (part-between _ _ q)) (negation (part-between _ _ w))) refl
+
+-- ---- small quantities
+
+-- what lies between small bounds is small
+pub small : (low high : ℤ) (i : Interval) → AreBetween low high i → is_inside (neg_ℤ (pos (2 ^ 120))) (pos (2 ^ 120)) (Some low) (Some high) ≡ true → IsSmall i
+small low high i h inside = between _ _ {t = Known i} (part-between low high h) inside
+
+pub small-divergence : (d : Interval) → IsDistance d → IsSmall (enc (divergence (Known d)))
+small-divergence d h = small _ _ (enc (divergence (Known d))) (divergence-between d h) refl
+
+pub small-absorption : (d : Interval) (alpha10 : ℕ) → alpha10 < 4096 → IsDistance d → IsSmall (enc (absorption (Known d) alpha10))
+small-absorption d alpha10 few h = small _ _ (enc (absorption (Known d) alpha10)) (absorption-between d alpha10 few h) refl
+
+-- the levels on the way to that before screening
+pub small-spread : (emission d : Interval) → IsSent emission → IsDistance d → IsSmall (enc (Sub (Known emission) (divergence (Known d))))
+unfolding sum_range neg_of
+small-spread emission d he hd =
+    between _ _ {t = Sub (Known emission) (divergence (Known d))} (sum (part-between _ _ he) (negation (part-between _ _ {t = divergence (Known d)} (divergence-between d hd)))) refl
+
+pub small-in_the_open : (emission d : Interval) (alpha10 : ℕ) → IsSent emission → IsDistance d → alpha10 < 4096 → IsSmall (enc (Sub (Sub (Known emission) (divergence (Known d))) (absorption (Known d) alpha10)))
+unfolding sum_range neg_of
+small-in_the_open emission d alpha10 he hd few =
+    between _ _ {t = Sub (Sub (Known emission) (divergence (Known d))) (absorption (Known d) alpha10)}
+    (sum (sum (part-between _ _ he) (negation (part-between _ _ {t = divergence (Known d)} (divergence-between d hd)))) (negation (part-between _ _ {t = absorption (Known d) alpha10} (absorption-between d alpha10 few hd)))) refl
+
+-- a level with the A-weight of its band
+pub small-weighted : (level weight : Interval) → IsAtReceiver level → IsWeight weight → IsSmall (add_of level weight)
+unfolding sum_range
+small-weighted level weight p q = between _ _ {t = Add (Known level) (Known weight)} (sum (part-between _ _ p) (part-between _ _ q)) refl
 
 -- ---- what walls reflect
 
@@ -159,6 +183,11 @@ level-reflected rho some few = by (nat_le rho 999) refl where
   by : (test : Bool) → nat_le rho 999 ≡ test → IsReflectionLevel (enc (reflection_level rho))
   by true e = part-reflected rho some (less e)
   by false e = rw (all e) all-reflected
+
+-- ---- sums of energies
+
+pub small-energies : (count : ℕ) (e : Interval) → count < 2 ^ 18 → IsSumOf count e → IsSmall e
+small-energies count e few h = wider _ _ _ _ e (omega (arith, ints)) (omega (arith, ints, few)) h
 
 -- ---- the level of a sum
 

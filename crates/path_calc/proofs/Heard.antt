@@ -12,7 +12,7 @@ use Rattle.fix_interval.specs.Tree.{Tree, Known, Const, Add, Sub, enc}
 use Rattle.energy_sum.specs.Energies.{energy_form}
 use Rattle.scene_geom.specs.declared.band.Band.{Band}
 use Rattle.scene_geom.specs.Bands.{all_bands, place_of}
-use Rattle.scene_parts.specs.Views.{Source, Receiver, Obstacle, Zone, Globals}
+use Rattle.scene_parts.specs.Views.{Source, Receiver, Zone, Globals}
 use Rattle.scene_parts.specs.declared.kinds.Air.{Air}
 use Rattle.scene_book.specs.Book.{Book}
 use Rattle.path_shape.specs.declared.path.Path.{Path}

@@ -4,14 +4,17 @@ pub mod Sums
 pub mod Zones
 pub mod Alike
 pub mod Heard
+pub mod AllSounds
 pub mod Reflecting
 pub mod Adding
 pub mod Sound
 pub mod Showing
 pub mod SameScreening
 pub mod Screened
+pub mod Uncrossed
 pub mod Fitting
 pub mod Numbered
 pub mod Stretching
 pub mod Tracing
 pub mod Corners
+pub mod SmallEnds

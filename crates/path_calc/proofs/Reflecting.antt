@@ -1,9 +1,9 @@
 -- Paths by way of walls that are found one after another, and what is known of each.
 use Rattle.std.proofs.Common.{◌≡◌, ℕ, zero, suc, ◌^◌, pos, ◌≤ℤ◌, subst, ◌+◌, ◌≤◌, ◌<◌, List, [], ◌∷◌, ◌++◌, length, drop, get_or, map, filter, refl, sym, ap, ◌∙◌, arith, append_assoc, append-nil}
-use Rattle.std.specs.Prelude.{Option, Some, None, Bool, true, false, All, IfSome, flat_map, slice_get, not, ◌==◌, ◌&&◌}
+use Rattle.std.specs.Prelude.{Option, Some, None, Bool, true, false, All, flat_map, slice_get, ◌==◌, ◌&&◌}
 use Rattle.std.specs.List.{filter_map}
 use Rattle.std.specs.Bool.{then_some}
-use Rattle.std.specs.Option.{option_map, option_to_list}
+use Rattle.std.specs.Option.{option_to_list}
 use Rattle.std.proofs.lemmas.Int.{ints}
 use Rattle.std.proofs.lemmas.List.{drop_more, map-append, length-append, length-map}
 use Rattle.std.proofs.lemmas.List.Elements.{All-nil, All-append, All-cons}
@@ -11,7 +11,7 @@ use Rattle.std.proofs.lemmas.Option.{slice_get_within, get_or_from_slice_get}
 use Rattle.fix_interval.specs.Interval.{Interval}
 use Rattle.fix_interval.specs.Values.{less_of}
 use Rattle.fix_interval.specs.declared.truth.Truth.{Truth}
-use Rattle.fix_interval.specs.Tree.{Tree, Known, enc}
+use Rattle.fix_interval.specs.Tree.{Known, enc}
 use Rattle.scene_geom.specs.declared.band.Band.{Band}
 use Rattle.scene_geom.specs.Bands.{all_bands, place_of}
 use Rattle.scene_geom.specs.declared.plan.Pt.{Pt}
@@ -21,10 +21,8 @@ use Rattle.scene_geom.proofs.Walls.{over-n}
 use Rattle.scene_geom.specs.declared.reflection.Reflection.{Reflection}
 use Rattle.scene_parts.specs.Views.{Obstacle, Zone, Globals}
 use Rattle.scene_parts.specs.Sides.{sides_of}
-use Rattle.scene_book.specs.Lists.{total}
 use Rattle.scene_book.specs.Book.{side_total}
 use Rattle.scene_parts.specs.declared.edge.Edge.{Edge}
-use Rattle.path_shape.specs.declared.path.Path.{Path}
 use Rattle.scene_parts.specs.declared.ends.Ends.{Ends}
 use Rattle.scene_parts.specs.declared.crossing.Crossing.{Crossing}
 use Rattle.scene_parts.specs.Crossings.{is_crossing_in}

@@ -61,7 +61,7 @@ pub edges-there : (book : Book) (s : Source) (r : Receiver) (band : Band) → ed
 edges-there book s r band = at-place (λ band. edges_in band (ends_of s r) book.obstacles) [] band
 
 -- an obstacle screens where an edge of those that are large enough rises above the line of sight
-above-in : (band : Band) (ends : Ends) (obstacles : List Obstacle) → list_any (screens_in band ends) obstacles ≡ list_any (λ (edge : Edge). edge.above) (edges_in band ends obstacles)
+pub above-in : (band : Band) (ends : Ends) (obstacles : List Obstacle) → list_any (screens_in band ends) obstacles ≡ list_any (λ (edge : Edge). edge.above) (edges_in band ends obstacles)
 above-in band ends [] = refl
 above-in band ends (o ∷ obstacles) = by (counts_in band ends o) refl (above-in band ends obstacles) where
   by : (test : Bool) → counts_in band ends o ≡ test → list_any (screens_in band ends) obstacles ≡ list_any (λ (edge : Edge). edge.above) (edges_in band ends obstacles)

@@ -1,5 +1,5 @@
 -- The formulas of energies and levels are sound: no divisor of a constant is 0.
-use Rattle.std.proofs.Common.{ℕ, zero, suc, ◌*◌, ◌<◌, ℤ, pos, negsuc, lit<, List, [], ◌∷◌, ◌++◌, map, Option, arith}
+use Rattle.std.proofs.Common.{ℕ, ◌*◌, ◌<◌, ℤ, pos, negsuc, lit<, List, [], ◌∷◌, ◌++◌, map, Option, arith}
 use Rattle.std.specs.Prelude.{Some, None, fold, ◌<ℤ◌, unsigned_abs, slice_index_or}
 use Rattle.std.proofs.lemmas.Int.{ints}
 use Rattle.std.specs.Option.{option_map}
@@ -18,7 +18,7 @@ use Rattle.scene_geom.specs.Bands.{all_bands, place_of}
 use Rattle.path_calc.specs.LateralPaths.{LateralPath}
 use Rattle.path_calc.specs.ReflectedPaths.{ReflectedPath, path_along}
 use Rattle.path_calc.specs.Surroundings.{Surroundings, path_of, ends_of, edges_at, laterals_at, surroundings_of}
-use Rattle.path_calc.specs.Contributions.{Counting, Always, WhereGreater, Contribution, power_in, emission, ground_in, screening_in, sound_past, lateral_sound, leading, reflected_ground_in, reflected_screening_in, reflection_level, reflected_sound, sounds_of, contributions}
+use Rattle.path_calc.specs.Contributions.{Counting, Always, WhereGreater, Contribution, power_in, emission, ground_in, screening_in, sound_past, lateral_sound, leading, reflected_ground_in, reflection_level, reflected_sound, sounds_of, contributions}
 use Rattle.path_calc.specs.Lengths.{distance, reflected_distance}
 use Rattle.path_calc.specs.Energies.{where_counting, long_term, correction_of, energy_of, long_energy_of, band_energy, long_energy_in, long_energy, band_energy_between, long_energy_between}
 use Rattle.path_calc.specs.Show.{sources_within, total_form, band_form}

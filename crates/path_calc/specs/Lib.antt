@@ -11,6 +11,7 @@ pub mod Trace
 pub mod Contributions
 pub mod Energies
 pub mod Bundles
+pub mod Seen
 pub mod Levels
 pub mod Show
 pub mod Laws

@@ -85,3 +85,7 @@ most_sounds = 3 + most_sides
 -- the sum of the energies of so many sounds
 abbrev pub IsSumOf : ℕ → Interval → Type 0
 IsSumOf count e = AreBetween (pos 0) (pos (count * sound_limit)) e
+
+-- both ends are at most 2^120 units from 0, so that the ends of a sum and of a difference are bounded
+abbrev pub IsSmall : Interval → Type 0
+IsSmall i = AreBetween (neg_ℤ (pos (2 ^ 120))) (pos (2 ^ 120)) i

@@ -26,23 +26,11 @@ impl Model for Bundle {
 
     ghost Value = { BundleSeen };
 
-    ghost view = { λ b. record {
-      source = b.source;
-      at = b.at;
-      h = b.h;
-      segs = b.segs;
-      energy = b.energy;
-      long = b.long;
-    } };
+    ghost use Rattle.path_calc.specs.Seen.{bundle_seen};
 
-    ghost invariant = { λ b. IsBundle (record {
-      source = b.source;
-      at = b.at;
-      h = b.h;
-      segs = b.segs;
-      energy = b.energy;
-      long = b.long;
-    }) };
+    ghost view = { bundle_seen };
+
+    ghost invariant = { λ b. IsBundle (bundle_seen b) };
 }
 
 impl Bundle {

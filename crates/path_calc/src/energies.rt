@@ -13,7 +13,8 @@ use crate::hearing::{Heard, heard_in};
 use crate::paths::{Paths, paths_between};
 use crate::prepared::{PreparedReceiver, PreparedSource};
 use crate::segments::Segs;
-use fix_interval::{Iv, add, exact};
+use crate::small_sums::plus;
+use fix_interval::{Iv, exact};
 use scene_book::Scene;
 use scene_geom::Band;
 use scene_parts::{NoMemory, PointSource, Receiver};
@@ -101,7 +102,7 @@ fn long_sum(bands: &[Heard; 8]) -> Iv
 {
     let mut sum = exact(0);
     for heard in bands {
-        sum = add(sum, heard.long);
+        sum = plus(sum, heard.long);
     }
     sum
 }

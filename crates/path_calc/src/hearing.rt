@@ -10,21 +10,21 @@ ghost use Rattle.path_calc.specs.Weights.{weight_in};
 ghost use Rattle.path_calc.specs.Prepared.{IsEmission, IsSent};
 ghost use Rattle.path_calc.specs.Ranges.{IsUnscreened, IsAtReceiver, IsHearable};
 ghost use Rattle.path_calc.specs.Propagations.{IsPropagation};
-ghost use Rattle.path_calc.specs.Ranges.{AreInRange, IsWeight, IsSumOf, most_sounds};
+ghost use Rattle.path_calc.specs.Ranges.{AreInRange, IsWeight, IsSmall, IsSumOf, most_sounds};
 ghost use Rattle.scene_book.specs.Limits.{most_sides};
 ghost use Rattle.path_calc.specs.Hearing.{energy_after, long_energy_after, sum_after, past, with_energy};
 ghost use Rattle.path_calc.specs.Hearing.{downwind_energy, long_term_energy, reflected_energy};
 ghost use Rattle.path_calc.specs.Hearing.{level_before as level_form};
 
 use crate::absorption::coefficient;
-use crate::numbers::tenths;
 use crate::paths::Paths;
 use crate::prepared::PreparedSource;
 use crate::propagation::Propagation;
 use crate::reflected::Reflected;
+use crate::small_sums::{minus, plus};
 use crate::weights::weight_of;
 use energy_sum::energy;
-use fix_interval::{Iv, add, exact, pick, sub};
+use fix_interval::{Iv, exact, pick};
 use scene_geom::Band;
 use term_div_atm::a_atm;
 
@@ -71,14 +71,16 @@ fn heard_of(paths: &Paths, band: Band, emission: Iv) -> Heard
 
 /// What is heard, and beside it what walls reflect of an emission.
 fn with_reflected(heard: Heard, reflected: &[Reflected], band: Band, emission: Iv) -> Heard
+    requires energy { IsSumOf 3 heard.energy }
+    requires long { IsSumOf 3 heard.long }
     requires few { length reflected.now ≤ most_sides }
     requires emission { IsEmission emission }
     ensures energy { result.energy ≡ enc (fold Add (Known heard.energy)
         (map (reflected_energy downwind_energy band emission) reflected.now)) }
     ensures long { result.long ≡ enc (fold Add (Known heard.long)
         (map (reflected_energy (long_term_energy band) band emission) reflected.now)) }
-    ensures energy_bounds { IsSumOf 3 heard.energy → IsSumOf most_sounds result.energy }
-    ensures long_bounds { IsSumOf 3 heard.long → IsSumOf most_sounds result.long }
+    ensures energy_bounds { IsSumOf most_sounds result.energy }
+    ensures long_bounds { IsSumOf most_sounds result.long }
 {
     let mut all = heard;
     for path in reflected {
@@ -108,6 +110,8 @@ fn heard_by_way(reflected: &Reflected, band: Band, emission: Iv) -> Heard
 
 /// What is heard, and beside it the sound of a level that goes round a side, where it does.
 fn with_lateral(heard: Heard, level: Iv, screening: Option<Iv>, c_met: Iv, band: Band) -> Heard
+    requires energy { IsSmall heard.energy }
+    requires long { IsSmall heard.long }
     requires level { IsUnscreened level }
     requires screening { IfSome screening IsScreening }
     requires weather { IsWeatherCorrection c_met }
@@ -126,12 +130,16 @@ fn with_lateral(heard: Heard, level: Iv, screening: Option<Iv>, c_met: Iv, band:
 
 /// What is heard of two sounds.
 fn both(a: Heard, b: Heard) -> Heard
+    requires first_energy { IsSmall a.energy }
+    requires first_long { IsSmall a.long }
+    requires second_energy { IsSmall b.energy }
+    requires second_long { IsSmall b.long }
     ensures energy { result.energy ≡ add_of a.energy b.energy }
     ensures long { result.long ≡ add_of a.long b.long }
 {
     Heard {
-        energy: add(a.energy, b.energy),
-        long: add(a.long, b.long),
+        energy: plus(a.energy, b.energy),
+        long: plus(a.long, b.long),
     }
 }
 
@@ -143,8 +151,8 @@ fn level_before(propagation: &Propagation, band: Band, emission: Iv) -> Iv
     ensures range { IsUnscreened result }
 {
     let absorption = a_atm(propagation.distance, coefficient(propagation.air, band));
-    let in_the_open = sub(sub(emission, propagation.divergence), absorption);
-    sub(in_the_open, propagation.ground_in(band))
+    let in_the_open = minus(minus(emission, propagation.divergence), absorption);
+    minus(in_the_open, propagation.ground_in(band))
 }
 
 /// The energies of a level in a band, past what screens it, where C_met is this.
@@ -157,7 +165,7 @@ fn heard_past(level: Iv, screening: Iv, c_met: Iv, band: Band) -> Heard
     ensures energy_bounds { IsSumOf 1 result.energy }
     ensures long_bounds { IsSumOf 1 result.long }
 {
-    heard_at(sub(level, screening), c_met, band)
+    heard_at(minus(level, screening), c_met, band)
 }
 
 /// The energies of a level in a band, where C_met is this.
@@ -195,7 +203,7 @@ fn long_energy_at(level: Iv, c_met: Iv, band: Band, energy: Iv) -> Iv
     if weight_of(band) == 0 && is_nothing(c_met) {
         energy
     } else {
-        energy_at(sub(add(level, weight_in_decibels(band)), c_met))
+        energy_at(minus(plus(level, weight_in_decibels(band)), c_met))
     }
 }
 
@@ -207,11 +215,21 @@ fn is_nothing(i: Iv) -> bool
 }
 
 /// The A-weight of a band in dB.
+#[tactic(auto, unfolding(fix_interval::specs::Values::ratio_of, fix_interval::specs::Units::unit))]
 fn weight_in_decibels(band: Band) -> Iv
     ensures value { result ≡ enc (Const (weight_in band) 10) }
     ensures bounds { IsWeight result }
 {
-    tenths(weight_of(band))
+    match band {
+        Band::Hz63 => Iv::of_ends(Some(-112_528_143_156), Some(-112_528_143_155)),
+        Band::Hz125 => Iv::of_ends(Some(-69_148_973_466), Some(-69_148_973_465)),
+        Band::Hz250 => Iv::of_ends(Some(-36_936_718_746), Some(-36_936_718_745)),
+        Band::Hz500 => Iv::of_ends(Some(-13_743_895_348), Some(-13_743_895_347)),
+        Band::Hz1000 => Iv::of_ends(Some(0), Some(0)),
+        Band::Hz2000 => Iv::of_ends(Some(5_153_960_755), Some(5_153_960_756)),
+        Band::Hz4000 => Iv::of_ends(Some(4_294_967_296), Some(4_294_967_296)),
+        Band::Hz8000 => Iv::of_ends(Some(-4_724_464_026), Some(-4_724_464_025)),
+    }
 }
 
 /// What is heard of no sound.

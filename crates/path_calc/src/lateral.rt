@@ -1,5 +1,5 @@
 //! By how much sound is screened that goes round the sides of what screens (ISO 9613-2, 7.4, equation 13).
-ghost use Rattle.std.specs.Prelude.{◌≡◌, ◌++◌, flat_map, length, IfOk, OnOk};
+ghost use Rattle.std.specs.Prelude.{◌≡◌, ◌++◌, flat_map, IfOk, OnOk};
 ghost use Rattle.scene_parts.specs.Ranges.{IsHeight};
 ghost use Rattle.sight_cut.specs.Cuts.{crossings_of};
 ghost use Rattle.path_calc.specs.Ranges.{IsOnMap, IsLateralScreening, AreLateralScreenings};
@@ -26,30 +26,6 @@ pub(crate) struct LateralScreening {
 pub(crate) struct LateralBands {
     pub(crate) left: [Option<Iv>; 8],
     pub(crate) right: [Option<Iv>; 8],
-}
-
-impl LateralBands {
-    /// D_z round the left in each band.
-    pub(crate) fn lefts(&self) -> [Option<Iv>; 8]
-        requires { length self.now.left ≡ 8 }
-        ensures { result ≡ self.now.left }
-    {
-        let all = &self.left;
-        [
-            all[0], all[1], all[2], all[3], all[4], all[5], all[6], all[7],
-        ]
-    }
-
-    /// D_z round the right in each band.
-    pub(crate) fn rights(&self) -> [Option<Iv>; 8]
-        requires { length self.now.right ≡ 8 }
-        ensures { result ≡ self.now.right }
-    {
-        let all = &self.right;
-        [
-            all[0], all[1], all[2], all[3], all[4], all[5], all[6], all[7],
-        ]
-    }
 }
 
 /// What all bands share of a line of sight: the obstacles, the ends, the crossings, and how far source and receiver are
@@ -90,10 +66,57 @@ impl<'a> Sight<'a> {
         strings.turn_to(alloc, obstacles, ends, self.crossings, band, trace)?;
         Ok(strings.d_z(self.ends, self.d, band))
     }
+
+    /// D_z round the sides in each band. Bands in which the same obstacles screen share their strings. The segments of all
+    /// strings are added to the trace.
+    fn d_z(&self, trace: &mut Segs) -> Result<LateralBands, NoMemory>
+        requires source_height { IsHeight self.now.ends.hs }
+        requires receiver_height { IsHeight self.now.ends.hr }
+        requires distance { IsOnMap self.now.d }
+        requires crossings { self.now.crossings.now ≡ crossings_of self.now.ends self.now.obstacles.now }
+        ensures value { IfOk result (λ lateral. (band : Band)
+            → both_of (lateral_of lateral.left lateral.right band)
+            ≡ d_z_over self.now.ends self.now.obstacles.now self.now.d band) }
+        ensures bounds { IfOk result AreLateralScreenings }
+        ensures trace { OnOk result (trace.new ≡ trace.old
+            ++ flat_map (segments_in_band self.now.ends self.now.obstacles.now) all_bands) }
+    {
+        let mut strings = Strings::none(self.alloc);
+        let at_63 = self.d_z_in(&mut strings, Band::Hz63, trace)?;
+        let at_125 = self.d_z_in(&mut strings, Band::Hz125, trace)?;
+        let at_250 = self.d_z_in(&mut strings, Band::Hz250, trace)?;
+        let at_500 = self.d_z_in(&mut strings, Band::Hz500, trace)?;
+        let at_1000 = self.d_z_in(&mut strings, Band::Hz1000, trace)?;
+        let at_2000 = self.d_z_in(&mut strings, Band::Hz2000, trace)?;
+        let at_4000 = self.d_z_in(&mut strings, Band::Hz4000, trace)?;
+        let at_8000 = self.d_z_in(&mut strings, Band::Hz8000, trace)?;
+        Ok(LateralBands {
+            left: [
+                at_63.left,
+                at_125.left,
+                at_250.left,
+                at_500.left,
+                at_1000.left,
+                at_2000.left,
+                at_4000.left,
+                at_8000.left,
+            ],
+            right: [
+                at_63.right,
+                at_125.right,
+                at_250.right,
+                at_500.right,
+                at_1000.right,
+                at_2000.right,
+                at_4000.right,
+                at_8000.right,
+            ],
+        })
+    }
 }
 
 /// D_z round the sides in each band, of the obstacles that screen there, where source and receiver are `d` apart in
-/// metres. Bands in which the same obstacles screen share their strings. The segments of all strings are added to the trace.
+/// metres: none where nothing crosses the line of sight. The segments of all strings are added to the trace.
 pub(crate) fn lateral_screening(
     alloc: Global,
     obstacles: &[Obstacle],
@@ -112,6 +135,12 @@ pub(crate) fn lateral_screening(
     ensures trace { OnOk result (trace.new ≡ trace.old
         ++ flat_map (segments_in_band ends obstacles.now) all_bands) }
 {
+    if crossings.is_empty() {
+        return Ok(LateralBands {
+            left: [None; 8],
+            right: [None; 8],
+        });
+    }
     let sight = Sight {
         alloc,
         obstacles,
@@ -119,35 +148,5 @@ pub(crate) fn lateral_screening(
         crossings,
         d,
     };
-    let mut strings = Strings::none(alloc);
-    let at_63 = sight.d_z_in(&mut strings, Band::Hz63, trace)?;
-    let at_125 = sight.d_z_in(&mut strings, Band::Hz125, trace)?;
-    let at_250 = sight.d_z_in(&mut strings, Band::Hz250, trace)?;
-    let at_500 = sight.d_z_in(&mut strings, Band::Hz500, trace)?;
-    let at_1000 = sight.d_z_in(&mut strings, Band::Hz1000, trace)?;
-    let at_2000 = sight.d_z_in(&mut strings, Band::Hz2000, trace)?;
-    let at_4000 = sight.d_z_in(&mut strings, Band::Hz4000, trace)?;
-    let at_8000 = sight.d_z_in(&mut strings, Band::Hz8000, trace)?;
-    Ok(LateralBands {
-        left: [
-            at_63.left,
-            at_125.left,
-            at_250.left,
-            at_500.left,
-            at_1000.left,
-            at_2000.left,
-            at_4000.left,
-            at_8000.left,
-        ],
-        right: [
-            at_63.right,
-            at_125.right,
-            at_250.right,
-            at_500.right,
-            at_1000.right,
-            at_2000.right,
-            at_4000.right,
-            at_8000.right,
-        ],
-    })
+    sight.d_z(trace)
 }

@@ -21,6 +21,7 @@ mod results;
 mod screening;
 mod screening_obstacles;
 mod segments;
+mod small_sums;
 mod steps;
 mod strings;
 #[cfg(test)]

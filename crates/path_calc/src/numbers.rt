@@ -10,10 +10,3 @@ pub(crate) fn hundredths(level: i32) -> Iv
 {
     ratio(level.into(), 100)
 }
-
-/// Tenths of a decibel, in dB.
-pub(crate) fn tenths(level: i32) -> Iv
-    ensures { result ≡ enc (Const level 10) }
-{
-    ratio(level.into(), 10)
-}

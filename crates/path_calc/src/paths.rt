@@ -5,7 +5,7 @@ ghost use Rattle.path_calc.specs.Ranges.{AreInRange, IsLateralScreening};
 ghost use Rattle.path_calc.specs.Strings.{both_of};
 ghost use Rattle.path_calc.specs.Trace.{trace_of};
 
-use crate::lateral::{LateralScreening, lateral_screening};
+use crate::lateral::{LateralBands, LateralScreening, lateral_screening};
 use crate::lengths::distance;
 use crate::prepared::{PreparedReceiver, PreparedSource};
 use crate::propagation::{Between, Propagation};
@@ -65,7 +65,7 @@ pub(crate) fn paths_between(
     let crossings = crossings(alloc, obstacles, ends)?;
     let direct = between.along(&path, distance, crossings.as_slice())?;
     trace.push(Seg::Straight(source.at, receiver.at))?;
-    let lateral = lateral_screening(
+    let LateralBands { left, right } = lateral_screening(
         alloc,
         obstacles,
         ends,
@@ -77,8 +77,8 @@ pub(crate) fn paths_between(
     add_walls(trace, reflected.as_slice())?;
     Ok(Paths {
         direct,
-        left: lateral.lefts(),
-        right: lateral.rights(),
+        left,
+        right,
         reflected,
     })
 }

@@ -5,7 +5,7 @@ ghost use Rattle.term_barrier.specs.Edges.{FitsEdge};
 ghost use Rattle.term_barrier.specs.Limits.{IsGroundEffect, IsScreening};
 ghost use Rattle.path_calc.specs.Hearing.{edges_among, bar_over, bars_over};
 
-use fix_interval::Iv;
+use fix_interval::{Iv, exact};
 use path_shape::Path;
 use scene_geom::Band;
 use scene_parts::{Crossing, Edge, NoMemory};
@@ -13,7 +13,7 @@ use std::alloc::Global;
 use term_barrier::Screens;
 
 /// A_bar of a direct path in each band (ISO 9613-2, 7.4), of the crossings of its line of sight, where its length and A_gr
-/// in each band are known. What the bands share of the edges is calculated once.
+/// in each band are known: 0 dB where nothing crosses it. What the bands share of the edges is calculated once.
 pub(crate) fn over_top(
     alloc: Global,
     crossings: &[Crossing],
@@ -27,6 +27,9 @@ pub(crate) fn over_top(
         (λ band. edges_among band crossings.now) distance ground.now) }
     ensures bounds { IfOk result (All IsScreening) }
 {
+    if crossings.is_empty() {
+        return Ok([exact(0); 8]);
+    }
     let edges = edges(alloc, crossings)?;
     let screens = Screens::of(alloc, path, edges.as_slice(), distance)?;
     bars(alloc, crossings, &screens, ground)

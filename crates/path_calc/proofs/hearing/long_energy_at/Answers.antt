@@ -1,13 +1,25 @@
-use Rattle.std.proofs.Common.{sym, ap, ◌∙◌, rules, to_z}
+use Rattle.std.proofs.Common.{refl, sym, ap, ◌∙◌, rules, to_z}
 use Rattle.std.specs.Int.{w32}
 use Rattle.std.proofs.Math.Facts.{to_z-of_z}
-use Rattle.path_calc.proofs.Bounds.{weighted-level}
+use Rattle.path_calc.proofs.Bounds.{weighted-level, small, small-weighted}
 use Rattle.path_calc.proofs.Heard.{unweighted}
 use Rattle.path_calc.proofs.hearing.long_energy_at.Goals as goal
 
+pub plus-requires-clause-first : goal.plus-requires-clause-first
+plus-requires-clause-first c = small _ _ c.args.level c.requires.level refl
+
+pub plus-requires-clause-second : goal.plus-requires-clause-second
+plus-requires-clause-second c = small _ _ c.weight_in_decibels.result c.weight_in_decibels.ensures.bounds refl
+
+pub minus-requires-clause-first : goal.minus-requires-clause-first
+minus-requires-clause-first c = rw (c.plus.ensures) (small-weighted c.args.level c.weight_in_decibels.result c.requires.level c.weight_in_decibels.ensures.bounds)
+
+pub minus-requires-clause-second : goal.minus-requires-clause-second
+minus-requires-clause-second c = small _ _ c.args.c_met c.requires.weather refl
+
 pub energy_at-requires : goal.energy_at-requires
 energy_at-requires c =
-    rw (c.sub.ensures, c.add.ensures) (weighted-level c.args.level c.weight_in_decibels.result c.args.c_met c.requires.level c.weight_in_decibels.ensures.bounds c.requires.weather)
+    rw (c.minus.ensures, c.plus.ensures) (weighted-level c.args.level c.weight_in_decibels.result c.args.c_met c.requires.level c.weight_in_decibels.ensures.bounds c.requires.weather)
 
 pub returns-then-is_nothing-clause-value : goal.returns-then-is_nothing-clause-value
 returns-then-is_nothing-clause-value c =

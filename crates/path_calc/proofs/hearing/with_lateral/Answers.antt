@@ -1,6 +1,13 @@
 use Rattle.std.proofs.Common.{arith}
+use Rattle.path_calc.proofs.Bounds.{small-energies}
 use Rattle.path_calc.proofs.Sums.{sums-added, more-sounds}
 use Rattle.path_calc.proofs.hearing.with_lateral.Goals as goal
+
+pub both-requires-clause-second_energy : goal.both-requires-clause-second_energy
+both-requires-clause-second_energy c = small-energies 1 c.heard_past.result.energy (omega arith) c.heard_past.ensures.energy_bounds
+
+pub both-requires-clause-second_long : goal.both-requires-clause-second_long
+both-requires-clause-second_long c = small-energies 1 c.heard_past.result.long (omega arith) c.heard_past.ensures.long_bounds
 
 pub returns-in-Some-clause-energy_bounds : goal.returns-in-Some-clause-energy_bounds
 returns-in-Some-clause-energy_bounds c = λ n few bounds.

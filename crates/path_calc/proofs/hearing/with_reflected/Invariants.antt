@@ -10,6 +10,6 @@ abbrev pub invariant-loop-path : goal.invariant-loop-path
 invariant-loop-path l = record {
   energy : l.all.energy ≡ enc (fold Add (Known l.fn.heard.energy) (map (reflected_energy downwind_energy l.band l.emission) (take l.path-index l.reflected)));
   long : l.all.long ≡ enc (fold Add (Known l.fn.heard.long) (map (reflected_energy (long_term_energy l.band) l.band l.emission) (take l.path-index l.reflected)));
-  energy_bounds : IsSumOf 3 l.fn.heard.energy → IsSumOf (3 + l.path-index) l.all.energy;
-  long_bounds : IsSumOf 3 l.fn.heard.long → IsSumOf (3 + l.path-index) l.all.long;
+  energy_bounds : IsSumOf (3 + l.path-index) l.all.energy;
+  long_bounds : IsSumOf (3 + l.path-index) l.all.long;
 }

@@ -1,24 +1,14 @@
-use Rattle.std.proofs.Common.{ap, ◌∙◌, ◌++◌, List}
-use Rattle.scene_geom.specs.declared.band.Band.TheVariants.{Hz63, Hz125, Hz250, Hz500, Hz1000, Hz2000, Hz4000, Hz8000}
-use Rattle.path_calc.specs.declared.segments.Seg.{Seg}
-use Rattle.path_calc.specs.Tracing.{segments_in_band}
-use Rattle.path_calc.proofs.Tracing.{numbers-placed, none-before, after-is, eight-added}
+use Rattle.std.proofs.Common.{sym, ◌∙◌}
+use Rattle.path_calc.proofs.Stretching.{nothing-in}
+use Rattle.path_calc.proofs.Uncrossed.{no-screening, no-segments}
 use Rattle.path_calc.proofs.lateral.lateral_screening.Goals as goal
 
-pub d_z_in-requires-clause-strings : goal.d_z_in-requires-clause-strings
-d_z_in-requires-clause-strings c = c.none-strings.ensures.stretched c.args.ends c.args.obstacles.now
+pub returns-then-is_empty-clause-value : goal.returns-then-is_empty-clause-value
+returns-then-is_empty-clause-value c = λ band.
+    no-screening band c.args.ends c.args.obstacles.now c.args.d
+    (sym c.requires.crossings ∙ nothing-in c.args.crossings.now _ c.is_empty.ensures c.if-is_empty.true)
 
-pub returns-clause-trace : goal.returns-clause-trace
-returns-clause-trace c =
-    let ends = c.args.ends in
-    let obstacles = c.args.obstacles.now in
-    eight-added (segments_in_band ends obstacles) c.args.trace.now c.d_z_in.new.trace c.d_z_in-2.new.trace c.d_z_in-3.new.trace c.d_z_in-4.new.trace
-    c.d_z_in-5.new.trace c.d_z_in-6.new.trace c.d_z_in-7.new.trace c.d_z_in-8.new.trace
-    (c.in_ok-at_63.ensures.trace ∙ ap (λ (l : List Seg). c.args.trace.now ++ l) (after-is Hz63 ends obstacles _ (none-before ends obstacles _ c.none-strings.ensures.numbers)))
-    (c.in_ok-at_125.ensures.trace ∙ ap (λ (l : List Seg). c.d_z_in.new.trace ++ l) (after-is Hz125 ends obstacles _ (c.in_ok-at_63.ensures.numbers ∙ numbers-placed Hz63 ends obstacles)))
-    (c.in_ok-at_250.ensures.trace ∙ ap (λ (l : List Seg). c.d_z_in-2.new.trace ++ l) (after-is Hz250 ends obstacles _ (c.in_ok-at_125.ensures.numbers ∙ numbers-placed Hz125 ends obstacles)))
-    (c.in_ok-at_500.ensures.trace ∙ ap (λ (l : List Seg). c.d_z_in-3.new.trace ++ l) (after-is Hz500 ends obstacles _ (c.in_ok-at_250.ensures.numbers ∙ numbers-placed Hz250 ends obstacles)))
-    (c.in_ok-at_1000.ensures.trace ∙ ap (λ (l : List Seg). c.d_z_in-4.new.trace ++ l) (after-is Hz1000 ends obstacles _ (c.in_ok-at_500.ensures.numbers ∙ numbers-placed Hz500 ends obstacles)))
-    (c.in_ok-at_2000.ensures.trace ∙ ap (λ (l : List Seg). c.d_z_in-5.new.trace ++ l) (after-is Hz2000 ends obstacles _ (c.in_ok-at_1000.ensures.numbers ∙ numbers-placed Hz1000 ends obstacles)))
-    (c.in_ok-at_4000.ensures.trace ∙ ap (λ (l : List Seg). c.d_z_in-6.new.trace ++ l) (after-is Hz4000 ends obstacles _ (c.in_ok-at_2000.ensures.numbers ∙ numbers-placed Hz2000 ends obstacles)))
-    (c.in_ok-at_8000.ensures.trace ∙ ap (λ (l : List Seg). c.d_z_in-7.new.trace ++ l) (after-is Hz8000 ends obstacles _ (c.in_ok-at_4000.ensures.numbers ∙ numbers-placed Hz4000 ends obstacles)))
+pub returns-then-is_empty-clause-trace : goal.returns-then-is_empty-clause-trace
+returns-then-is_empty-clause-trace c =
+    no-segments c.args.ends c.args.obstacles.now c.args.trace.now
+    (sym c.requires.crossings ∙ nothing-in c.args.crossings.now _ c.is_empty.ensures c.if-is_empty.true)

@@ -1,6 +1,5 @@
 use Rattle.std.proofs.Common.{◌≡◌, ap, sym, subst, ◌∙◌, List, [], ◌∷◌, ◌++◌, map}
-use Rattle.std.specs.Prelude.{All, Option, flat_map}
-use Rattle.fix_interval.specs.Interval.{Interval}
+use Rattle.std.specs.Prelude.{All, flat_map}
 use Rattle.fix_interval.specs.Tree.{enc}
 use Rattle.scene_geom.specs.declared.band.Band.{Band}
 use Rattle.scene_geom.specs.Bands.{all_bands}
@@ -14,7 +13,7 @@ use Rattle.term_barrier.specs.Edges.{FitsEdge}
 use Rattle.path_calc.specs.Lengths.{distance}
 use Rattle.path_calc.specs.ReflectedPaths.{reflected_paths}
 use Rattle.path_calc.specs.Surroundings.{path_of, ends_of}
-use Rattle.path_calc.specs.Strings.{both_of, lateral_of, d_z_over}
+use Rattle.path_calc.specs.Strings.{d_z_over}
 use Rattle.path_calc.specs.declared.segments.Seg.{Seg}
 use Rattle.path_calc.specs.declared.segments.Seg.TheVariants.{Straight}
 use Rattle.path_calc.specs.Propagations.{Reflected}
@@ -47,10 +46,8 @@ returns-clause-value c =
       direct = direct-is c.in_ok-direct.direct book s r d found length
           (c.as_slice.ensures.value ∙ c.in_ok-crossings.ensures ∙ ap (λ (e : Ends). crossings_of e c.obstacles-obstacles.result.now) ends ∙ ap (crossings_of (ends_of s r)) c.obstacles-obstacles.ensures.value)
           (c.in_ok-direct.ensures.value ∙ ap (λ (p : Path). propagation_along book.globals book.zones p d found) path);
-      lateral = λ (band : Band). lateral-is (record { direct = c.in_ok-direct.direct; left = c.lefts.result; right = c.rights.result; reflected = c.in_ok-reflected.reflected }) book s r d band length (
-          ap (λ (is : List (Option Interval)). both_of (lateral_of is c.rights.result band)) c.lefts.ensures
-          ∙ ap (λ (is : List (Option Interval)). both_of (lateral_of c.in_ok-lateral.lateral.left is band)) c.rights.ensures
-          ∙ c.in_ok-lateral.ensures.value band
+      lateral = λ (band : Band). lateral-is (record { direct = c.in_ok-direct.direct; left = c.in_ok-left.field-0.left; right = c.in_ok-left.field-0.right; reflected = c.in_ok-reflected.reflected }) book s r d band length (
+          c.in_ok-left.ensures.value band
           ∙ ap (λ (os : List Obstacle). d_z_over (record { s = c.source.inside.at; hs = c.source.inside.h; r = c.receiver.inside.at; hr = c.receiver.inside.h }) os d band) c.obstacles-obstacles.ensures.value
           ∙ ap (λ (e : Ends). d_z_over e book.obstacles d band) ends);
       reflected = c.in_ok-reflected.ensures.value ∙ ap (λ (e : Ends). map (reflected_of book.globals e) (reflected_paths book.obstacles book.zones e)) ends;
@@ -66,7 +63,7 @@ returns-clause-trace c =
     ap (λ (s : Source). record { s = s.at; hs = s.h; r = c.receiver.inside.at; hr = c.receiver.inside.h }) c.source.view_is ∙ ap (λ (r : Receiver). ends_of s r) c.receiver.view_is in
     trace-whole c.args.trace.now c.push.new.self c.lateral_screening.new.trace c.add_walls.new.trace book s r
     (c.in_ok-push.ensures ∙ ap (λ (e : Ends). c.args.trace.now ++ Straight e.s e.r ∷ []) ends)
-    (c.in_ok-lateral.ensures.trace
+    (c.in_ok-left.ensures.trace
     ∙ ap (λ (os : List Obstacle). c.push.new.self ++ flat_map (segments_in_band there os) all_bands) c.obstacles-obstacles.ensures.value
     ∙ ap (λ (e : Ends). c.push.new.self ++ flat_map (segments_in_band e book.obstacles) all_bands) ends)
     (c.in_ok-add_walls.ensures

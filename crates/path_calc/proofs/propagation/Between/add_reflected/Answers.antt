@@ -1,9 +1,7 @@
-use Rattle.std.proofs.Common.{◌≡◌, ◌++◌, ◌∙◌, [], drop, map, ap, sym, append-nil, arith}
-use Rattle.std.proofs.lemmas.List.{drop_all}
+use Rattle.std.proofs.Common.{◌≡◌, ◌++◌, ◌∙◌, [], ap, sym}
 use Rattle.scene_parts.specs.Views.{Obstacle}
 use Rattle.scene_parts.specs.Sides.{sides_of}
-use Rattle.path_calc.specs.Hearing.{reflected_of}
-use Rattle.path_calc.proofs.Reflecting.{by_sides, side-added, nothing-reflected}
+use Rattle.path_calc.proofs.Reflecting.{side-added, nothing-reflected}
 use Rattle.path_calc.proofs.propagation.Between.add_reflected.Goals as goal
 
 pub loop-i-preserved : goal.loop-i-preserved

@@ -1,4 +1,4 @@
-use Rattle.std.proofs.Common.{sym, subst, ◌∙◌, ap}
+use Rattle.std.proofs.Common.{sym, ◌∙◌}
 use Rattle.path_calc.proofs.Reflecting.{none-added, one-added, unfolded-there}
 use Rattle.path_calc.proofs.propagation.Between.add_side.Goals as goal
 

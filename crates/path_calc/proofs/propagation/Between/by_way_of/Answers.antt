@@ -1,6 +1,5 @@
 use Rattle.std.proofs.Common.{◌≡◌, ap, sym, subst, ◌∙◌, List, map}
 use Rattle.std.specs.Prelude.{All}
-use Rattle.fix_interval.specs.Interval.{Interval}
 use Rattle.fix_interval.specs.Values.{less_of}
 use Rattle.fix_interval.specs.Tree.{Known, enc}
 use Rattle.scene_geom.specs.Bands.{all_bands}
@@ -8,7 +7,6 @@ use Rattle.scene_geom.specs.declared.reflection.Reflection.{Reflection}
 use Rattle.scene_parts.specs.Views.{Obstacle}
 use Rattle.path_shape.specs.declared.path.Path.{Path}
 use Rattle.scene_parts.specs.declared.crossing.Crossing.{Crossing}
-use Rattle.image_source.specs.declared.leg.Leg.{Leg}
 use Rattle.image_source.specs.Mirrors.{IsMirror}
 use Rattle.image_source.specs.Dimensions.{dimension_squared, needed_squared}
 use Rattle.image_source.specs.LegCuts.{leg_crossings_of}

@@ -1,0 +1,15 @@
+use Rattle.std.proofs.Common.{◌∙◌}
+use Rattle.fix_interval.specs.Values.{neg_of}
+use Rattle.fix_interval.proofs.Intervals.{IsInterval-add_of, IsInterval-neg_of}
+use Rattle.path_calc.proofs.SmallEnds.{minus-found}
+use Rattle.path_calc.proofs.small_sums.minus.Goals as goal
+
+pub of_ends-requires : goal.of_ends-requires
+of_ends-requires c =
+    rw (minus-found c.args.a c.args.b c.low_end.result c.high_end-2.result c.low_end-2.result c.high_end.result c.low_end.ensures.end c.high_end-2.ensures.end c.low_end-2.ensures.end c.high_end.ensures.end c.low_end.ensures.small c.high_end-2.ensures.small c.low_end-2.ensures.small c.high_end.ensures.small)
+    (IsInterval-add_of c.args.a (neg_of c.args.b) c.low_end.ensures.interval (IsInterval-neg_of c.args.b c.low_end-2.ensures.interval))
+
+pub returns : goal.returns
+returns c =
+    c.of_ends.ensures
+    ∙ minus-found c.args.a c.args.b c.low_end.result c.high_end-2.result c.low_end-2.result c.high_end.result c.low_end.ensures.end c.high_end-2.ensures.end c.low_end-2.ensures.end c.high_end.ensures.end c.low_end.ensures.small c.high_end-2.ensures.small c.low_end-2.ensures.small c.high_end.ensures.small
