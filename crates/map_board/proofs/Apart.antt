@@ -1,6 +1,6 @@
 -- Names that are apart: in lists after puts and removals, and of the sources of every scene that edits make.
 use Rattle.std.proofs.Common.{◌≡◌, ℕ, ◌*◌, length, Bool, true, false, cond, List, [], ◌∷◌, map, Some, None, refl, sym, ap, ◌∙◌, subst}
-use Rattle.std.specs.Prelude.{bytes_eq, Option, Result, Ok, Err, filter, is_some, Contains}
+use Rattle.std.specs.Prelude.{bytes_eq, Option, Result, Ok, Err, filter, is_some}
 use Rattle.scene_parts.specs.Answers.{◌>>◌}
 use Rattle.scene_parts.specs.Views.{Source, Receiver}
 use Rattle.scene_parts.specs.declared.parts.Part.{Part}
@@ -17,8 +17,8 @@ use Rattle.scene_book.specs.declared.edits.EditFault.{EditFault}
 use Rattle.path_calc.specs.Bundles.{Bundle, bundle_of}
 use Rattle.path_calc.specs.Lengths.{is_within}
 use Rattle.path_calc.specs.Show.{sources_within, bundles_of}
-use Rattle.touch_test.proofs.Lists.{In, here, there, contains, found-in}
-use Rattle.map_board.specs.Journal.{scene_left, book_after, book_after_all, newest_scene, scene_at}
+use Rattle.touch_test.proofs.Lists.{In, here, there}
+use Rattle.map_board.specs.Journal.{scene_left, book_after, book_after_all, newest_scene}
 use Rattle.map_board.proofs.Naming.{turned, same-name, itself}
 
 module _ {A : Type 0} (name_of : A → List ℕ) where

@@ -1,13 +1,12 @@
 -- Kept bundles that are right stay so after one more edit, with its marks.
-use Rattle.std.proofs.Common.{◌≡◌, ℕ, suc, ◌<◌, ◌≤◌, Bool, true, false, cond, List, [], ◌∷◌, ◌++◌, length, drop, map, Some, None, refl, sym, ap, ◌∙◌, subst, arith}
-use Rattle.std.specs.Prelude.{bytes_eq, Option, Result, Ok, Err, Contains, is_some, is_none, ◌||◌}
+use Rattle.std.proofs.Common.{◌≡◌, ℕ, suc, ◌≤◌, Bool, true, false, cond, List, [], ◌∷◌, ◌++◌, length, drop, map, Some, None, refl, sym, ap, ◌∙◌, subst}
+use Rattle.std.specs.Prelude.{Option, Result, Ok, Err, Contains, is_some, is_none, ◌||◌}
 use Rattle.std.specs.List.{list_any}
 use Rattle.std.specs.Option.{option_map_or}
 use Rattle.scene_geom.proofs.Blocking.{uncrossed_is_unblocked}
 use Rattle.scene_parts.specs.Views.{Source, Receiver}
 use Rattle.scene_parts.specs.declared.parts.Part.{Part}
 use Rattle.scene_book.specs.Book.{Book}
-use Rattle.scene_book.specs.Lists.{named, AreApart}
 use Rattle.scene_book.specs.Applying.{apply_of}
 use Rattle.scene_book.specs.declared.edits.Edit.{Edit}
 use Rattle.scene_book.specs.declared.edits.EditFault.{EditFault}
@@ -15,7 +14,7 @@ use Rattle.scene_book.proofs.EditLemmas.{accepted-changes}
 use Rattle.path_calc.specs.Bundles.{Bundle, bundle_of}
 use Rattle.path_calc.specs.Show.{sources_within, bundles_of}
 use Rattle.path_cache.specs.Refreshed.{CanRefresh, Stand, is_wanted, unmarked}
-use Rattle.touch_test.specs.Touches.{TracedPath, traced, bundled, old_part, changed_parts, is_set, edit_touches, touches_path, is_source_within, names_receiver, touches_receiver}
+use Rattle.touch_test.specs.Touches.{traced, bundled, old_part, changed_parts, is_set, edit_touches, touches_path, is_source_within, names_receiver, touches_receiver}
 use Rattle.touch_test.specs.Laws.{PathStays, UntouchedPathsStay, UntouchedReceiversStay}
 use Rattle.touch_test.proofs.Untouched.{untouched-paths-stay, untouched-receivers-stay}
 use Rattle.touch_test.proofs.Edits.{answers-old}
@@ -30,8 +29,8 @@ use Rattle.map_board.specs.Boards.{CacheIsRight}
 use Rattle.map_board.proofs.Naming.{named-is, same-name}
 use Rattle.map_board.proofs.Keeping.{none-of}
 use Rattle.map_board.proofs.Journals.{newest-more, at-more, through, some-more}
-use Rattle.map_board.proofs.Unmarked.{marks_of, left, length-marks, unmarked-after}
-use Rattle.map_board.proofs.Apart.{SourcesAreApart, found-named, some-named, same-thing, within-apart, newest-apart, accepted-apart}
+use Rattle.map_board.proofs.Unmarked.{left, length-marks, unmarked-after}
+use Rattle.map_board.proofs.Apart.{found-named, some-named, same-thing, within-apart, newest-apart, accepted-apart}
 
 path-stays : UntouchedPathsStay
 path-stays = untouched-paths-stay uncrossed_is_unblocked accepted-changes

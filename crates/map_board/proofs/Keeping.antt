@@ -1,5 +1,5 @@
 -- Rows found by name, after a change of one row and after an edit.
-use Rattle.std.proofs.Common.{◌≡◌, ℕ, suc, Bool, true, false, cond, List, [], ◌∷◌, ◌++◌, length, map, Some, None, refl, sym, ap, ◌∙◌}
+use Rattle.std.proofs.Common.{◌≡◌, ℕ, suc, Bool, true, false, cond, List, [], ◌∷◌, length, Some, None, refl, sym, ap, ◌∙◌}
 use Rattle.std.specs.Prelude.{bytes_eq, Option, is_some, Ok, unwrap_or}
 use Rattle.std.specs.Option.{option_map, option_and_then}
 use Rattle.scene_parts.specs.Views.{Receiver}

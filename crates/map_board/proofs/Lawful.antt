@@ -1,11 +1,11 @@
 -- After every history in which each seat asked only what it may, a call that it may ask meets the condition of its step.
-use Rattle.std.proofs.Common.{◌≡◌, ℕ, suc, ◌+◌, ◌≤◌, Bool, true, false, cond, eqb, List, [], ◌∷◌, ◌++◌, length, map, take, Some, None, refl, sym, ap, ◌∙◌, subst, arith, ◌⊎◌, inl, inr, append_assoc, length-append}
-use Rattle.std.specs.Prelude.{bytes_eq, Option, is_some, is_none, Result, Ok, Err, Contains, not, unwrap_or, ◌&&◌}
-use Rattle.std.specs.Option.{option_map, option_and_then}
+use Rattle.std.proofs.Common.{◌≡◌, ℕ, suc, ◌≤◌, Bool, true, false, cond, eqb, List, [], ◌∷◌, ◌++◌, length, Some, None, refl, sym, ap, ◌∙◌, subst, arith, ◌⊎◌, inl, inr, append_assoc, length-append}
+use Rattle.std.specs.Prelude.{bytes_eq, Option, is_some, Result, Ok, Err, Contains, not, ◌&&◌}
+use Rattle.std.specs.Option.{option_and_then}
 use Rattle.std.proofs.lemmas.List.{take-append-le, append-nil}
 use Rattle.std.proofs.lemmas.List.Elements.{Contains-push_cases}
 use Rattle.std.proofs.lemmas.Bool.Decides.{Decides-eqb}
-use Rattle.scene_parts.specs.Views.{Source, Receiver}
+use Rattle.scene_parts.specs.Views.{Receiver}
 use Rattle.scene_parts.specs.declared.parts.Part.{Part}
 use Rattle.scene_book.specs.Book.{Book}
 use Rattle.scene_book.specs.Lists.{named}
@@ -30,7 +30,7 @@ use Rattle.map_board.specs.Jobs.{IsOutFor, MayReturn, IsFit}
 use Rattle.map_board.specs.Machine.{Step, Can, rows_after, numbered, with_out, with_kept, rows_after_return}
 use Rattle.map_board.specs.Seats.{Entries, May, is_of, without_job, owed_after, owed}
 use Rattle.map_board.specs.Laws.{BoardIsLawful}
-use Rattle.map_board.proofs.Naming.{same_or_not, same-name, itself}
+use Rattle.map_board.proofs.Naming.{same_or_not, itself}
 use Rattle.map_board.proofs.Journals.{newest-more, at-more, first-kept, first-comes, none-after}
 use Rattle.map_board.proofs.Owing.{AddsNone, fewer-owed, owed-more, from-filter, passed}
 use Rattle.map_board.proofs.Keeping.{row-out, out-of, none-of, other-row, this-row, same-rows, other-out, edited-some, edited-named, edited-unnamed}

@@ -1,5 +1,5 @@
 -- The noted edits that name a receiver are those of the journal.
-use Rattle.std.proofs.Common.{◌≡◌, ℕ, zero, suc, ◌+◌, ◌<◌, ◌≤◌, Bool, true, false, cond, List, [], ◌∷◌, ◌++◌, length, take, drop, Some, None, refl, sym, ap, ◌∙◌, subst, arith, rules, tests, zero-add, add-zero}
+use Rattle.std.proofs.Common.{◌≡◌, ℕ, zero, suc, ◌+◌, ◌<◌, ◌≤◌, Bool, true, false, cond, List, [], ◌∷◌, ◌++◌, take, drop, Some, None, refl, sym, ap, ◌∙◌, arith, rules, tests, zero-add}
 use Rattle.std.specs.Prelude.{nat_lt, bytes_eq, Option, find, ◌||◌, ◌&&◌}
 use Rattle.std.specs.List.{list_any}
 use Rattle.std.specs.Option.{option_map, option_map_or, option_and_then, option_to_list}
@@ -12,11 +12,11 @@ use Rattle.scene_book.specs.Grid.{receivers_of}
 use Rattle.scene_book.specs.Applying.{replaced, part_named}
 use Rattle.scene_book.specs.declared.edits.Edit.{Edit}
 use Rattle.scene_book.specs.declared.edits.Edit.TheVariants as edits
-use Rattle.touch_test.specs.Touches.{old_part, is_receiver, names_receiver}
+use Rattle.touch_test.specs.Touches.{old_part, is_receiver}
 use Rattle.touch_test.proofs.Lists.{or_false}
 use Rattle.map_board.specs.declared.namings.NamedReceivers.{NamedReceivers}
 use Rattle.map_board.specs.declared.namings.Naming.{Naming}
-use Rattle.map_board.specs.Journal.{book_after, book_after_all, scene_at, first_from, first_naming, names}
+use Rattle.map_board.specs.Journal.{book_after, book_after_all, first_from, first_naming, names}
 use Rattle.map_board.specs.Namings.{named_part, naming_of, noted, namings_from, namings_of}
 use Rattle.map_board.specs.FirstNaming.{has_name, names_after, first_noted}
 use Rattle.map_board.proofs.Naming.{named-is, same-name}

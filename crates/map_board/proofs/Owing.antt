@@ -1,6 +1,6 @@
 -- What seats owe as a history grows.
-use Rattle.std.proofs.Common.{◌≡◌, ℕ, zero, suc, ◌<◌, Bool, true, false, cond, eqb, List, [], ◌∷◌, ◌++◌, length, filter, refl, sym, ap, ◌∙◌, subst, arith, ◌⊎◌, inl, inr}
-use Rattle.std.specs.Prelude.{Contains, not}
+use Rattle.std.proofs.Common.{◌≡◌, ℕ, suc, Bool, true, false, cond, eqb, List, [], ◌∷◌, ◌++◌, filter, refl, sym, ap, ◌∙◌, subst, arith, ◌⊎◌, inl, inr}
+use Rattle.std.specs.Prelude.{Contains}
 use Rattle.std.proofs.lemmas.List.{append-nil}
 use Rattle.std.proofs.lemmas.List.Elements.{filter-append, Contains-append_cases, Contains-append_left, Contains-push_cases}
 use Rattle.turn_lock.specs.declared.entry.Entry.{Entry}
@@ -8,7 +8,7 @@ use Rattle.turn_lock.specs.History.{entries_of}
 use Rattle.map_board.specs.declared.calls.BoardCall.{BoardCall}
 use Rattle.map_board.specs.declared.calls.BoardReply.{BoardReply}
 use Rattle.map_board.specs.Views.{Job}
-use Rattle.map_board.specs.Seats.{Entries, is_of, without_job, owed_after, owed_from, owed}
+use Rattle.map_board.specs.Seats.{Entries, owed_after, owed_from, owed}
 
 -- ---- elements of filtered lists
 

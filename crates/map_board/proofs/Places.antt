@@ -3,15 +3,19 @@ use Rattle.std.proofs.Common.{◌≡◌, ℕ, zero, suc, ◌+◌, ◌<◌, Bool,
 use Rattle.std.specs.Prelude.{bytes_eq, Option, slice_get, not, ◌&&◌, ◌||◌, count_by}
 use Rattle.std.specs.List.{list_any}
 use Rattle.std.specs.Option.{option_map}
+use Rattle.std.proofs.lemmas.List.Elements.{All-set}
 use Rattle.std.proofs.lemmas.List.Sums.{sum_by-cons}
 use Rattle.std.proofs.lemmas.Option.{slice_get-map, get_or_from_slice_get}
 use Rattle.scene_parts.specs.Views.{Receiver}
+use Rattle.scene_book.specs.Book.{Book}
 use Rattle.scene_book.specs.Lists.{NoneNamed, AreApart}
 use Rattle.scene_book.specs.declared.edits.Edit.{Edit}
+use Rattle.map_board.specs.declared.log.Log.{Log}
+use Rattle.map_board.specs.declared.namings.Naming.{Naming}
 use Rattle.map_board.specs.declared.rows.HeldRow.{HeldRow}
 use Rattle.map_board.specs.declared.rows.KeptLevels.{KeptLevels}
 use Rattle.map_board.specs.Rows.{Row, row_named, with_row, shown_kept, shown_of, shown_since, is_current, is_out, is_needy}
-use Rattle.map_board.specs.Boards.{kept_of, row_of, rows_of, shown_by, held_shown, is_held_needy, is_held_out, is_held_unsettled, ByIsRight, RowHolds, EachHolds, is_unsettled}
+use Rattle.map_board.specs.Boards.{kept_of, row_of, rows_of, shown_by, held_shown, is_held_needy, is_held_out, is_held_unsettled, ByIsRight, RowHolds, EachHolds, IsOutSince, IsBoard, is_unsettled}
 use Rattle.map_board.proofs.Naming.{turned, itself}
 
 -- ---- what stands at a place
@@ -55,7 +59,22 @@ each-set journal (x ∷ rs) (h ∷ hs) zero r new each found holds =
     let is : x ≡ r = cc found in (subst (λ (y : Receiver). RowHolds journal y new) (sym is) holds, each.1)
 each-set journal (x ∷ rs) (h ∷ hs) (suc i) r new each found holds = (each.0, each-set journal rs hs i r new each.1 found holds)
 
-none-here : (name : List ℕ) (rs : List Receiver) (i : ℕ) (r : Receiver) → NoneNamed (λ r. r.name) name rs → slice_get rs i ≡ Some r → bytes_eq name r.name ≡ false
+pub board-set : (version : ℕ) (journal : List Edit) (scene : Book) (hs : List HeldRow) (log : Log) (namings : List Naming) (i : ℕ) (r : Receiver) (new : HeldRow)
+    → IsBoard version journal scene hs log namings → slice_get scene.receivers i ≡ Some r → RowHolds journal r new → IsOutSince log.start new
+    → IsBoard version journal scene (set hs i new) log namings
+board-set version journal scene hs log namings i r new board receiver holds since = record {
+  newest = board.newest;
+  shows = board.shows;
+  few = board.few;
+  apart = board.apart;
+  each = each-set journal scene.receivers hs i r new board.each receiver holds;
+  accepted = board.accepted;
+  logged = board.logged;
+  reaches = All-set (IsOutSince log.start) hs i new since board.reaches;
+  named = board.named;
+}
+
+pub none-here : (name : List ℕ) (rs : List Receiver) (i : ℕ) (r : Receiver) → NoneNamed (λ r. r.name) name rs → slice_get rs i ≡ Some r → bytes_eq name r.name ≡ false
 none-here name [] i r none found = absurd (cc found)
 none-here name (x ∷ rs) zero r none found = let is : x ≡ r = cc found in ap (λ (y : Receiver). bytes_eq name y.name) (sym is) ∙ none.0
 none-here name (x ∷ rs) (suc i) r none found = none-here name rs i r none.1 found

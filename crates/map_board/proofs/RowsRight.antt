@@ -1,7 +1,7 @@
 -- Every step leaves all rows right.
-use Rattle.std.proofs.Common.{◌≡◌, ℕ, suc, ◌+◌, ◌≤◌, Bool, true, false, cond, List, [], ◌∷◌, ◌++◌, length, get_or, Some, None, refl, sym, ap, ◌∙◌, subst, arith, ◌⊎◌, inl, inr, length-append}
+use Rattle.std.proofs.Common.{◌≡◌, ℕ, suc, ◌≤◌, Bool, true, false, cond, List, [], ◌∷◌, ◌++◌, length, get_or, Some, None, refl, sym, ap, ◌∙◌, subst, arith, ◌⊎◌, inl, inr, length-append}
 use Rattle.std.specs.Prelude.{bytes_eq, Option, is_some, Ok, Err, All, unwrap_or}
-use Rattle.std.proofs.lemmas.List.Elements.{All-cons, All-head, All-tail, All-map, All-nil}
+use Rattle.std.proofs.lemmas.List.Elements.{All-cons, All-head, All-tail, All-map}
 use Rattle.scene_parts.specs.Views.{Receiver}
 use Rattle.scene_book.specs.Book.{Book}
 use Rattle.scene_book.specs.declared.edits.Edit.{Edit}
@@ -9,16 +9,14 @@ use Rattle.path_calc.specs.Levels.{levels_of}
 use Rattle.path_calc.specs.Show.{show_of}
 use Rattle.map_board.specs.declared.answers.Landed.TheVariants as landed
 use Rattle.map_board.specs.declared.calls.Took.TheVariants as took
-use Rattle.map_board.specs.declared.calls.BoardCall.{BoardCall}
 use Rattle.map_board.specs.declared.calls.BoardCall.TheVariants as calls
-use Rattle.map_board.specs.declared.calls.BoardReply.{BoardReply}
 use Rattle.map_board.specs.declared.calls.BoardReply.TheVariants as replies
 use Rattle.map_board.specs.Views.{Job, Answer}
 use Rattle.map_board.specs.Journal.{scene_at, newest_scene, book_after, names, first_naming}
-use Rattle.map_board.specs.Rows.{Kept, Row, State, row_named, with_row}
+use Rattle.map_board.specs.Rows.{Row, State, row_named, with_row}
 use Rattle.map_board.specs.Jobs.{IsOutFor, IsRight}
-use Rattle.map_board.specs.Machine.{Step, Can, new_row, row_after, rows_after, with_out, with_kept, rows_after_return}
-use Rattle.map_board.specs.Facts.{IsKeptRight, IsOutRight, RowIsRight, EachStepKeepsRowsRight}
+use Rattle.map_board.specs.Machine.{new_row, row_after, rows_after, with_out, with_kept, rows_after_return}
+use Rattle.map_board.specs.Facts.{RowIsRight, EachStepKeepsRowsRight}
 use Rattle.map_board.proofs.Journals.{at-more}
 
 -- ---- one row by name

@@ -1,16 +1,14 @@
 -- After every run looks show each receiver right.
-use Rattle.std.proofs.Common.{◌≡◌, ◌≢◌, ℕ, zero, suc, ◌+◌, ◌≤◌, Bool, true, false, cond, eqb, eq-eqb, List, [], ◌∷◌, ◌++◌, length, map, take, drop, flat_map, filter, Some, None, refl, sym, ap, ◌∙◌, subst, arith, inl, inr, append_assoc, length-append}
-use Rattle.std.specs.Prelude.{bytes_eq, Option, Result, Ok, Err, All, not, ◌&&◌, ◌||◌, unwrap_or, is_some}
+use Rattle.std.proofs.Common.{◌≡◌, ℕ, zero, suc, Bool, true, false, cond, eqb, eq-eqb, List, [], ◌∷◌, ◌++◌, length, map, take, drop, Some, None, refl, sym, ap, ◌∙◌, subst, arith, append_assoc}
+use Rattle.std.specs.Prelude.{bytes_eq, Option, Result, Ok, Err, All, not, ◌&&◌, ◌||◌, unwrap_or}
 use Rattle.std.specs.List.{list_any}
 use Rattle.std.specs.Option.{option_map}
 use Rattle.std.proofs.lemmas.List.{append-nil}
-use Rattle.std.proofs.lemmas.List.Concat.{flat_map-append, flat_map-cons}
-use Rattle.std.proofs.lemmas.List.Elements.{All-nil, All-cons, All-head, All-tail}
-use Rattle.std.proofs.lemmas.Bool.Decides.{Decides-eqb}
+use Rattle.std.proofs.lemmas.List.Concat.{flat_map-cons}
+use Rattle.std.proofs.lemmas.List.Elements.{All-nil, All-head, All-tail}
 use Rattle.scene_parts.specs.Views.{Receiver}
 use Rattle.scene_parts.specs.declared.parts.Part.{Part}
 use Rattle.scene_book.specs.Book.{Book, empty_book}
-use Rattle.scene_book.specs.Limits.{most_receivers}
 use Rattle.scene_book.specs.Lists.{named, AreApart}
 use Rattle.scene_book.specs.Applying.{apply_of}
 use Rattle.scene_book.specs.declared.edits.Edit.{Edit}
@@ -18,14 +16,13 @@ use Rattle.scene_book.specs.declared.edits.EditFault.{EditFault}
 use Rattle.path_calc.specs.Levels.{Levels}
 use Rattle.path_calc.specs.Show.{show_of}
 use Rattle.touch_test.specs.Touches.{touches_receiver}
-use Rattle.touch_test.specs.Laws.{AcceptedInTurn, ReceiverStays, UntouchedReceiversStayInTurn}
+use Rattle.touch_test.specs.Laws.{AcceptedInTurn, UntouchedReceiversStayInTurn}
 use Rattle.turn_lock.specs.declared.entry.Entry.{Entry}
-use Rattle.turn_lock.specs.History.{IsRun, EachAllowed, Leads, entries_of, entry}
+use Rattle.turn_lock.specs.History.{IsRun, EachAllowed, Leads, entries_of}
 use Rattle.turn_lock.proofs.Histories.{run_more, run_none}
 use Rattle.map_board.specs.declared.answers.Shown.{Shown}
 use Rattle.map_board.specs.declared.answers.Shown.TheVariants.{Current, Stale, New}
 use Rattle.map_board.specs.declared.answers.Landed.TheVariants as landed
-use Rattle.map_board.specs.declared.looks.LookRow.{LookRow}
 use Rattle.map_board.specs.declared.calls.Took.TheVariants as took
 use Rattle.map_board.specs.declared.calls.BoardCall.{BoardCall}
 use Rattle.map_board.specs.declared.calls.BoardCall.TheVariants as calls
@@ -33,13 +30,13 @@ use Rattle.map_board.specs.declared.calls.BoardReply.{BoardReply}
 use Rattle.map_board.specs.declared.calls.BoardReply.TheVariants as replies
 use Rattle.map_board.specs.Views.{Job}
 use Rattle.map_board.specs.Journal.{scene_left, book_after, book_after_all, scene_at, newest_scene, first_from, first_touching, touches, names, first_naming}
-use Rattle.map_board.specs.Rows.{Kept, Row, State, start, row_named, with_row, shown_kept, shown_since, shown_of, is_current, is_out, is_needy}
+use Rattle.map_board.specs.Rows.{Kept, Row, State, start, row_named, with_row, shown_kept, shown_since, shown_of, is_current, is_out}
 use Rattle.map_board.specs.Boards.{is_unsettled}
-use Rattle.map_board.specs.Machine.{Step, Can, numbered, new_row, row_after, rows_after, with_out, with_kept, rows_after_return, look_row, look_of}
+use Rattle.map_board.specs.Machine.{Step, numbered, new_row, row_after, rows_after, with_out, with_kept, rows_after_return, look_row}
 use Rattle.map_board.specs.Seats.{Entries, May, editor}
 use Rattle.map_board.specs.Facts.{IsKeptRight, RowIsRight}
-use Rattle.map_board.specs.Showing.{IsShownRight, IsRowOf, AreRowsOf, IsLookAt, settled_row, settled_rows, IsSettled, accepted_by, accepted_edits, ShowsRight, RunsShowRight}
-use Rattle.map_board.proofs.Journals.{newest-more, at-more}
+use Rattle.map_board.specs.Showing.{IsShownRight, AreRowsOf, settled_row, accepted_by, accepted_edits, RunsShowRight}
+use Rattle.map_board.proofs.Journals.{newest-more}
 use Rattle.map_board.proofs.Naming.{named-map}
 use Rattle.map_board.proofs.Unnamed.{unnamed-stays}
 use Rattle.map_board.proofs.Lawful.{board-is-lawful}

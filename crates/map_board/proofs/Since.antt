@@ -1,24 +1,24 @@
 -- Bundles of an earlier version, with the marks of all edits since.
 use Rattle.std.proofs.Common.{◌≡◌, ℕ, suc, ◌≤◌, Bool, true, false, cond, List, [], ◌∷◌, ◌++◌, length, take, drop, map, Some, None, refl, sym, ap, ◌∙◌, subst, arith, append_assoc, length-append, length-take}
-use Rattle.std.specs.Prelude.{bytes_eq, Option, Ok, Contains, is_some, is_none, ◌||◌, min}
+use Rattle.std.specs.Prelude.{bytes_eq, Option, Contains, is_some, is_none, ◌||◌}
 use Rattle.std.specs.Option.{option_map}
 use Rattle.std.proofs.lemmas.List.{append-nil, take-append-drop, take_all}
 use Rattle.scene_parts.specs.Views.{Source, Receiver}
 use Rattle.scene_book.specs.Book.{Book, empty_book}
-use Rattle.scene_book.specs.Lists.{named, AreApart}
+use Rattle.scene_book.specs.Lists.{named}
 use Rattle.scene_book.specs.declared.edits.Edit.{Edit}
 use Rattle.path_calc.specs.Bundles.{Bundle, bundle_of}
 use Rattle.path_calc.specs.Levels.{Levels}
 use Rattle.path_calc.specs.Show.{sources_within, bundles_of}
-use Rattle.path_cache.specs.Refreshed.{CanRefresh, Stand, is_wanted, unmarked}
-use Rattle.touch_test.specs.Touches.{traced, bundled, old_part, edit_touches_any, touches_receiver}
+use Rattle.path_cache.specs.Refreshed.{unmarked}
+use Rattle.touch_test.specs.Touches.{bundled, old_part, edit_touches_any, touches_receiver}
 use Rattle.touch_test.proofs.Edits.{bundled-traced}
 use Rattle.touch_test.proofs.Lists.{found-in}
 use Rattle.map_board.specs.Journal.{book_after, book_after_all, scene_at, newest_scene, first_from, first_after, first_touching, touches, AreAccepted}
 use Rattle.map_board.specs.Rows.{Kept}
 use Rattle.map_board.specs.Due.{source_within, touches_source, is_due}
-use Rattle.map_board.specs.Held.{AreWithin, no_marks}
-use Rattle.map_board.specs.Log.{entry_of, entries_from, entries_after}
+use Rattle.map_board.specs.Held.{no_marks}
+use Rattle.map_board.specs.Log.{entries_from, entries_after}
 use Rattle.map_board.specs.Marks.{marks_after}
 use Rattle.map_board.specs.Later.{marks_after_all, first_entry_touching}
 use Rattle.map_board.proofs.Journals.{newest-more, none-after, through}

@@ -1,20 +1,19 @@
 -- A job for a needy row, and the row after it was taken.
-use Rattle.std.proofs.Common.{◌≡◌, ℕ, suc, ◌+◌, ◌<◌, ◌≤◌, Bool, true, false, cond, List, [], ◌∷◌, length, get_or, take, set, Some, None, refl, sym, ap, ◌∙◌, subst, arith}
-use Rattle.std.specs.Prelude.{Option, Contains, IsSomeAnd, IsSome, slice_get, is_some, not, ◌&&◌, count_by, min, ◌-◌, ◌^◌}
+use Rattle.std.proofs.Common.{◌≡◌, ℕ, suc, ◌+◌, ◌<◌, Bool, true, false, cond, List, [], ◌∷◌, length, get_or, take, set, Some, None, refl, sym, ap, ◌∙◌, subst, arith}
+use Rattle.std.specs.Prelude.{Option, Contains, IsSomeAnd, slice_get, is_some, not, ◌&&◌, count_by}
 use Rattle.std.specs.List.{list_any}
 use Rattle.std.specs.Option.{option_map}
 use Rattle.std.specs.declared.sync.Arc.{Arc}
 use Rattle.std.specs.declared.alloc.Global.{Global}
 use Rattle.std.proofs.lemmas.List.{take_all}
 use Rattle.std.proofs.lemmas.Option.{slice_get_within, get_or_from_slice_get}
-use Rattle.std.proofs.lemmas.List.Elements.{All-set}
 use Rattle.std.proofs.lemmas.List.Sums.{sum_by-cons}
 use Rattle.scene_parts.specs.Views.{Source, Receiver}
 use Rattle.scene_book.specs.Book.{Book, empty_book}
 use Rattle.scene_book.specs.declared.edits.Edit.{Edit}
 use Rattle.path_calc.specs.Bundles.{Bundle}
 use Rattle.path_calc.specs.Show.{sources_within}
-use Rattle.path_cache.specs.Refreshed.{CanRefresh, Stand, is_wanted, count_wanted}
+use Rattle.path_cache.specs.Refreshed.{CanRefresh, Stand, is_wanted}
 use Rattle.map_board.specs.declared.log.Log.{Log}
 use Rattle.map_board.specs.declared.namings.Naming.{Naming}
 use Rattle.map_board.specs.declared.rows.Cache.{Cache}
@@ -25,13 +24,13 @@ use Rattle.map_board.specs.declared.scenes.PreparedScene.{PreparedScene}
 use Rattle.map_board.specs.Views.{Job}
 use Rattle.map_board.specs.Held.{AreWithin, IsJobOf}
 use Rattle.map_board.specs.Journal.{book_after_all, scene_at, newest_scene}
-use Rattle.map_board.specs.Rows.{Kept, Row, Counts, State, row_named, with_row, one_more, shown_of, shown_since, is_current, is_out, is_needy}
+use Rattle.map_board.specs.Rows.{Row, State, row_named, with_row, one_more, shown_of, shown_since, is_current, is_needy}
 use Rattle.map_board.specs.Due.{is_due, due_of}
 use Rattle.map_board.specs.Jobs.{IsFit}
 use Rattle.map_board.specs.Machine.{with_out, TakesJob, IsIdle}
-use Rattle.map_board.specs.Boards.{kept_of, row_of, rows_of, counts_of, shown_by, is_held_needy, is_held_out, CacheIsRight, CacheIsThere, SceneIsThere, RowHolds, EachHolds, IsOutSince, IsBoard, NeedyAt, IsNeedyAt}
+use Rattle.map_board.specs.Boards.{kept_of, row_of, rows_of, counts_of, shown_by, is_held_needy, is_held_out, CacheIsRight, CacheIsThere, SceneIsThere, RowHolds, EachHolds, IsBoard, NeedyAt, IsNeedyAt}
 use Rattle.map_board.proofs.Keeping.{none-of, this-row}
-use Rattle.map_board.proofs.Places.{At, at-place, held-at, held-needy, any-needy, count-held, each-lengths, rows-lengths, each-set, row-at, rows-set}
+use Rattle.map_board.proofs.Places.{At, at-place, held-at, held-needy, any-needy, count-held, each-lengths, rows-lengths, board-set, row-at, rows-set}
 use Rattle.map_board.proofs.RowsRight.{taken-right}
 
 -- ---- what a needy row has
@@ -117,17 +116,9 @@ holds-out journal r held version newest needy holds = record {
 pub board-out : (version : ℕ) (journal : List Edit) (scene : Book) (hs : List HeldRow) (log : Log) (namings : List Naming) (place : ℕ) (r : Receiver) (held : HeldRow)
     → IsBoard version journal scene hs log namings → slice_get scene.receivers place ≡ Some r → is_held_needy held ≡ true → RowHolds journal r held
     → IsBoard version journal scene (set hs place (row_out version held)) log namings
-board-out version journal scene hs log namings place r held board receiver needy holds = record {
-  newest = board.newest;
-  shows = board.shows;
-  few = board.few;
-  apart = board.apart;
-  each = each-set journal scene.receivers hs place r (row_out version held) board.each receiver (holds-out journal r held version board.newest needy holds);
-  accepted = board.accepted;
-  logged = board.logged;
-  reaches = All-set (IsOutSince log.start) hs place (row_out version held) (omega (arith, board.newest, board.logged.past)) board.reaches;
-  named = board.named;
-}
+board-out version journal scene hs log namings place r held board receiver needy holds =
+    board-set version journal scene hs log namings place r (row_out version held) board receiver (holds-out journal r held version board.newest needy holds)
+    (omega (arith, board.newest, board.logged.past))
 
 -- ---- from a board as it is seen
 

@@ -1,6 +1,6 @@
 -- Unmarked bundles after an edit's marks.
-use Rattle.std.proofs.Common.{◌≡◌, ℕ, zero, suc, ◌+◌, ◌<◌, Bool, true, false, cond, List, [], ◌∷◌, ◌++◌, length, map, get_or, set, take, drop, Some, None, refl, sym, ap, ◌∙◌, subst, arith, add-one, append_assoc}
-use Rattle.std.specs.Prelude.{bytes_eq, Option, not, ◌&&◌, ◌||◌}
+use Rattle.std.proofs.Common.{◌≡◌, ℕ, suc, ◌+◌, ◌<◌, Bool, true, false, cond, List, [], ◌∷◌, ◌++◌, length, map, get_or, set, take, drop, Some, None, refl, sym, ap, ◌∙◌, subst, arith, add-one, append_assoc}
+use Rattle.std.specs.Prelude.{bytes_eq, Option, ◌||◌}
 use Rattle.std.specs.List.{zip}
 use Rattle.std.proofs.Math.Seq.{drop-cons, take-suc, take-suc-set}
 use Rattle.std.proofs.lemmas.List.{drop-set-lt}

@@ -1,21 +1,21 @@
 -- A receiver that an edit doesn't name stays as it is.
-use Rattle.std.proofs.Common.{◌≡◌, ℕ, Bool, true, false, cond, List, [], ◌∷◌, ◌++◌, map, Some, None, refl, sym, ap, ◌∙◌, subst}
-use Rattle.std.specs.Prelude.{bytes_eq, Option, Ok, find, ◌||◌}
+use Rattle.std.proofs.Common.{◌≡◌, ℕ, Bool, true, false, List, [], ◌∷◌, ◌++◌, Some, None, refl, sym, ap, ◌∙◌}
+use Rattle.std.specs.Prelude.{bytes_eq, Option, Ok, ◌||◌}
 use Rattle.std.specs.List.{list_any}
-use Rattle.std.specs.Option.{option_or, option_to_list, option_map}
+use Rattle.std.specs.Option.{option_or, option_to_list}
 use Rattle.std.proofs.lemmas.List.Folds.{find-append}
-use Rattle.scene_parts.specs.Views.{Source, Obstacle, Zone, Receiver, Grid, Setting}
+use Rattle.scene_parts.specs.Views.{Receiver}
 use Rattle.scene_parts.specs.declared.parts.Part.{Part}
 use Rattle.scene_parts.specs.declared.parts.Part.TheVariants as parts
 use Rattle.scene_book.specs.Lists.{named}
 use Rattle.scene_book.specs.Book.{Book}
 use Rattle.scene_book.specs.Grid.{receivers_of}
 use Rattle.scene_book.specs.Applying.{apply_of, replaced, part_named}
-use Rattle.scene_book.specs.Laws.{Edited, PutsInTurn, ListsEdited, Changes, pieces_of, pieces_of_any, no_pieces}
+use Rattle.scene_book.specs.Laws.{Edited, PutsInTurn, Changes, pieces_of, pieces_of_any}
 use Rattle.scene_book.specs.declared.edits.Edit.{Edit}
 use Rattle.scene_book.specs.declared.edits.Edit.TheVariants as edits
 use Rattle.scene_book.proofs.EditLemmas.{accepted-changes}
-use Rattle.touch_test.specs.Touches.{old_part, is_receiver, names_receiver, changed_parts, puts_by_grid}
+use Rattle.touch_test.specs.Touches.{is_receiver}
 use Rattle.map_board.specs.Journal.{names}
 use Rattle.map_board.proofs.Naming.{turned, named-is, same-name}
 

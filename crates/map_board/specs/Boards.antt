@@ -1,5 +1,5 @@
 -- What a board holds, and what it keeps.
-use Rattle.std.specs.Prelude.{◌≡◌, ℕ, ◌≤◌, Bool, true, false, ◌&&◌, ◌||◌, not, is_some, List, [], ◌∷◌, length, map, slice_get, All, Contains, IsSome, IsSomeAnd, IfSome, Option, Some, None}
+use Rattle.std.specs.Prelude.{◌≡◌, ℕ, ◌≤◌, Bool, true, ◌&&◌, ◌||◌, not, is_some, List, [], ◌∷◌, length, map, slice_get, All, Contains, IsSome, IsSomeAnd, IfSome, Option, Some, None}
 use Rattle.std.specs.List.{zip}
 use Rattle.std.specs.Option.{option_map}
 use Rattle.scene_parts.specs.Views.{Source, Receiver}

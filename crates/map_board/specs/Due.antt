@@ -1,5 +1,5 @@
 -- How many bundles have to be calculated for a row.
-use Rattle.std.specs.Prelude.{ℕ, Bool, true, false, ◌||◌, is_some, is_none, List, length, count_by, Option, Some, None}
+use Rattle.std.specs.Prelude.{ℕ, Bool, true, false, ◌||◌, is_some, is_none, List, count_by, Option, Some, None}
 use Rattle.std.specs.Option.{option_map_or}
 use Rattle.scene_parts.specs.Views.{Source, Receiver}
 use Rattle.scene_book.specs.Book.{Book}

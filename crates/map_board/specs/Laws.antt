@@ -1,6 +1,6 @@
 -- What holds of the board after any calls.
 use Rattle.turn_lock.specs.History.{Lawful}
-use Rattle.map_board.specs.Rows.{State, start}
+use Rattle.map_board.specs.Rows.{start}
 use Rattle.map_board.specs.Machine.{Step, Can}
 use Rattle.map_board.specs.Seats.{May}
 

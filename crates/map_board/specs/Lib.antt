@@ -1,4 +1,5 @@
 pub mod Views
+pub mod Seen
 pub mod Held
 pub mod Journal
 pub mod Rows
@@ -11,9 +12,9 @@ pub mod Marks
 pub mod Log
 pub mod Namings
 pub mod Later
-pub mod Back
 pub mod FirstNaming
 pub mod Boards
+pub mod Back
 pub mod Changes
 pub mod Seats
 pub mod Laws

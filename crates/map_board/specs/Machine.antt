@@ -1,5 +1,5 @@
 -- The board as a machine: what each call answers, and the state that it leaves.
-use Rattle.std.specs.Prelude.{◌≡◌, ℕ, suc, Bool, true, false, List, [], ◌∷◌, ◌++◌, length, map, count_by, Option, Some, None, unwrap_or, Result, Ok, Err, if◌then◌else◌}
+use Rattle.std.specs.Prelude.{◌≡◌, ℕ, suc, true, false, List, [], ◌∷◌, ◌++◌, length, map, count_by, Option, Some, None, unwrap_or, Result, Ok, Err, if◌then◌else◌}
 use Rattle.std.specs.List.{list_any}
 use Rattle.scene_parts.specs.Views.{Receiver}
 use Rattle.scene_parts.specs.declared.parts.Part.{Part}
@@ -21,7 +21,7 @@ use Rattle.map_board.specs.declared.calls.BoardReply.{BoardReply}
 use Rattle.map_board.specs.declared.calls.BoardReply.TheVariants as replies
 use Rattle.map_board.specs.Views.{Job, Answer}
 use Rattle.map_board.specs.Journal.{book_after, newest_scene, names, first_naming}
-use Rattle.map_board.specs.Rows.{Kept, Row, Counts, State, one_more, four_counts, row_named, with_row, shown_of, is_out, is_needy}
+use Rattle.map_board.specs.Rows.{Kept, Row, State, one_more, four_counts, row_named, with_row, shown_of, is_out, is_needy}
 use Rattle.map_board.specs.Due.{due_of}
 use Rattle.map_board.specs.Jobs.{MayReturn, IsFit, IsRight}
 

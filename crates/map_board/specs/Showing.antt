@@ -1,12 +1,11 @@
 -- What looks at a board show, after any calls: the headline's facts.
-use Rattle.std.specs.Prelude.{◌≡◌, ℕ, ◌≤◌, ◌==◌, Bool, false, List, [], ◌∷◌, map, length, flat_map, Option, Some, Ok, Result}
+use Rattle.std.specs.Prelude.{◌≡◌, ◌≤◌, false, List, [], ◌∷◌, map, length, flat_map, Some, Ok}
 use Rattle.std.specs.List.{list_any}
 use Rattle.scene_parts.specs.Views.{Receiver}
 use Rattle.scene_book.specs.Book.{Book}
 use Rattle.scene_book.specs.Limits.{most_receivers}
 use Rattle.scene_book.specs.declared.edits.Edit.{Edit}
 use Rattle.path_calc.specs.Show.{show_of}
-use Rattle.turn_lock.specs.declared.entry.Entry.{Entry}
 use Rattle.turn_lock.specs.History.{IsRun, entries_of}
 use Rattle.map_board.specs.declared.answers.Shown.{Shown}
 use Rattle.map_board.specs.declared.answers.Shown.TheVariants.{Current, Stale, New}

@@ -32,28 +32,15 @@ pub struct Job {
 
 impl Model for Job {
     ghost use Rattle.map_board.specs.Views.{Job as JobSeen};
-    ghost use Rattle.path_cache.specs.Refreshed.{count_wanted};
-    ghost use Rattle.map_board.specs.Held.{IsJob};
 
     ghost Value = { JobSeen };
 
-    ghost view = { λ j. record {
-      version = j.version;
-      receiver = j.receiver.value;
-      scene = j.hold.value.scene;
-      kept = j.kept.items;
-      marks = j.marks.items;
-      due = count_wanted j.hold.value.scene j.receiver.value j.kept.items j.marks.items;
-    } };
+    ghost use Rattle.map_board.specs.Held.{IsJob};
+    ghost use Rattle.map_board.specs.Seen.{job_seen};
 
-    ghost invariant = { λ j. IsJob j.place (record {
-      version = j.version;
-      receiver = j.receiver.value;
-      scene = j.hold.value.scene;
-      kept = j.kept.items;
-      marks = j.marks.items;
-      due = count_wanted j.hold.value.scene j.receiver.value j.kept.items j.marks.items;
-    }) };
+    ghost view = { job_seen };
+
+    ghost invariant = { λ j. IsJob j.place (job_seen j) };
 }
 
 /// What was calculated for a job. Contracts see it as a record of the version, the receiver, the scene, the bundles and
@@ -71,25 +58,15 @@ pub struct Answer {
 
 impl Model for Answer {
     ghost use Rattle.map_board.specs.Views.{Answer as AnswerSeen};
-    ghost use Rattle.map_board.specs.Held.{IsAnswer};
 
     ghost Value = { AnswerSeen };
 
-    ghost view = { λ a. record {
-      version = a.version;
-      receiver = a.receiver.value;
-      scene = a.hold.value.scene;
-      bundles = a.bundles.items;
-      levels = a.levels;
-    } };
+    ghost use Rattle.map_board.specs.Held.{IsAnswer};
+    ghost use Rattle.map_board.specs.Seen.{answer_seen};
 
-    ghost invariant = { λ a. IsAnswer a.place a.marks.items (record {
-      version = a.version;
-      receiver = a.receiver.value;
-      scene = a.hold.value.scene;
-      bundles = a.bundles.items;
-      levels = a.levels;
-    }) };
+    ghost view = { answer_seen };
+
+    ghost invariant = { λ a. IsAnswer a.place a.marks.items (answer_seen a) };
 }
 
 /// The bundles that a job asks for, with room for a mark of each, and their levels.

@@ -1,5 +1,5 @@
 //! Answers that land on a board.
-ghost use Rattle.std.specs.Prelude.{◌≡◌, ◌+◌, ◌<◌, ◌^◌, length};
+ghost use Rattle.std.specs.Prelude.{◌≡◌, ◌+◌, ◌<◌, ◌^◌, Some, length};
 ghost use Rattle.map_board.specs.Held.{no_marks};
 ghost use Rattle.map_board.specs.Jobs.{IsOutFor, IsRight, MayReturn};
 ghost use Rattle.map_board.specs.Later.{first_entry_touching, marks_after_all};
@@ -7,14 +7,12 @@ ghost use Rattle.map_board.specs.Machine.{Lands, with_kept};
 ghost use Rattle.map_board.specs.Rows.{with_row};
 
 use crate::answers::Landed;
+use crate::back::Landing;
 use crate::jobs::Answer;
-use crate::later::{entries_since, first_touching, mark_by_all};
+use crate::later::{first_touching, mark_by_all};
 use crate::log::LogEntry;
-use crate::namings::first_naming;
-use crate::rows::{Cache, KeptLevels, find_receiver, keep_in_row};
-use crate::scenes::PreparedScene;
+use crate::rows::{Back, Cache, KeptLevels};
 use crate::state::Board;
-use std::sync::Arc;
 
 impl Board {
     /// Keeps an answer, however many edits came after its version; or it is gone, where one of these named its receiver.
@@ -24,7 +22,7 @@ impl Board {
         requires right { IsRight self.old.journal answer }
         ensures { Lands self.old answer result self.new }
     {
-        match first_naming(self.namings.as_slice(), answer.version, answer.name()) {
+        match self.naming_since(answer.version, answer.name()) {
             Some(by) => {
                 self.counts.gone = self.counts.gone.saturating_add(1);
                 Landed::Gone { by }
@@ -46,10 +44,9 @@ impl Board {
               (with_kept (record { version = answer.version; levels = answer.levels })) self.old.rows;
         } }
     {
-        let place = find_receiver(self.hold.scene.receivers(), answer.name());
-        let later = entries_since(self.log.entries.as_slice(), self.log.start, answer.version);
-        let (kept, cache, hold) = answer.landed(later);
-        keep_in_row(&mut self.rows[place], kept, cache, hold);
+        let Landing { place, later } = self.landing_of(answer.version, answer.name());
+        let back = answer.landed(later);
+        self.land(place, back);
     }
 }
 
@@ -64,17 +61,17 @@ impl Answer {
 
     /// What a row keeps of it where these edits came after its version: the levels with the first edit that touches the
     /// receiver, the bundles with the edits' marks, and the scene.
-    fn landed(self, later: &[LogEntry]) -> (KeptLevels, Cache, Arc<PreparedScene>)
+    fn landed(self, later: &[LogEntry]) -> Back
         requires { self.version + length later.now < 2 ^ 64 }
-        ensures kept { result.0 ≡ record {
+        ensures kept { result.kept ≡ Some (record {
           version = self.version;
           by = first_entry_touching self.receiver self.bundles self.version later.now;
           levels = self.levels;
-        } }
-        ensures bundles { result.1.bundles.items ≡ self.bundles }
-        ensures marks { result.1.marks.items
+        }) }
+        ensures bundles { result.cache.bundles.items ≡ self.bundles }
+        ensures marks { result.cache.marks.items
             ≡ marks_after_all later.now self.receiver self.bundles (no_marks self.bundles) }
-        ensures scene { result.2.value.scene ≡ self.scene }
+        ensures scene { result.hold.value.scene ≡ self.scene }
     {
         let Answer {
             version,
@@ -94,6 +91,10 @@ impl Answer {
             by,
             levels,
         };
-        (kept, cache, hold)
+        Back {
+            kept: Some(kept),
+            cache,
+            hold,
+        }
     }
 }

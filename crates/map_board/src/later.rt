@@ -41,11 +41,11 @@ pub(crate) fn first_touching(
     None
 }
 
-/// The entries after a version, of a log that begins after another.
-pub(crate) fn entries_since(entries: &[LogEntry], start: u64, version: u64) -> &[LogEntry]
-    requires from { start ≤ version }
-    requires past { version ≤ start + length entries.now }
-    ensures { result.now ≡ drop (version - start) entries.now }
+/// The entries after a version, of a log up to the newest.
+pub(crate) fn entries_since(entries: &[LogEntry], newest: u64, version: u64) -> &[LogEntry]
+    requires past { version ≤ newest }
+    requires from { newest ≤ version + length entries.now }
+    ensures { result.now ≡ drop (length entries.now - (newest - version)) entries.now }
 {
-    &entries[(version - start) as usize..]
+    &entries[entries.len() - (newest - version) as usize..]
 }

@@ -3,6 +3,7 @@
 #![tactic(auto)]
 
 mod answers;
+mod back;
 mod calls;
 mod editing;
 mod jobs;

@@ -5,14 +5,12 @@ ghost use Rattle.map_board.specs.Later.{marks_after_all};
 ghost use Rattle.map_board.specs.Machine.{given_back, with_out};
 ghost use Rattle.map_board.specs.Rows.{with_row};
 
+use crate::back::Landing;
 use crate::jobs::Job;
-use crate::later::{entries_since, mark_by_all};
+use crate::later::mark_by_all;
 use crate::log::LogEntry;
-use crate::namings::first_naming;
-use crate::rows::{Cache, find_receiver, put_back};
-use crate::scenes::PreparedScene;
+use crate::rows::{Back, Cache};
 use crate::state::Board;
-use std::sync::Arc;
 
 impl Board {
     /// Takes a job back: its row is needy again, with the bundles that the job had and the marks of all edits since, unless
@@ -23,7 +21,7 @@ impl Board {
         ensures { self.new ≡ given_back job self.old }
     {
         self.counts.back = self.counts.back.saturating_add(1);
-        match first_naming(self.namings.as_slice(), job.version, job.name()) {
+        match self.naming_since(job.version, job.name()) {
             Some(_) => {}
             None => self.free(job),
         }
@@ -37,10 +35,9 @@ impl Board {
           rows = with_row job.receiver.name (with_out None) self.old.rows;
         } }
     {
-        let place = find_receiver(self.hold.scene.receivers(), job.name());
-        let later = entries_since(self.log.entries.as_slice(), self.log.start, job.version);
-        let (cache, hold) = job.returned(later);
-        put_back(&mut self.rows[place], cache, hold);
+        let Landing { place, later } = self.landing_of(job.version, job.name());
+        let back = job.returned(later);
+        self.land(place, back);
     }
 }
 
@@ -54,10 +51,12 @@ impl Job {
     }
 
     /// The bundles that were kept for it with the marks of these edits, and its scene.
-    fn returned(self, later: &[LogEntry]) -> (Cache, Arc<PreparedScene>)
-        ensures bundles { result.0.bundles.items ≡ self.kept }
-        ensures marks { result.0.marks.items ≡ marks_after_all later.now self.receiver self.kept self.marks }
-        ensures scene { result.1.value.scene ≡ self.scene }
+    fn returned(self, later: &[LogEntry]) -> Back
+        ensures levels { result.kept ≡ None }
+        ensures bundles { result.cache.bundles.items ≡ self.kept }
+        ensures marks { result.cache.marks.items
+            ≡ marks_after_all later.now self.receiver self.kept self.marks }
+        ensures scene { result.hold.value.scene ≡ self.scene }
     {
         let Job {
             version: _,
@@ -72,6 +71,10 @@ impl Job {
             marks,
         };
         mark_by_all(&mut cache, later, &hold.scene.receivers()[place as usize]);
-        (cache, hold)
+        Back {
+            kept: None,
+            cache,
+            hold,
+        }
     }
 }

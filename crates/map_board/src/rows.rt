@@ -2,7 +2,7 @@
 ghost use Rattle.std.specs.Prelude.{◌≡◌, ◌≤◌, false, Some, None, IsSome, IfSome, IfNone, length, slice_get, count_by};
 ghost use Rattle.std.specs.List.{list_any};
 ghost use Rattle.scene_book.specs.Lists.{named};
-ghost use Rattle.map_board.specs.Back.{with_bundles, with_levels};
+ghost use Rattle.map_board.specs.Back.{held_with};
 ghost use Rattle.map_board.specs.Boards.{held_shown, is_held_current, is_held_needy, is_held_out, is_held_unsettled, IsNeedyAt};
 
 use crate::answers::Shown;
@@ -107,27 +107,26 @@ pub(crate) fn take_row(row: &mut HeldRow, version: u64) -> (Cache, Arc<PreparedS
     (cache, hold)
 }
 
-/// Keeps levels in a row, of which no job is out from now on, with their bundles and, where the row has none, a scene.
-pub(crate) fn keep_in_row(
-    row: &mut HeldRow,
-    kept: KeptLevels,
-    cache: Cache,
-    hold: Arc<PreparedScene>,
-)
-    ensures { row.new ≡ with_levels kept (with_bundles cache hold row.old) }
-{
-    put_back(row, cache, hold);
-    row.kept = Some(kept);
+/// What comes back to a row: levels where they were calculated, its bundles, and the scene of which these are.
+#[derive(Drop)]
+pub(crate) struct Back {
+    pub kept: Option<KeptLevels>,
+    pub cache: Cache,
+    pub hold: Arc<PreparedScene>,
 }
 
-/// Puts bundles into a row, of which no job is out from now on, and, where the row has none, a scene.
-pub(crate) fn put_back(row: &mut HeldRow, cache: Cache, hold: Arc<PreparedScene>)
-    ensures { row.new ≡ with_bundles cache hold row.old }
+/// Puts into a row what comes back to it. No job is out for it from now on; a scene that it has stays.
+pub(crate) fn put_back(row: &mut HeldRow, back: Back)
+    ensures { row.new ≡ held_with back row.old }
 {
+    let Back { kept, cache, hold } = back;
     row.out = None;
     row.cache = Some(cache);
     if row.hold.is_none() {
         row.hold = Some(hold);
+    }
+    if kept.is_some() {
+        row.kept = kept;
     }
 }
 

@@ -7,7 +7,7 @@ use Rattle.map_board.specs.declared.calls.BoardCall.{BoardCall}
 use Rattle.map_board.specs.declared.calls.BoardReply.{BoardReply}
 use Rattle.map_board.specs.declared.calls.BoardReply.TheVariants as replies
 use Rattle.map_board.specs.declared.looks.LookAll.{LookAll}
-use Rattle.map_board.specs.Seats.{owed_after, owed}
+use Rattle.map_board.specs.Seats.{owed_after}
 use Rattle.map_lock.specs.Seats.{BoardSeat, IsSeat, IsEditor, counts_after, counts_seen}
 use Rattle.map_lock.specs.Turns.{HasTurned}
 use Rattle.map_lock.specs.Settling.{HasSettled}

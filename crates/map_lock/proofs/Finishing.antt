@@ -1,5 +1,5 @@
 -- The board isn't finished before an entry of the editor finishes it.
-use Rattle.std.proofs.Common.{◌≡◌, ℕ, Bool, true, false, cond, eqb, List, [], ◌∷◌, ◌++◌, refl, sym, ap, ◌∙◌, subst, Some, None}
+use Rattle.std.proofs.Common.{◌≡◌, ℕ, Bool, true, false, cond, eqb, [], ◌∷◌, ◌++◌, refl, sym, ap, ◌∙◌, subst}
 use Rattle.std.specs.Prelude.{All, Ok, Err}
 use Rattle.std.proofs.lemmas.List.Elements.{All-nil, All-cons, All-head, All-tail}
 use Rattle.std.proofs.lemmas.Bool.Decides.{Decides-eqb}
@@ -12,7 +12,7 @@ use Rattle.map_board.specs.declared.calls.BoardCall.TheVariants as calls
 use Rattle.map_board.specs.declared.calls.BoardReply.{BoardReply}
 use Rattle.map_board.specs.declared.calls.BoardReply.TheVariants as replies
 use Rattle.map_board.specs.Rows.{State, start}
-use Rattle.map_board.specs.Machine.{Step, left_by}
+use Rattle.map_board.specs.Machine.{Step}
 use Rattle.map_board.specs.Seats.{Entries, May, editor}
 use Rattle.map_lock.specs.Seats.{BoardEntry}
 use Rattle.map_lock.specs.Settling.{is_finish, HasNotFinished}

@@ -1,6 +1,6 @@
 -- What a worker's seat owes, along the history that it has seen.
-use Rattle.std.proofs.Common.{◌≡◌, ℕ, ◌≤◌, Bool, true, false, cond, eqb, List, [], ◌∷◌, ◌++◌, length, refl, sym, ap, ◌∙◌, subst, arith, append_assoc, Some, None, ◌⊎◌, inl, inr}
-use Rattle.std.specs.Prelude.{All, Contains, Option, is_some, IsSome, not, ◌&&◌}
+use Rattle.std.proofs.Common.{◌≡◌, ℕ, ◌≤◌, Bool, true, false, cond, eqb, List, [], ◌∷◌, ◌++◌, length, refl, sym, ap, ◌∙◌, subst, append_assoc, Some, None, ◌⊎◌, inl, inr}
+use Rattle.std.specs.Prelude.{Contains, is_some, IsSome, not, ◌&&◌}
 use Rattle.std.proofs.lemmas.List.{append-nil}
 use Rattle.std.proofs.lemmas.List.Elements.{All-contains_itself, All-weaker}
 use Rattle.turn_lock.specs.History.{IsRun, EachAllowed, Leads, entries_of}
@@ -19,7 +19,7 @@ use Rattle.map_board.specs.Seats.{Entries, May, is_of, owed_after, owed}
 use Rattle.map_board.proofs.Journals.{none-after}
 use Rattle.map_board.proofs.Lawful.{board-is-lawful}
 use Rattle.map_board.proofs.Owing.{owed-more}
-use Rattle.map_lock.specs.Seats.{BoardEntry, BoardSeat, IsSeat}
+use Rattle.map_lock.specs.Seats.{BoardSeat, IsSeat}
 use Rattle.map_lock.proofs.Apart.{AreApart, apart-push, apart-filter, is-of}
 
 not-both : false ≡ true → ⊥

@@ -1,6 +1,6 @@
 -- How the calls of a settle add up.
-use Rattle.std.proofs.Common.{◌≡◌, ℕ, Bool, true, false, cond, eqb, List, [], ◌∷◌, ◌++◌, filter, refl, sym, ap, ◌∙◌, subst, arith, append_assoc}
-use Rattle.std.specs.Prelude.{All, Contains, Result, Ok, Err, MatchResult, not}
+use Rattle.std.proofs.Common.{◌≡◌, ℕ, true, false, cond, List, [], ◌∷◌, ◌++◌, refl, sym, ap, ◌∙◌, subst, arith, append_assoc}
+use Rattle.std.specs.Prelude.{All, Contains, Result, Ok, Err, not}
 use Rattle.std.proofs.lemmas.List.Elements.{All-nil, All-cons, All-head, All-tail, All-append, All-weaker}
 use Rattle.turn_lock.specs.History.{IsRun, entries_of, entry}
 use Rattle.turn_lock.proofs.Histories.{entries_of-append}
@@ -14,14 +14,14 @@ use Rattle.map_board.specs.declared.calls.BoardReply.{BoardReply}
 use Rattle.map_board.specs.declared.calls.BoardReply.TheVariants as replies
 use Rattle.map_board.specs.declared.looks.LookAll.{LookAll}
 use Rattle.scene_parts.specs.declared.memory.NoMemory.{NoMemory}
-use Rattle.map_board.specs.Rows.{State, start}
+use Rattle.map_board.specs.Rows.{start}
 use Rattle.map_board.specs.Jobs.{Answers}
-use Rattle.map_board.specs.Machine.{Step, look_of}
+use Rattle.map_board.specs.Machine.{Step}
 use Rattle.map_board.specs.Views.{Job, Answer}
 use Rattle.map_board.specs.Seats.{Entries, May, is_of, without_job, owed, editor}
 use Rattle.map_lock.specs.Seats.{BoardSeat, BoardEntry, IsSeat, counts_after, counts_from, counts_seen}
 use Rattle.map_lock.specs.Turns.{HasTurned, HasActed}
-use Rattle.map_lock.specs.Settling.{HasNotFinished, IsSettled, is_settling, is_finish, is_give_back, is_look, IsQuiet, EndsInLook, EndsWithout, HasWorkedOff, HasWorkedQuietly, HasWorkedUnseen, HasSettled}
+use Rattle.map_lock.specs.Settling.{HasNotFinished, IsSettled, is_settling, is_finish, is_look, IsQuiet, HasWorkedOff, HasWorkedQuietly, HasWorkedUnseen, HasSettled}
 use Rattle.map_lock.specs.Acting.{acted-none, acted-more}
 use Rattle.map_lock.proofs.Apart.{of-itself}
 use Rattle.map_lock.proofs.Entries.{owed-snoc}

@@ -1,11 +1,11 @@
 -- One turn through a seat: what it says of the machine, and what it leaves of the seat's own entries.
-use Rattle.std.proofs.Common.{◌≡◌, ℕ, List, [], ◌∷◌, ◌++◌, refl, sym, ap, ◌∙◌, subst, append_assoc}
+use Rattle.std.proofs.Common.{◌≡◌, [], ◌∷◌, ◌++◌, refl, ◌∙◌, subst, append_assoc}
 use Rattle.turn_lock.specs.History.{IsRun, entry}
 use Rattle.turn_lock.specs.Standing.{HasCalled}
 use Rattle.turn_lock.proofs.Histories.{run_last, own_more}
 use Rattle.map_board.specs.declared.calls.BoardCall.{BoardCall}
 use Rattle.map_board.specs.declared.calls.BoardReply.{BoardReply}
-use Rattle.map_board.specs.Rows.{State, start}
+use Rattle.map_board.specs.Rows.{start}
 use Rattle.map_board.specs.Machine.{Step}
 use Rattle.map_board.specs.Seats.{Entries, May}
 use Rattle.map_lock.specs.Seats.{BoardSeat, IsSeat}

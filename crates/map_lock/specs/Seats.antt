@@ -1,5 +1,5 @@
 -- Seats at a board that several share.
-use Rattle.std.specs.Prelude.{◌≡◌, ℕ, List, [], ◌∷◌, Result, Ok, Err}
+use Rattle.std.specs.Prelude.{◌≡◌, ℕ, List, [], ◌∷◌, Ok}
 use Rattle.turn_lock.specs.declared.entry.Entry.{Entry}
 use Rattle.turn_lock.specs.Standing.{Standing, SeatIsSound}
 use Rattle.map_board.specs.declared.calls.BoardCall.{BoardCall}

@@ -1,5 +1,5 @@
 -- What a settle does: it takes, offers and gives back until the board is settled, and then looks.
-use Rattle.std.specs.Prelude.{◌≡◌, Bool, true, false, [], ◌∷◌, ◌++◌, All, Result, Ok, Err, MatchResult}
+use Rattle.std.specs.Prelude.{◌≡◌, Bool, true, false, [], ◌∷◌, ◌++◌, All, Result, Ok, MatchResult}
 use Rattle.std.specs.List.{list_any}
 use Rattle.turn_lock.specs.History.{IsRun, entry}
 use Rattle.map_board.specs.declared.calls.BoardCall.{BoardCall}

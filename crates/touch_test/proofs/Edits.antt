@@ -13,7 +13,7 @@ use Rattle.scene_book.specs.Limits.{most_receivers}
 use Rattle.scene_book.specs.Lists.{put_all}
 use Rattle.scene_book.specs.Grid.{receivers_of}
 use Rattle.scene_book.specs.Applying.{apply_of, put_of, put_where_room, remove_of, grid_of, taken, part_named, in_limits, with_part, own_class, name_of, class_of, holder, at_most, all_own}
-use Rattle.path_calc.specs.Bundles.{Bundle, bundle_of}
+use Rattle.path_calc.specs.Bundles.{bundle_of}
 use Rattle.path_calc.specs.Show.{sources_within, bundles_of}
 use Rattle.touch_test.specs.Touches.{TracedPath, traced, bundled, old_part}
 

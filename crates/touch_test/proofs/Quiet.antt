@@ -1,8 +1,8 @@
 -- What is read of a part that touches no path: nothing.
-use Rattle.std.proofs.Common.{◌≡◌, refl, sym, ap, subst, ◌∙◌, Bool, true, false, cond, ◌&&◌, ◌||◌, List, [], ◌∷◌, ◌++◌, map}
-use Rattle.std.specs.Prelude.{Option, Some, None, is_some, flat_map, filter, if◌then◌else◌}
+use Rattle.std.proofs.Common.{◌≡◌, refl, ap, ◌∙◌, Bool, true, false, ◌&&◌, ◌||◌, List, [], ◌∷◌, ◌++◌}
+use Rattle.std.specs.Prelude.{None, if◌then◌else◌}
 use Rattle.std.specs.Bool.{then_some}
-use Rattle.std.specs.List.{list_any, filter_map}
+use Rattle.std.specs.List.{list_any}
 use Rattle.std.specs.Option.{option_map}
 use Rattle.scene_geom.specs.declared.plan.Pt.{Pt}
 use Rattle.scene_geom.specs.declared.plan.Side.{Side}
@@ -21,7 +21,7 @@ use Rattle.edge_chain.specs.Chain.{segments_of, blocks_chain}
 use Rattle.image_source.specs.declared.leg.Leg.{Leg}
 use Rattle.image_source.specs.declared.leg.Leg.TheVariants.{First, Second}
 use Rattle.image_source.specs.Mirrors.{has_mirror, mirror_of}
-use Rattle.image_source.specs.LegCuts.{place_up_to, place_on, edge_on, edges_on}
+use Rattle.image_source.specs.LegCuts.{place_on, edge_on, edges_on}
 use Rattle.path_calc.specs.declared.segments.Seg.{Seg}
 use Rattle.path_calc.specs.declared.segments.Seg.TheVariants.{Straight, Legs}
 use Rattle.path_calc.specs.LateralPaths.{is_in_the_way}

@@ -1,12 +1,11 @@
 -- Where the parts that an edit changes touch no path, source and receiver read the same of both scenes.
-use Rattle.std.proofs.Common.{◌≡◌, refl, sym, ap, subst, ◌∙◌, Bool, true, false, cond, ◌&&◌, ◌||◌, ◌⊎◌, inl, inr, List, [], ◌∷◌, ◌++◌, map}
-use Rattle.std.specs.Prelude.{Option, Some, None, flat_map, filter, if◌then◌else◌, not, bytes_eq}
+use Rattle.std.proofs.Common.{◌≡◌, refl, ap, ◌∙◌, Bool, true, false, ◌&&◌, ◌||◌, ◌⊎◌, List, [], ◌∷◌, ◌++◌, map}
+use Rattle.std.specs.Prelude.{Some, flat_map, filter, if◌then◌else◌, not, bytes_eq}
 use Rattle.std.specs.Bool.{then_some}
-use Rattle.std.specs.List.{list_any, filter_map}
+use Rattle.std.specs.List.{list_any}
 use Rattle.std.specs.Option.{option_map}
 use Rattle.scene_geom.specs.declared.plan.Pt.{Pt}
 use Rattle.scene_geom.specs.declared.plan.Side.{Side}
-use Rattle.scene_geom.specs.declared.reflection.Reflection.{Reflection}
 use Rattle.scene_geom.specs.declared.band.Band.{Band}
 use Rattle.scene_geom.specs.declared.band.Band.TheVariants.{Hz63, Hz125, Hz250, Hz500, Hz1000, Hz2000, Hz4000, Hz8000}
 use Rattle.scene_geom.specs.Bands.{all_bands}
@@ -18,7 +17,6 @@ use Rattle.scene_parts.specs.Sides.{sides_of}
 use Rattle.scene_book.specs.Book.{Book}
 use Rattle.scene_book.specs.Laws.{Edited, Pieces, ListsEdited}
 use Rattle.scene_parts.specs.declared.edge.Edge.{Edge}
-use Rattle.path_shape.specs.declared.path.Path.{Path}
 use Rattle.scene_parts.specs.declared.ends.Ends.{Ends}
 use Rattle.scene_parts.specs.Crossings.{counts_in}
 use Rattle.sight_cut.specs.Cuts as cuts
@@ -27,14 +25,13 @@ use Rattle.edge_chain.specs.declared.hand.Hand.TheVariants.{Left, Right}
 use Rattle.edge_chain.specs.Chain.{chain_of, segments_of}
 use Rattle.image_source.specs.declared.leg.Leg.{Leg}
 use Rattle.image_source.specs.declared.leg.Leg.TheVariants.{First, Second}
-use Rattle.image_source.specs.Mirrors.{has_mirror, mirror_of}
+use Rattle.image_source.specs.Mirrors.{has_mirror}
 use Rattle.image_source.specs.LegCuts as legs
-use Rattle.term_ground.specs.Zones.{meets_legs, met_zones}
 use Rattle.path_calc.specs.declared.segments.Seg.{Seg}
-use Rattle.path_calc.specs.declared.segments.Seg.TheVariants.{Straight, Legs}
+use Rattle.path_calc.specs.declared.segments.Seg.TheVariants.{Legs}
 use Rattle.path_calc.specs.GroundZones.{unnamed, zones_on}
 use Rattle.path_calc.specs.LateralPaths.{LateralPath, lateral_path, lateral_paths, lateral_paths_round, screening_corners, leads_in, is_in_the_way}
-use Rattle.path_calc.specs.ReflectedPaths.{ReflectedPath, path_along, along_legs, reflected_in, reflected_by, reflected_paths}
+use Rattle.path_calc.specs.ReflectedPaths.{ReflectedPath, path_along, along_legs, reflected_in, reflected_by}
 use Rattle.path_calc.specs.ScreeningSets.{screens_before, changes_in, is_renewed, renewals}
 use Rattle.path_calc.specs.Surroundings.{Surroundings, path_of, ends_of, edges_on, surroundings_of}
 use Rattle.path_calc.specs.Trace.{straight, string_segments, trace_of}

@@ -1,8 +1,8 @@
 -- What stands in a trace: the direct line, the legs of every reflection, and the strings of every band, also of those
 -- bands that list none of their own since the same obstacles screen in the band before.
-use Rattle.std.proofs.Common.{◌≡◌, refl, sym, ap, subst, ◌∙◌, Bool, true, false, cond, ◌&&◌, List, [], ◌∷◌, ◌++◌, map}
-use Rattle.std.specs.Prelude.{Option, Some, None, flat_map, filter, if◌then◌else◌}
-use Rattle.std.specs.List.{list_any, filter_map}
+use Rattle.std.proofs.Common.{◌≡◌, refl, sym, ap, subst, ◌∙◌, Bool, true, false, ◌&&◌, List, [], ◌∷◌, ◌++◌, map}
+use Rattle.std.specs.Prelude.{Some, flat_map, if◌then◌else◌}
+use Rattle.std.specs.List.{list_any}
 use Rattle.std.specs.Option.{option_map}
 use Rattle.scene_geom.specs.declared.plan.Side.{Side}
 use Rattle.scene_geom.specs.declared.reflection.Reflection.{Reflection}
@@ -10,10 +10,9 @@ use Rattle.scene_geom.specs.declared.band.Band.{Band}
 use Rattle.scene_geom.specs.declared.band.Band.TheVariants.{Hz63, Hz125, Hz250, Hz500, Hz1000, Hz2000, Hz4000, Hz8000}
 use Rattle.scene_geom.specs.Bands.{all_bands}
 use Rattle.scene_geom.specs.Crossing.{differ}
-use Rattle.scene_parts.specs.Views.{Source, Receiver, Obstacle, Zone}
+use Rattle.scene_parts.specs.Views.{Source, Receiver, Obstacle}
 use Rattle.scene_parts.specs.Sides.{sides_of}
 use Rattle.scene_book.specs.Book.{Book}
-use Rattle.scene_parts.specs.declared.ends.Ends.{Ends}
 use Rattle.sight_cut.specs.Cuts.{screens_in}
 use Rattle.edge_chain.specs.declared.hand.Hand.{Hand}
 use Rattle.edge_chain.specs.declared.hand.Hand.TheVariants.{Left, Right}
@@ -21,7 +20,7 @@ use Rattle.edge_chain.specs.Chain.{chain_of}
 use Rattle.image_source.specs.Mirrors.{mirror_of}
 use Rattle.path_calc.specs.declared.segments.Seg.{Seg}
 use Rattle.path_calc.specs.declared.segments.Seg.TheVariants.{Straight, Legs}
-use Rattle.path_calc.specs.LateralPaths.{LateralPath, lateral_path, lateral_paths, screening_corners}
+use Rattle.path_calc.specs.LateralPaths.{lateral_path, lateral_paths, screening_corners}
 use Rattle.path_calc.specs.ReflectedPaths.{ReflectedPath, along_legs, reflected_in, reflected_by}
 use Rattle.path_calc.specs.ScreeningSets.{screens_before, changes_in, is_renewed}
 use Rattle.path_calc.specs.Surroundings.{ends_of, laterals_at, renewed_at, surroundings_of}

@@ -1,6 +1,6 @@
 -- Edits that touch no path of a source and a receiver, and edits that don't touch a receiver.
-use Rattle.std.proofs.Common.{◌≡◌, ℕ, refl, sym, ap, subst, ◌∙◌, Bool, true, false, cond, ◌||◌, List, [], ◌∷◌, map}
-use Rattle.std.specs.Prelude.{Option, Some, None, Ok, filter, bytes_eq, Contains}
+use Rattle.std.proofs.Common.{◌≡◌, ℕ, refl, sym, ap, subst, ◌∙◌, Bool, true, false, ◌||◌, [], ◌∷◌, map}
+use Rattle.std.specs.Prelude.{Option, Some, None, filter, bytes_eq, Contains}
 use Rattle.std.specs.List.{list_any}
 use Rattle.std.specs.Option.{option_to_list}
 use Rattle.std.proofs.lemmas.Slice.Eq.{bytes_eq-Decides}
@@ -9,17 +9,17 @@ use Rattle.scene_parts.specs.Views.{Source, Receiver, Obstacle, Zone, Globals}
 use Rattle.scene_parts.specs.declared.parts.Part.{Part}
 use Rattle.scene_parts.specs.declared.parts.Part.TheVariants as parts
 use Rattle.scene_book.specs.Book.{Book}
-use Rattle.scene_book.specs.Applying.{apply_of, replaced, part_named, with_receivers}
-use Rattle.scene_book.specs.Laws.{Edited, Pieces, no_pieces, pieces_of, pieces_of_any, ListsEdited, Changes, AcceptedChanges}
+use Rattle.scene_book.specs.Applying.{replaced, part_named, with_receivers}
+use Rattle.scene_book.specs.Laws.{Pieces, no_pieces, pieces_of, pieces_of_any, ListsEdited, Changes, AcceptedChanges}
 use Rattle.scene_book.specs.declared.edits.Edit.{Edit}
 use Rattle.scene_book.specs.declared.edits.Edit.TheVariants as edits
 use Rattle.path_calc.specs.Lengths.{is_within}
 use Rattle.path_calc.specs.Surroundings.{Surroundings, ends_of, surroundings_of}
 use Rattle.path_calc.specs.Trace.{trace_along, trace_of}
-use Rattle.path_calc.specs.Bundles.{Bundle, bundle_over, bundle_of}
+use Rattle.path_calc.specs.Bundles.{bundle_over, bundle_of}
 use Rattle.path_calc.specs.Levels.{levels_of}
-use Rattle.path_calc.specs.Show.{sources_within, bundles_of, show_of}
-use Rattle.touch_test.specs.Touches.{TracedPath, traced, part_touches, old_part, changed_parts, is_set, edit_touches, touches_path, is_source_within, names_receiver, edit_touches_any, touches_receiver}
+use Rattle.path_calc.specs.Show.{sources_within, show_of}
+use Rattle.touch_test.specs.Touches.{TracedPath, traced, part_touches, old_part, changed_parts, is_set, edit_touches, touches_path, is_source_within, names_receiver, touches_receiver}
 use Rattle.touch_test.specs.Laws.{PathStays, UntouchedPathsStay, ReceiverStays, UntouchedReceiversStay, UntouchedPathsStayInTurn, UntouchedReceiversStayInTurn}
 use Rattle.touch_test.proofs.Lists.{In, here, there, neither, fails-at, from-filter, in-filter, in-map, in-stays, filter-stays, map-agrees, contains, found-in}
 use Rattle.touch_test.proofs.Stays.{AreQuiet, surroundings-stay}

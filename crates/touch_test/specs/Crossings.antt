@@ -1,6 +1,5 @@
 -- How the sides of obstacles and the outlines of zones meet the plan segments of a trace.
 use Rattle.std.specs.Prelude.{Bool, false, ◌||◌, is_some, List}
-use Rattle.std.specs.List.{list_any}
 use Rattle.scene_geom.specs.declared.plan.Pt.{Pt}
 use Rattle.scene_geom.specs.declared.plan.Side.{Side}
 use Rattle.scene_geom.specs.declared.reflection.Reflection.{Reflection}

@@ -1,5 +1,5 @@
 -- What an edit leaves that doesn't touch a path or a receiver.
-use Rattle.std.specs.Prelude.{◌≡◌, ℕ, false, List, [], ◌∷◌, Contains, Option, Ok, map}
+use Rattle.std.specs.Prelude.{◌≡◌, false, List, [], ◌∷◌, Contains, Option, Ok, map}
 use Rattle.scene_parts.specs.Views.{Source, Receiver}
 use Rattle.scene_parts.specs.declared.parts.Part.{Part}
 use Rattle.scene_book.specs.Book.{Book}

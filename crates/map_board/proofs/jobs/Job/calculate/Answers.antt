@@ -1,6 +1,7 @@
-use Rattle.std.proofs.Common.{◌∙◌, ap, arith, false}
+use Rattle.std.proofs.Common.{◌≡◌, ◌+◌, ◌∙◌, ap, sym, arith, false}
 use Rattle.std.proofs.lemmas.Simd.{splat_is_map}
 use Rattle.path_calc.specs.Levels.{levels_of}
+use Rattle.map_board.specs.Views.{Job}
 use Rattle.map_board.proofs.jobs.Job.calculate.Goals as goal
 
 pub invariant_of-result-clause-plain : goal.invariant_of-result-clause-plain
@@ -10,3 +11,11 @@ invariant_of-result-clause-plain g c =
 
 pub invariant_of-result-clause-theirs : goal.invariant_of-result-clause-theirs
 invariant_of-result-clause-theirs g c = c.levels-levels.ensures.value ∙ ap levels_of c.deref-4.ensures.value
+
+pub returns-clause-steps : goal.returns-clause-steps
+returns-clause-steps g c =
+    let b = c.self.inside in
+    let receiver : c.receiver_in.result.now ≡ b.receiver.value = c.receiver_in.ensures ∙ sym (ap (λ (j : Job). j.receiver) c.self.view_is) in
+    c.in_ok-bundles.ensures.steps
+    ∙ ap (λ n. c.args.steps.now + n)
+    (rw (c.deref-hold.ensures, receiver, c.deref-2.ensures.value, c.deref-3.ensures.value) (ap (λ (j : Job). j.due) c.self.view_is))

@@ -15,19 +15,22 @@ use Rattle.map_board.specs.Namings.{noted}
 use Rattle.map_board.specs.Boards.{IsOutSince, EachHolds, IsBoard}
 use Rattle.map_board.proofs.BoardAfter.{outs-stay, log-count, board-after}
 use Rattle.map_board.proofs.state.Board.carry_out.Goals as goal
+use Rattle.map_board.proofs.state.Board.carry_out.Goals.{After-least_out}
 
-pub trim-requires-clause-from : goal.trim-requires-clause-from
-trim-requires-clause-from c =
+-- the log begins no later than the least version that is out
+least : (c : After-least_out) → c.self.inside.log.start ≤ c.least_out.result
+least c =
     let b = c.self.inside in
-    let plan = c.args.plan in
     let e = c.args.edit in
     let rows = subst (λ (v : Vec HeldRow Global). All (IsOutSince b.log.start) v.items) (sym c.replace-olds.ensures.value) c.self.invariant.reaches in
     let outs = outs-stay b.log.start e c.of.result.value (c.of.result.value ++ e ∷ []) c.receivers.result.now c.receivers-2.result.now c.replace-olds.result.items c.carry_over.new.made.items
     rows c.carry_over.ensures.each c.carry_over.ensures.rows in
-    let least : b.log.start ≤ c.least_out.result =
     c.least_out.ensures.start b.log.start (omega (arith, c.self.invariant.logged.past, c.self.invariant.newest))
-    (subst (All (IsOutSince b.log.start)) (sym c.deref-4.ensures.value) outs) in
-    omega (arith, least, c.add.ensures.start, c.reserve.ensures.start)
+    (subst (All (IsOutSince b.log.start)) (sym c.deref-4.ensures.value) outs)
+
+pub trim-requires-clause-from : goal.trim-requires-clause-from
+trim-requires-clause-from c =
+    omega (arith, least (goal.at.trim-requires-clause-from c).After-least_out, c.add.ensures.start, c.reserve.ensures.start)
 
 pub trim-requires-clause-to : goal.trim-requires-clause-to
 trim-requires-clause-to c =
@@ -42,12 +45,6 @@ invariant_of-self-2 c =
     let b = c.self.inside in
     let plan = c.args.plan in
     let e = c.args.edit in
-    let rows = subst (λ (v : Vec HeldRow Global). All (IsOutSince b.log.start) v.items) (sym c.replace-olds.ensures.value) c.self.invariant.reaches in
-    let outs = outs-stay b.log.start e c.of.result.value (c.of.result.value ++ e ∷ []) c.receivers.result.now c.receivers-2.result.now c.replace-olds.result.items c.carry_over.new.made.items
-    rows c.carry_over.ensures.each c.carry_over.ensures.rows in
-    let least : b.log.start ≤ c.least_out.result =
-    c.least_out.ensures.start b.log.start (omega (arith, c.self.invariant.logged.past, c.self.invariant.newest))
-    (subst (All (IsOutSince b.log.start)) (sym c.deref-4.ensures.value) outs) in
     let accepted : apply_of e (newest_scene b.past) ≡ Ok (plan.hold.value.scene, plan.old) =
     ap (λ (s : State). apply_of e (newest_scene s.journal)) c.self.view_is ∙ c.requires.plan.accepted in
     let receivers : c.receivers-2.result.now ≡ plan.hold.value.scene.receivers = c.receivers-2.ensures.value ∙ ap (λ (h : PreparedScene). h.scene.receivers) c.deref-3.ensures in
@@ -63,7 +60,7 @@ invariant_of-self-2 c =
     c.carry_over.new.made.items c.trim.new.self c.note.new.namings.items c.least_out.result
     (subst (λ (h : PreparedScene). length h.scene.receivers ≤ most_receivers) c.deref-3.ensures c.receivers-2.ensures.within.receivers)
     (subst (λ (h : PreparedScene). AreApart (λ r. r.name) h.scene.receivers) c.deref-3.ensures c.receivers-2.ensures.apart.receivers)
-    each (subst (All (IsOutSince c.least_out.result)) c.deref-4.ensures.value c.least_out.ensures.reaches) least
+    each (subst (All (IsOutSince c.least_out.result)) c.deref-4.ensures.value c.least_out.ensures.reaches) (least (goal.at.invariant_of-self-2 c).After-least_out)
     (omega (arith, c.least_out.ensures.newest)) c.trim.ensures.start
     (c.trim.ensures.entries ∙ (λ i. drop (c.least_out.result - start i) (entries i)))
     (c.note.ensures ∙ (λ i. c.reserve-2.ensures.items i ++ noted (add-one b.version i) (c.requires.plan.named i))))

@@ -6,57 +6,64 @@ use Rattle.map_board.specs.Held.{IsJobOf}
 use Rattle.map_board.specs.Machine.{TakesJob}
 use Rattle.map_board.specs.Boards.{IsBoard, rows_of, counts_of}
 use Rattle.map_board.proofs.Places.{each-lengths, held-needy}
-use Rattle.map_board.proofs.Taking.{row_out, ready-seen, item, has-cache, has-hold, cache-is, hold-is, place-within, can-refresh, are-within, board-out, takes-job}
+use Rattle.map_board.proofs.Taking.{row_out, Ready, ready-seen, item, has-cache, has-hold, cache-is, hold-is, place-within, can-refresh, are-within, board-out, takes-job}
 use Rattle.map_board.proofs.state.Board.take_at.Goals as goal
+use Rattle.map_board.proofs.state.Board.take_at.Goals.{After-self}
+
+-- what the needy row has
+row : (c : After-self) → Ready c.self.inside.past c.self.inside.hold.value.scene.receivers c.self.inside.rows.items c.args.place
+row c =
+    let b = c.self.inside in
+    ready-seen b.past b.hold.value.scene.receivers b.rows.items b.finished b.counts c.args.self.now c.args.place c.self.view_is c.self.invariant.each c.requires.needy
 
 pub index_mut-requires : goal.index_mut-requires
 index_mut-requires c =
     let b = c.self.inside in
-    let rdy = ready-seen b.past b.hold.value.scene.receivers b.rows.items b.finished b.counts c.args.self.now c.args.place c.self.view_is c.self.invariant.each c.requires.needy in
+    let rdy = row (goal.at.index_mut-requires c).After-self in
     omega (arith, slice_get_within b.rows.items c.args.place rdy.at.held rdy.at.there, b.rows.ok.0)
 
 pub take_row-cache-requires-clause-cache : goal.take_row-cache-requires-clause-cache
 take_row-cache-requires-clause-cache c =
     let b = c.self.inside in
-    let rdy = ready-seen b.past b.hold.value.scene.receivers b.rows.items b.finished b.counts c.args.self.now c.args.place c.self.view_is c.self.invariant.each c.requires.needy in
+    let rdy = row (goal.at.take_row-cache-requires-clause-cache c).After-self in
     has-cache b.past b.hold.value.scene b.rows.items c.args.place c.self.invariant.shows rdy c.index_mut.result.now c.index_mut.ensures.value
 
 pub take_row-cache-requires-clause-hold : goal.take_row-cache-requires-clause-hold
 take_row-cache-requires-clause-hold c =
     let b = c.self.inside in
-    let rdy = ready-seen b.past b.hold.value.scene.receivers b.rows.items b.finished b.counts c.args.self.now c.args.place c.self.view_is c.self.invariant.each c.requires.needy in
+    let rdy = row (goal.at.take_row-cache-requires-clause-hold c).After-self in
     has-hold b.past b.hold.value.scene b.rows.items c.args.place c.self.invariant.shows rdy c.index_mut.result.now c.index_mut.ensures.value
 
 pub overflow_cast-place : goal.overflow_cast-place
 overflow_cast-place c =
     let b = c.self.inside in
-    let rdy = ready-seen b.past b.hold.value.scene.receivers b.rows.items b.finished b.counts c.args.self.now c.args.place c.self.view_is c.self.invariant.each c.requires.needy in
+    let rdy = row (goal.at.overflow_cast-place c).After-self in
     let same = each-lengths b.past b.hold.value.scene.receivers b.rows.items c.self.invariant.each in
     omega (arith, slice_get_within b.rows.items c.args.place rdy.at.held rdy.at.there, same, c.self.invariant.few)
 
 pub of-requires-clause-place : goal.of-requires-clause-place
 of-requires-clause-place c =
     let b = c.self.inside in
-    let rdy = ready-seen b.past b.hold.value.scene.receivers b.rows.items b.finished b.counts c.args.self.now c.args.place c.self.view_is c.self.invariant.each c.requires.needy in
+    let rdy = row (goal.at.of-requires-clause-place c).After-self in
     place-within b.past b.hold.value.scene b.rows.items c.args.place c.self.invariant.shows rdy c.index_mut.result.now c.index_mut.ensures.value c.take_row-cache.result.1 c.take_row-cache.ensures.hold
 
 pub of-requires-clause-kept : goal.of-requires-clause-kept
 of-requires-clause-kept c =
     let b = c.self.inside in
-    let rdy = ready-seen b.past b.hold.value.scene.receivers b.rows.items b.finished b.counts c.args.self.now c.args.place c.self.view_is c.self.invariant.each c.requires.needy in
+    let rdy = row (goal.at.of-requires-clause-kept c).After-self in
     can-refresh b.past b.hold.value.scene b.rows.items c.args.place c.self.invariant.shows rdy c.index_mut.result.now c.index_mut.ensures.value c.take_row-cache.result.0 c.take_row-cache.ensures.cache
 
 pub of-requires-clause-within : goal.of-requires-clause-within
 of-requires-clause-within c =
     let b = c.self.inside in
-    let rdy = ready-seen b.past b.hold.value.scene.receivers b.rows.items b.finished b.counts c.args.self.now c.args.place c.self.view_is c.self.invariant.each c.requires.needy in
+    let rdy = row (goal.at.of-requires-clause-within c).After-self in
     are-within b.past b.hold.value.scene b.rows.items c.args.place c.self.invariant.shows rdy c.index_mut.result.now c.index_mut.ensures.value
     c.take_row-cache.result.0 c.take_row-cache.result.1 c.take_row-cache.ensures.cache c.take_row-cache.ensures.hold
 
 pub invariant_of-self : goal.invariant_of-self
 invariant_of-self c =
     let b = c.self.inside in
-    let rdy = ready-seen b.past b.hold.value.scene.receivers b.rows.items b.finished b.counts c.args.self.now c.args.place c.self.view_is c.self.invariant.each c.requires.needy in
+    let rdy = row (goal.at.invariant_of-self c).After-self in
     let same = item b.past b.hold.value.scene b.rows.items c.args.place c.self.invariant.shows rdy c.index_mut.result.now c.index_mut.ensures.value in
     let new : c.take_row-cache.new.row ≡ row_out b.version rdy.at.held = c.take_row-cache.ensures.row ∙ ap (row_out b.version) same in
     subst (λ (h : HeldRow). IsBoard b.version b.past b.hold.value.scene (set b.rows.items c.args.place h) b.log b.namings.items) (sym new)
@@ -66,7 +73,7 @@ invariant_of-self c =
 pub returns : goal.returns
 returns c =
     let b = c.self.inside in
-    let rdy = ready-seen b.past b.hold.value.scene.receivers b.rows.items b.finished b.counts c.args.self.now c.args.place c.self.view_is c.self.invariant.each c.requires.needy in
+    let rdy = row (goal.at.returns c).After-self in
     let same = item b.past b.hold.value.scene b.rows.items c.args.place c.self.invariant.shows rdy c.index_mut.result.now c.index_mut.ensures.value in
     let new : c.take_row-cache.new.row ≡ row_out b.version rdy.at.held = c.take_row-cache.ensures.row ∙ ap (row_out b.version) same in
     let cache = cache-is b.past b.hold.value.scene b.rows.items c.args.place c.self.invariant.shows rdy c.index_mut.result.now c.index_mut.ensures.value c.take_row-cache.result.0 c.take_row-cache.ensures.cache in

@@ -1,0 +1,46 @@
+use Rattle.std.proofs.Common.{◌≡◌, ◌-◌, ◌∙◌, ap, sym, subst, arith, length, length-drop, drop, List, Some}
+use Rattle.std.specs.Prelude.{slice_get}
+use Rattle.scene_parts.specs.Views.{Receiver}
+use Rattle.scene_book.specs.Lists.{named}
+use Rattle.map_board.specs.declared.log.LogEntry.{LogEntry}
+use Rattle.map_board.specs.declared.scenes.PreparedScene.{PreparedScene}
+use Rattle.map_board.specs.Rows.{State, row_named, version_out}
+use Rattle.map_board.proofs.Landings.{row-there, IsReached, reached}
+use Rattle.map_board.proofs.state.Board.landing_of.Goals as goal
+use Rattle.map_board.proofs.state.Board.landing_of.Goals.{After-version}
+
+-- the log reaches back to the version
+since : (c : After-version) → IsReached c.args.self.now.journal c.as_slice.result.now c.args.version
+since c =
+    let version = c.args.version in
+    let out = subst (λ (s : State). version_out c.args.name.now s.rows ≡ Some version) (sym c.self.view_is) c.requires in
+    subst (λ (s : State). IsReached s.journal c.as_slice.result.now version) c.self.view_is
+    (subst (λ (es : List LogEntry). IsReached c.self.inside.past es version) (sym c.as_slice.ensures.value) (reached c.self.inside c.self.invariant c.args.name.now version out))
+
+pub entries_since-later-requires-clause-past : goal.entries_since-later-requires-clause-past
+entries_since-later-requires-clause-past c = omega (arith, (since c).past, c.version.ensures)
+
+pub entries_since-later-requires-clause-from : goal.entries_since-later-requires-clause-from
+entries_since-later-requires-clause-from c = omega (arith, (since c).from, c.version.ensures)
+
+pub returns-clause-place : goal.returns-clause-place
+returns-clause-place c =
+    let b = c.self.inside in
+    let receivers = c.receivers.ensures.value ∙ ap (λ (s : PreparedScene). s.scene.receivers) c.deref.ensures in
+    subst (λ (s : State). slice_get s.rows c.find_receiver-place.result ≡ row_named c.args.name.now s.rows) c.self.view_is
+    (row-there b.past b.hold.value.scene.receivers b.rows.items c.args.name.now c.find_receiver-place.result c.self.invariant.each c.self.invariant.apart
+    (subst (λ rs. slice_get rs c.find_receiver-place.result ≡ named (λ (r : Receiver). r.name) c.args.name.now rs) receivers c.find_receiver-place.ensures))
+
+pub returns-clause-later : goal.returns-clause-later
+returns-clause-later c =
+    let entries = c.as_slice.result.now in
+    c.entries_since-later.ensures
+    ∙ ((λ i. drop (length entries - (c.version.ensures i - c.args.version)) entries)
+    ∙ (since (goal.at.returns-clause-later c).After-version).later)
+
+pub returns-clause-few : goal.returns-clause-few
+returns-clause-few c =
+    let log = since (goal.at.returns-clause-few c).After-version in
+    let entries = c.as_slice.result.now in
+    let count = ap length c.entries_since-later.ensures ∙ length-drop (length entries - (c.version.result - c.args.version)) entries in
+    omega (arith, count, log.past, log.from, c.version.ensures)

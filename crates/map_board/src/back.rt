@@ -1,0 +1,49 @@
+//! Jobs and answers that come back to the rows of a board: what they have in common.
+ghost use Rattle.std.specs.Prelude.{◌≡◌, ◌+◌, ◌<◌, ◌^◌, length, slice_get, Some};
+ghost use Rattle.map_board.specs.Back.{row_with, SuitsAt};
+ghost use Rattle.map_board.specs.Journal.{first_naming};
+ghost use Rattle.map_board.specs.Log.{entries_after};
+ghost use Rattle.map_board.specs.Rows.{row_named, version_out, with_row};
+
+use crate::later::entries_since;
+use crate::log::LogEntry;
+use crate::namings::first_naming;
+use crate::rows::{Back, find_receiver, put_back};
+use crate::state::Board;
+
+/// Where a job or an answer comes back: the place of its row, and the edits since its version.
+pub(crate) struct Landing<'a> {
+    pub place: usize,
+    pub later: &'a [LogEntry],
+}
+
+impl Board {
+    /// The first edit after a version that names a receiver.
+    pub(crate) fn naming_since(&self, version: u64, name: &[u8]) -> Option<u64>
+        ensures { result ≡ first_naming self.now.journal version name.now }
+    {
+        first_naming(self.namings.as_slice(), version, name)
+    }
+
+    /// Where what is out for a receiver since a version comes back.
+    pub(crate) fn landing_of<'a>(&'a self, version: u64, name: &[u8]) -> Landing<'a>
+        requires { version_out name.now self.now.rows ≡ Some version }
+        ensures place { slice_get self.now.rows result.place ≡ row_named name.now self.now.rows }
+        ensures later { result.later.now ≡ entries_after self.now.journal version }
+        ensures few { version + length result.later.now < 2 ^ 64 }
+    {
+        let place = find_receiver(self.hold.scene.receivers(), name);
+        let later = entries_since(self.log.entries.as_slice(), self.version(), version);
+        Landing { place, later }
+    }
+
+    /// Puts what comes back into the row at its place.
+    pub(crate) fn land(&mut self, place: usize, back: Back)
+        requires { SuitsAt self.old place back }
+        ensures { (row : _) → slice_get self.old.rows place ≡ Some row → self.new ≡ record self.old {
+          rows = with_row row.receiver.name (row_with back.kept) self.old.rows;
+        } }
+    {
+        put_back(&mut self.rows[place], back);
+    }
+}
