@@ -2,7 +2,7 @@
 use Rattle.std.proofs.Common.{◌≡◌, ℕ, ◌+◌, Bool, ◌||◌, List, [], ◌∷◌, ◌++◌, length, refl, sym, ap, ◌∙◌, subst, arith, inl, inr, append_assoc, length-append}
 use Rattle.std.specs.Prelude.{Option, slice_get}
 use Rattle.std.specs.Io.KnownBytes.{Appends}
-use Rattle.std.proofs.KnownBytes.{Appends-trans}
+use Rattle.std.proofs.KnownBytes.{Appends-nil, Appends-trans}
 use Rattle.std.proofs.lemmas.List.{append-nil}
 use Rattle.command_words.specs.declared.line.CommandLine.{CommandLine}
 use Rattle.map_io.specs.Lines.{all_but_last}
@@ -174,3 +174,7 @@ failed-way before seat after done line did failed = record {
 pub stopped-way : (stopped : Stopped) (before seat : BoardSeat) (done : List (List ℕ)) → Did before seat done → HasEnded (status_of stopped) done before seat
 stopped-way stops.WriteFault before seat done did = record { same = did.same; way = did.way }
 stopped-way stops.NoMemory before seat done did = record { same = did.same; way = inl did.way }
+
+-- of no lines nothing was written
+pub nothing-told : (words : CommandLine) (looks : List LookAll) (taken : Option (List ℕ)) → TakesPartOf words looks taken taken []
+nothing-told words looks taken = record { part = []; rest = []; front = refl; last = []; others = refl; taken = Appends-nil taken }

@@ -1,5 +1,5 @@
 -- How a run over an input ends, and how its seats come together.
-use Rattle.std.proofs.Common.{◌≡◌, ℕ, ◌+◌, ◌≤◌, Bool, true, false, ◌||◌, List, [], ◌∷◌, ◌++◌, length, Some, None, refl, sym, ap, ◌∙◌, subst, inl, inr, append_assoc}
+use Rattle.std.proofs.Common.{◌≡◌, ℕ, ◌+◌, ◌≤◌, Bool, true, false, ◌||◌, List, [], ◌∷◌, ◌++◌, length, take, Some, None, refl, sym, ap, ◌∙◌, subst, inl, inr, append_assoc}
 use Rattle.std.specs.Prelude.{Option, Ok, Err}
 use Rattle.std.specs.Io.KnownBytes.{Appends}
 use Rattle.std.proofs.KnownBytes.{Appends-nil}
@@ -24,16 +24,19 @@ use Rattle.noise_map.specs.declared.lines.LineDone.{LineDone}
 use Rattle.noise_map.specs.declared.stopped.Stopped.{Stopped}
 use Rattle.noise_map.specs.declared.stopped.Stopped.TheVariants as stops
 use Rattle.noise_map.specs.declared.status.Status.{Status}
+use Rattle.noise_map.specs.declared.status.Status.TheVariants as status
+use Rattle.noise_map.specs.Demands.{point_after}
+use Rattle.noise_map.specs.Making.{site_lines}
 use Rattle.noise_map.specs.Texts.{text_of, rows_of}
 use Rattle.noise_map.specs.Ways.{Way, begun, looks_in}
 use Rattle.noise_map.specs.Histories.{IsWay}
 use Rattle.noise_map.specs.Taking.{TakesFront}
 use Rattle.noise_map.specs.Steps.{is_refusal, newest_after}
-use Rattle.noise_map.specs.Progress.{Read, Did, Progress, HasWritten, HasEnded, HasFinished, Ended, IsTextOf, ending_of, status_at_end, status_of}
-use Rattle.noise_map.specs.Outcome.{Writes, TellsRefused, TakesPartOf}
+use Rattle.noise_map.specs.Progress.{Read, Did, Progress, HasWritten, HasEnded, HasFinished, Ended, AskedEnded, IsTextOf, ending_of, status_at_end, status_of}
+use Rattle.noise_map.specs.Outcome.{Covers, CoversFront, Writes, TellsRefused, TakesPartOf}
 use Rattle.noise_map.proofs.Ways.{looks_in-append, looks_in-one, is_way-grown}
-use Rattle.noise_map.proofs.Doing.{same-self, did-more, told-more, broken-told, failed-told, failed-way, stopped-way}
-use Rattle.noise_map.proofs.Reading.{StaysStopped, started_as, read_ended, line_handed, read_more, text_held, covers_front}
+use Rattle.noise_map.proofs.Doing.{same-self, did-more, told-more, broken-told, failed-told, nothing-told, failed-way, stopped-way}
+use Rattle.noise_map.proofs.Reading.{StaysStopped, nothing_covered, started_as, read_ended, line_handed, read_more, text_held, covers_front}
 
 -- ---- the beginning
 
@@ -99,6 +102,29 @@ ended-reading words answer s r r' count version refused before seat left now aft
       goes = record { same = p.did.same; way = written.1 };
     }
 
+-- what a run says of its lines that was broken off
+broken-says : (words : CommandLine) (stopped : Stopped) (refused : Bool) (looks : List LookAll) (left later taken_before taken_after : Option (List ℕ)) (done : List (List ℕ))
+    → CoversFront left later done → TakesPartOf words looks taken_before taken_after done
+    → Covers (status_of stopped) left later done × TellsRefused (status_of stopped) refused × Writes words looks (status_of stopped) taken_before taken_after done
+broken-says words stops.WriteFault refused looks left later taken_before taken_after done front part = (front, tt, part)
+broken-says words stops.NoMemory refused looks left later taken_before taken_after done front part = (front, tt, part)
+
+-- no memory was left for a reader
+pub unread : (words : CommandLine) (seat : BoardSeat) (left taken : Option (List ℕ)) → seat.mine ≡ [] → (s : Status) (n : ℕ) → s ≡ status.NoMemory → n ≡ 0
+    → Ended words s n (λ done. HasEnded s done seat seat) seat left left taken taken
+unread words seat left taken none s n is count =
+    let did = did-none seat none in
+    let none_done : Ended words status.NoMemory 0 (λ done. HasEnded status.NoMemory done seat seat) seat left left taken taken = record {
+      done = [];
+      counted = refl;
+      covers = nothing_covered left;
+      refused = tt;
+      writes = nothing-told words (looks_in seat.mine) taken;
+      goes = record { same = did.same; way = inl did.way };
+    } in
+    subst (λ (x : Status). Ended words x n (λ done. HasEnded x done seat seat) seat left left taken taken) (sym is)
+    (subst (λ (m : ℕ). Ended words status.NoMemory m (λ done. HasEnded status.NoMemory done seat seat) seat left left taken taken) (sym count) none_done)
+
 -- ---- one line more
 
 module _ (words : CommandLine) (answer : Next) (held : List ℕ) (r r' : Reading) (count version : ℕ) (refused : Bool) (before seat after : BoardSeat)
@@ -135,22 +161,10 @@ module _ (words : CommandLine) (answer : Next) (held : List ℕ) (r r' : Reading
 
   broke-at : (stopped : Stopped) → TakesPartOf words (looks_in after.mine) taken_before taken_after (p.done ++ this_line ∷ []) → HasEnded (status_of stopped) (p.done ++ this_line ∷ []) before after
       → length r'.pending ≤ read_size → Broke (status_of stopped)
-  broke-at stops.WriteFault part ended few = record {
-    done = p.done ++ this_line ∷ [];
-    counted = read-on.counted;
-    covers = covers_front r' (count + 1) left later (p.done ++ this_line ∷ []) read-on within few;
-    refused = tt;
-    writes = part;
-    goes = ended;
-  }
-  broke-at stops.NoMemory part ended few = record {
-    done = p.done ++ this_line ∷ [];
-    counted = read-on.counted;
-    covers = covers_front r' (count + 1) left later (p.done ++ this_line ∷ []) read-on within few;
-    refused = tt;
-    writes = part;
-    goes = ended;
-  }
+  broke-at stopped part ended few =
+      let front = covers_front r' (count + 1) left later (p.done ++ this_line ∷ []) read-on within few in
+      let says = broken-says words stopped (point_after (p.done ++ this_line ∷ [])).refused (looks_in after.mine) left later taken_before taken_after (p.done ++ this_line ∷ []) front part in
+      record { done = p.done ++ this_line ∷ []; counted = read-on.counted; covers = says.0; refused = says.1; writes = says.2; goes = ended }
 
   broke-by : (stopped : Stopped) → HasWritten (Err stopped) words (count + 1) version seat this_line after taken_now taken_after → length r'.pending ≤ read_size → Broke (status_of stopped)
   broke-by stopped (inl failed) few =
@@ -207,3 +221,11 @@ finished-run words s count before seat after left later taken_before taken_after
   writes = subst (λ (ls : List LookAll). Writes words ls s taken_before taken_after ended.done) (sym (finished-looks seat after turn)) ended.writes;
   goes = finished s ended.done before seat after ended.goes turn sound;
 }
+
+-- over the input, or over a generated site
+pub finished-asked : (make : Option ℕ) (words : CommandLine) (s : Status) (count : ℕ) (before seat after : BoardSeat) (left later taken_before taken_after : Option (List ℕ))
+    → AskedEnded make words s count (λ done. HasEnded s done before seat) seat left later taken_before taken_after → HasTurned seat calls.Finish replies.Done after → IsEditor after
+    → AskedEnded make words s count (λ done. HasFinished s done before after) after left later taken_before taken_after
+finished-asked None words s count before seat after left later taken_before taken_after ended turn sound = finished-run words s count before seat after left later taken_before taken_after ended turn sound
+finished-asked (Some number) words s count before seat after left later taken_before taken_after ended turn sound =
+    record { writes = ended.writes; goes = finished s (take count (site_lines number)) before seat after ended.goes turn sound }

@@ -14,7 +14,6 @@ use Rattle.command_lines.specs.declared.commands.Command.TheVariants as commands
 use Rattle.map_text.specs.declared.refusals.Refusal.{Refusal}
 use Rattle.map_text.specs.declared.refusals.Refusal.TheVariants.{Edit as OfEdit}
 use Rattle.turn_lock.specs.History.{entries_of, entry}
-use Rattle.turn_lock.specs.Standing.{HasCalled}
 use Rattle.turn_lock.proofs.Histories.{begins_self, entries_of-own}
 use Rattle.map_board.specs.declared.calls.BoardCall.{BoardCall}
 use Rattle.map_board.specs.declared.calls.BoardCall.TheVariants as calls
@@ -25,6 +24,7 @@ use Rattle.map_board.specs.Journal.{newest_scene}
 use Rattle.map_board.specs.Machine.{numbered, look_of}
 use Rattle.map_board.specs.Seats.{Entries, editor}
 use Rattle.map_board.specs.Showing.{IsLookAt, accepted_by, accepted_edits, settled_rows, ShowsRight, RunsShowRight}
+use Rattle.map_lock.proofs.Turning.{acted-once}
 use Rattle.map_lock.specs.Seats.{BoardSeat, BoardEntry, IsEditor}
 use Rattle.map_lock.specs.Turns.{HasTurned, HasActed}
 use Rattle.map_lock.specs.Settling.{is_finish, is_settling, is_look, HasNotFinished, IsQuiet, EndsInLook, EndsWithout}
@@ -103,22 +103,23 @@ still seat = record {
   unfinished = λ h. h;
 }
 
-gone-one : (before after : BoardSeat) (call : BoardCall) (reply : BoardReply) → HasCalled before call reply after → is_finish call ≡ false
+-- a seat did these entries, none of which finishes the board
+gone : (before after : BoardSeat) (own : Entries) → HasActed before own after → All (λ (e : BoardEntry). is_finish e.call ≡ false) own → HasGone before own after
+gone before after own acted going = record {
+  seen = record { rest = acted.between; is = acted.seen };
+  mine = acted.mine;
+  table = acted.table;
+  number = acted.number;
+  parts = acted.parts;
+  joined = acted.joined;
+  unfinished = λ h. subst HasNotFinished (sym acted.mine) (All-append (λ (x : BoardEntry). is_finish x.call ≡ false) before.mine own h going);
+}
+
+gone-one : (before after : BoardSeat) (call : BoardCall) (reply : BoardReply) → HasTurned before call reply after → is_finish call ≡ false
     → HasGone before (entry before.number call reply ∷ []) after
-gone-one before after call reply called not_finish =
+gone-one before after call reply turn going =
     let e : BoardEntry = entry before.number call reply in
-    record {
-      seen = record { rest = called.between ++ e ∷ []; is = called.seen ∙ append_assoc before.seen called.between (e ∷ []) };
-      mine = called.mine;
-      table = called.table;
-      number = called.number;
-      parts = called.parts;
-      joined = called.joined;
-      unfinished = λ h.
-          subst HasNotFinished (sym called.mine)
-          (All-append (λ (x : BoardEntry). is_finish x.call ≡ false) before.mine (e ∷ []) h
-          (All-cons (λ (x : BoardEntry). is_finish x.call ≡ false) e [] not_finish (All-nil (λ (x : BoardEntry). is_finish x.call ≡ false))));
-    }
+    gone before after (e ∷ []) (acted-once before after call reply turn) (All-cons (λ (x : BoardEntry). is_finish x.call ≡ false) e [] going (All-nil (λ (x : BoardEntry). is_finish x.call ≡ false)))
 
 -- ---- one turn of the editor
 
@@ -171,7 +172,7 @@ module _ (show : RunsShowRight) (before after : BoardSeat) (edit : Edit) where
       let parts = edit-accepted journal edit version (apply_of edit (newest_scene journal)) said in
       record {
         added = e ∷ [];
-        goes = gone-one before after (calls.Edit edit) (replies.Edited (Ok version)) turn.called refl;
+        goes = gone-one before after (calls.Edit edit) (replies.Edited (Ok version)) turn refl;
         does = edit-entry-is before.number (Ok version) (numbered (suc (length journal)) (apply_of edit (newest_scene journal)))
             (is-editors show before after (calls.Edit edit) (replies.Edited (Ok version)) turn sound) said;
         asked = ap length (looks_in-one e);
@@ -192,7 +193,7 @@ module _ (show : RunsShowRight) (before after : BoardSeat) (edit : Edit) where
       let parts = edit-refused journal edit fault (apply_of edit (newest_scene journal)) said in
       record {
         added = e ∷ [];
-        goes = gone-one before after (calls.Edit edit) (replies.Edited (Err fault)) turn.called refl;
+        goes = gone-one before after (calls.Edit edit) (replies.Edited (Err fault)) turn refl;
         does = edit-entry-is before.number (Err fault) (numbered (suc (length journal)) (apply_of edit (newest_scene journal)))
             (is-editors show before after (calls.Edit edit) (replies.Edited (Err fault)) turn sound) said;
         asked = ap length (looks_in-one e);
@@ -214,7 +215,7 @@ module _ (show : RunsShowRight) (before after : BoardSeat) (edit : Edit) where
       let is = is-editors show before after (calls.Edit edit) (replies.Edited (Err fault)) turn sound in
       record {
         added = e ∷ [];
-        goes = gone-one before after (calls.Edit edit) (replies.Edited (Err fault)) turn.called refl;
+        goes = gone-one before after (calls.Edit edit) (replies.Edited (Err fault)) turn refl;
         fails = inr (λ i. entry (is i) (calls.Edit edit) (replies.Edited (Err (want fault memory i))) ∷ []);
         unanswered = looks_in-one e;
       }
@@ -236,7 +237,7 @@ module _ (show : RunsShowRight) (before after : BoardSeat) where
       let right = right-at turn.met.journal journal (look_of turn.met) look J turn.step.0 (shown-there show before after calls.Look (replies.Looked (Ok look)) turn sound).look in
       record {
         added = e ∷ [];
-        goes = gone-one before after calls.Look (replies.Looked (Ok look)) turn.called refl;
+        goes = gone-one before after calls.Look (replies.Looked (Ok look)) turn refl;
         does = record {
           look = look;
           is = λ i. entry (number i) calls.Look (replies.Looked (Ok look)) ∷ [];
@@ -262,7 +263,7 @@ module _ (show : RunsShowRight) (before after : BoardSeat) where
       let e : BoardEntry = entry before.number calls.Look (replies.Looked (Err lack)) in
       record {
         added = e ∷ [];
-        goes = gone-one before after calls.Look (replies.Looked (Err lack)) turn.called refl;
+        goes = gone-one before after calls.Look (replies.Looked (Err lack)) turn refl;
         fails = (All-cons IsNoLook e [] (refl, refl) (All-nil IsNoLook), omega arith);
         unanswered = looks_in-one e;
       }
@@ -270,18 +271,8 @@ module _ (show : RunsShowRight) (before after : BoardSeat) where
   -- ---- settles
 
   acted-goes : (own : Entries) → HasActed before own after → All (λ (e : BoardEntry). is_settling e.call ≡ true) own → HasGone before own after
-  acted-goes own acted kinds = record {
-    seen = record { rest = acted.between; is = acted.seen };
-    mine = acted.mine;
-    table = acted.table;
-    number = acted.number;
-    parts = acted.parts;
-    joined = acted.joined;
-    unfinished = λ h.
-        subst HasNotFinished (sym acted.mine)
-        (All-append (λ (x : BoardEntry). is_finish x.call ≡ false) before.mine own h
-        (all-each (λ (x : BoardEntry). is_settling x.call ≡ true) (λ (x : BoardEntry). is_finish x.call ≡ false) (λ x. unfinishing x.call) own kinds));
-  }
+  acted-goes own acted kinds =
+      gone before after own acted (all-each (λ (x : BoardEntry). is_settling x.call ≡ true) (λ (x : BoardEntry). is_finish x.call ≡ false) (λ x. unfinishing x.call) own kinds)
 
   pub settle-failed : (own : Entries) → HasActed before own after → All (λ (e : BoardEntry). is_settling e.call ≡ true) own → EndsWithout own
       → HasFailed before (command commands.Settle) after

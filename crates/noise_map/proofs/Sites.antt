@@ -218,7 +218,7 @@ no-line bytes found both first none = rw none at first
 -- ---- the lines of a site, one after another
 
 -- one line more of a list
-pub line-step : (all : List (List ℕ)) (k : ℕ) (line : List ℕ) (more : List (List ℕ)) → take k all ++ line ∷ more ≡ all → k + length (line ∷ more) ≡ length all
+line-step : (all : List (List ℕ)) (k : ℕ) (line : List ℕ) (more : List (List ℕ)) → take k all ++ line ∷ more ≡ all → k + length (line ∷ more) ≡ length all
     → take (k + 1) all ≡ take k all ++ line ∷ []
 line-step all k line more whole counted =
     let front = take k all in
@@ -231,6 +231,19 @@ pub line-whole : (all : List (List ℕ)) (k : ℕ) (line : List ℕ) (more : Lis
     → take (k + 1) all ++ more ≡ all
 line-whole all k line more whole counted =
     ap (λ l. l ++ more) (line-step all k line more whole counted) ∙ (append_assoc (take k all) (line ∷ []) more ∙ whole)
+
+-- The next line of a site: behind so many of its lines stands a first line, and others.
+pub record NextLine (all : List (List ℕ)) (k : ℕ) (line after : List ℕ) : Type 0 where
+  pub whole : take k all ++ line ∷ lines after ≡ all
+  pub counted : k + length (line ∷ lines after) ≡ length all
+  pub step : take (k + 1) all ≡ take k all ++ line ∷ []
+
+pub next-line : (all : List (List ℕ)) (k : ℕ) (rest line after : List ℕ) → IsFirstLine rest (Some (line, after)) → take k all ++ lines rest ≡ all → k + length (lines rest) ≡ length all
+    → NextLine all k line after
+next-line all k rest line after parts whole counted =
+    let here : take k all ++ line ∷ lines after ≡ all = ap (λ l. take k all ++ l) (sym parts.0) ∙ whole in
+    let count : k + length (line ∷ lines after) ≡ length all = omega (arith, counted, ap length parts.0) in
+    record { whole = here; counted = count; step = line-step all k line (lines after) here count }
 
 pub made-push : (done : List (List ℕ)) (line : List ℕ) → made_by (done ++ line ∷ []) ≡ made_after (made_by done) line
 made-push done line = fold-append made_after nothing_made done (line ∷ [])

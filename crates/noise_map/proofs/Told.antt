@@ -17,7 +17,7 @@ use Rattle.map_lock.specs.Seats.{BoardSeat}
 use Rattle.noise_map.specs.Making.{Makes, MakesRow, site_lines}
 use Rattle.command_words.specs.declared.line.CommandLine.{CommandLine}
 use Rattle.noise_map.proofs.Reading.{nothing_covered}
-use Rattle.std.proofs.KnownBytes.{Appends-nil}
+use Rattle.noise_map.proofs.Doing.{nothing-told}
 use Rattle.noise_map.specs.Progress.{status_of, ending_of, HandedOut, Read}
 
 same_some : {X : Type 0} {x y : X} → Some x ≡ Some y → x ≡ y
@@ -91,6 +91,14 @@ write_told stops.NoMemory before now after same cause = record {
   well = λ untold. cause.memory refl ∙ same;
 }
 
+-- a run over a generated site tells no read fault
+pub site_untold : (number : ℕ) (end : Status) (count : ℕ) (taken_before taken_after : Option (List ℕ)) (reads : ℕ) → MakesRow number end count taken_before taken_after
+    → TellsFault status.ReadFault end reads reads
+site_untold number end count taken_before taken_after reads made = record {
+  rose = λ told. absurd (subst (λ (s : Status). MakesRow number s count taken_before taken_after) told made);
+  well = λ untold. refl;
+}
+
 -- ---- completeness
 
 over_limit : (bytes : List ℕ) (after : Option (List ℕ)) (done : List (List ℕ)) → CoversLimit (Some bytes) after done → length bytes ≤ input_limit → ⊥
@@ -151,7 +159,7 @@ never_begun words left taken = record {
   counted = refl;
   covers = nothing_covered left;
   refused = tt;
-  writes = record { part = []; rest = []; front = refl; last = []; others = refl; taken = Appends-nil taken };
+  writes = nothing-told words [] taken;
   history = (refl, refl);
 }
 
@@ -160,7 +168,7 @@ never_made number workers taken = record { writes = (omega arith, refl); history
   take_none : (ls : List (List ℕ)) → take 0 ls ≡ []
   take_none ls = refl
 
-none_asked : (make : Option ℕ) (words : CommandLine) (left taken : Option (List ℕ)) → OutcomeOf make words status.NoMemory 0 None left left taken taken
+pub none_asked : (make : Option ℕ) (words : CommandLine) (left taken : Option (List ℕ)) → OutcomeOf make words status.NoMemory 0 None left left taken taken
 none_asked None words left taken = never_begun words left taken
 none_asked (Some number) words left taken = never_made number words.workers taken
 

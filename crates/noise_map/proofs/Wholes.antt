@@ -1,7 +1,7 @@
 -- A run whose editor has ended and whose workers are all joined.
 use Rattle.std.proofs.Common.{◌≡◌, ◌∙◌, ◌++◌, ℕ, List, [], length, drop, sym, ap, subst, arith, drop_of_length-le}
 use Rattle.std.proofs.lemmas.List.{take_all, append-nil}
-use Rattle.std.specs.Prelude.{Option, Some, take}
+use Rattle.std.specs.Prelude.{Option, Some, None, take}
 use Rattle.command_words.specs.declared.line.CommandLine.{CommandLine}
 use Rattle.atomic_table.specs.Seated.{TableId}
 use Rattle.map_board.specs.declared.looks.LookAll.{LookAll}
@@ -9,8 +9,8 @@ use Rattle.map_lock.specs.Seats.{BoardSeat}
 use Rattle.noise_map.specs.declared.status.Status.{Status}
 use Rattle.noise_map.specs.Ways.{looks_in}
 use Rattle.noise_map.specs.Crews.{IsBeginner, HasJoinedAll}
-use Rattle.noise_map.specs.Progress.{HasFinished, Ended, SiteEnded}
-use Rattle.noise_map.specs.Outcome.{Outcome, Writes}
+use Rattle.noise_map.specs.Progress.{HasFinished, Ended, SiteEnded, AskedEnded}
+use Rattle.noise_map.specs.Outcome.{Outcome, OutcomeOf, Writes}
 use Rattle.noise_map.specs.Making.{Makes, site_lines}
 use Rattle.noise_map.proofs.Crews.{comes-whole}
 
@@ -21,7 +21,7 @@ seats-back seats items len whole same =
     ap (λ rest. take len (seats ++ rest)) none ∙ (ap (take len) (append-nil seats) ∙ take_all len seats (omega (arith, whole, same)))
 
 -- over an input
-pub whole-run : (words : CommandLine) (lock : TableId) (s : Status) (count : ℕ) (first seat last : BoardSeat) (left later taken_before taken_after : Option (List ℕ))
+whole-run : (words : CommandLine) (lock : TableId) (s : Status) (count : ℕ) (first seat last : BoardSeat) (left later taken_before taken_after : Option (List ℕ))
     → IsBeginner lock words.workers first → Ended words s count (λ done. HasFinished s done first seat) seat left later taken_before taken_after
     → (n : ℕ) → n ≡ words.workers → HasJoinedAll lock seat n last → Outcome words s count (Some last) left later taken_before taken_after
 whole-run words lock s count first seat last left later taken_before taken_after begins ended n all joined = record {
@@ -34,10 +34,18 @@ whole-run words lock s count first seat last left later taken_before taken_after
 }
 
 -- over a generated site
-pub whole-site : (number workers : ℕ) (lock : TableId) (s : Status) (count : ℕ) (first seat last : BoardSeat) (taken_before taken_after : Option (List ℕ))
+whole-site : (number workers : ℕ) (lock : TableId) (s : Status) (count : ℕ) (first seat last : BoardSeat) (taken_before taken_after : Option (List ℕ))
     → IsBeginner lock workers first → SiteEnded number s count (λ done. HasFinished s done first seat) taken_before taken_after
     → (n : ℕ) → n ≡ workers → HasJoinedAll lock seat n last → Makes number workers s count (Some last) taken_before taken_after
 whole-site number workers lock s count first seat last taken_before taken_after begins ended n all joined = record {
   writes = ended.writes;
   history = comes-whole lock workers s (take count (site_lines number)) first seat last joined.others begins ended.goes joined.back (joined.all ∙ all) joined.joins;
 }
+
+pub whole-asked : (make : Option ℕ) (words : CommandLine) (lock : TableId) (s : Status) (count : ℕ) (first seat last : BoardSeat) (left later taken_before taken_after : Option (List ℕ))
+    → IsBeginner lock words.workers first → AskedEnded make words s count (λ done. HasFinished s done first seat) seat left later taken_before taken_after
+    → (n : ℕ) → n ≡ words.workers → HasJoinedAll lock seat n last → OutcomeOf make words s count (Some last) left later taken_before taken_after
+whole-asked None words lock s count first seat last left later taken_before taken_after begins ended n all joined =
+    whole-run words lock s count first seat last left later taken_before taken_after begins ended n all joined
+whole-asked (Some number) words lock s count first seat last left later taken_before taken_after begins ended n all joined =
+    whole-site number words.workers lock s count first seat last taken_before taken_after begins ended n all joined

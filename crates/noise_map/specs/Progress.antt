@@ -162,3 +162,11 @@ pub record SiteEnded (number : ℕ) (status : Status) (count : ℕ) (Goes : List
     (taken_before taken_after : Option (List ℕ)) : Type 0 where
   pub writes : MakesRow number status count taken_before taken_after
   pub goes : Goes (take count (site_lines number))
+
+-- A run over what the words ask for, a generated site or the input, has done so many lines, and its editor ended so.
+abbrev pub AskedEnded : Option ℕ → CommandLine → Status → ℕ → (List (List ℕ) → Type 0) → BoardSeat → Option (List ℕ)
+    → Option (List ℕ) → Option (List ℕ) → Option (List ℕ) → Type 0
+AskedEnded None words status count Goes seat left_before left_after taken_before taken_after =
+    Ended words status count Goes seat left_before left_after taken_before taken_after
+AskedEnded (Some number) words status count Goes seat left_before left_after taken_before taken_after =
+    SiteEnded number status count Goes taken_before taken_after

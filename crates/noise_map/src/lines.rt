@@ -1,13 +1,12 @@
 //! The lines of an input, one after another.
 ghost use Rattle.std.specs.Prelude.{◌≡◌, ℕ, List, [], IfOk};
-ghost use Rattle.map_io.specs.Reading.{fresh};
 ghost use Rattle.map_lock.specs.Settling.{HasNotFinished};
 ghost use Rattle.noise_map.specs.Demands.{demand_of};
 ghost use Rattle.noise_map.specs.Texts.{rows_of};
 ghost use Rattle.noise_map.specs.Rows.{ShowsFew};
 ghost use Rattle.noise_map.specs.Taking.{Takes, CausedByWriteFault};
 ghost use Rattle.noise_map.specs.Steps.{MeetsUnlessMemory};
-ghost use Rattle.noise_map.specs.Progress.{ending_of, status_of, IsLineOf, IsTextOf, HasWritten, HasEnded, HasFinished, Ended};
+ghost use Rattle.noise_map.specs.Progress.{ending_of, status_of, IsLineOf, IsTextOf, HasWritten, HasEnded, Ended};
 ghost use Rattle.noise_map.specs.Outcome.{TellsFault};
 
 use crate::answer::Answer;
@@ -128,17 +127,15 @@ fn do_and_show<R: Wait, G: Gate, K: Sink>(
     })
 }
 
-/// Reads line after line and does each, until the input ends or something stops it.
-fn do_lines<R: Wait, G: Gate, S: Source, K: Sink>(
+/// Reads line after line of the input and does each, until the input ends or something stops it.
+pub fn do_lines<R: Wait, G: Gate, S: Source, K: Sink>(
     shared: &Shared<R, G>,
     words: CommandLine,
-    reader: &mut LineReader,
     editor: &mut EditorSeat,
     input: &mut S,
     out: &mut K,
 ) -> Ending
     requires own { editor.old.table ≡ shared.now.lock.now }
-    requires reader { reader.old ≡ fresh }
     requires nothing { editor.old.mine ≡ [] }
     ensures ended { Ended words result.status result.lines
         (λ done. HasEnded result.status done editor.old editor.new) editor.new
@@ -146,6 +143,9 @@ fn do_lines<R: Wait, G: Gate, S: Source, K: Sink>(
     ensures read_fault { TellsFault Status.ReadFault result.status (S.faults input.old) (S.faults input.new) }
     ensures write_fault { TellsFault Status.WriteFault result.status (K.faults out.old) (K.faults out.new) }
 {
+    let Ok(mut reader) = LineReader::new(shared.alloc) else {
+        return Ending::without_memory(0);
+    };
     let mut lines = 0;
     let mut version = 0;
     let mut refused = false;
@@ -177,27 +177,4 @@ fn do_lines<R: Wait, G: Gate, S: Source, K: Sink>(
             }
         }
     }
-}
-
-/// All that the editor does: the lines of the input, and then it finishes the board.
-pub fn edit_lines<R: Wait, G: Gate, S: Source, K: Sink>(
-    shared: &Shared<R, G>,
-    words: CommandLine,
-    reader: &mut LineReader,
-    editor: &mut EditorSeat,
-    input: &mut S,
-    out: &mut K,
-) -> Ending
-    requires own { editor.old.table ≡ shared.now.lock.now }
-    requires reader { reader.old ≡ fresh }
-    requires nothing { editor.old.mine ≡ [] }
-    ensures finished { Ended words result.status result.lines
-        (λ done. HasFinished result.status done editor.old editor.new) editor.new
-        (S.left input.old) (S.left input.new) (K.taken out.old) (K.taken out.new) }
-    ensures read_fault { TellsFault Status.ReadFault result.status (S.faults input.old) (S.faults input.new) }
-    ensures write_fault { TellsFault Status.WriteFault result.status (K.faults out.old) (K.faults out.new) }
-{
-    let ending = do_lines(shared, words, reader, editor, input, out);
-    shared.lock.finish(shared.rt, editor);
-    ending
 }

@@ -6,7 +6,7 @@ ghost use Rattle.map_lock.specs.Settling.{HasNotFinished};
 ghost use Rattle.noise_map.specs.FirstLine.{IsFirstLine};
 ghost use Rattle.noise_map.specs.Making.{AddsLine};
 ghost use Rattle.noise_map.specs.Outcome.{TellsFault};
-ghost use Rattle.noise_map.specs.Progress.{HasEnded, HasFinished, SiteEnded};
+ghost use Rattle.noise_map.specs.Progress.{HasEnded, SiteEnded};
 ghost use Rattle.noise_map.specs.Progress as progress;
 
 use crate::making::Making;
@@ -35,16 +35,6 @@ fn first_line(bytes: &[u8]) -> Option<(&[u8], &[u8])>
     match line_feed(bytes) {
         Some(end) => Some((&bytes[..end], &bytes[end + 1..])),
         None => Some((bytes, &bytes[bytes.len()..])),
-    }
-}
-
-fn without_memory(lines: u64) -> Ending
-    ensures status { result.status ≡ Status.NoMemory }
-    ensures lines { result.lines ≡ lines }
-{
-    Ending {
-        status: Status::NoMemory,
-        lines,
     }
 }
 
@@ -79,7 +69,7 @@ fn make_line<R: Wait, G: Gate>(
 }
 
 /// Does the lines of the generated site of this number, and writes the one row that tells what they come to.
-fn do_site<R: Wait, G: Gate, K: Sink>(
+pub fn do_site<R: Wait, G: Gate, K: Sink>(
     shared: &Shared<R, G>,
     number: u32,
     editor: &mut EditorSeat,
@@ -93,7 +83,7 @@ fn do_site<R: Wait, G: Gate, K: Sink>(
     ensures write_fault { TellsFault Status.WriteFault result.status (K.faults out.old) (K.faults out.new) }
 {
     let Ok(text) = site(shared.alloc, number) else {
-        return without_memory(0);
+        return Ending::without_memory(0);
     };
     let mut making = Making::empty();
     let mut lines = 0;
@@ -101,35 +91,16 @@ fn do_site<R: Wait, G: Gate, K: Sink>(
     while let Some((line, after)) = first_line(rest) {
         lines += 1;
         let Ok(()) = make_line(shared, editor, line, &mut making) else {
-            return without_memory(lines);
+            return Ending::without_memory(lines);
         };
         rest = after;
     }
     let Ok(row) = making.row(shared.alloc, number) else {
-        return without_memory(lines);
+        return Ending::without_memory(lines);
     };
     let status = match put_all(out, row.as_slice()) {
         Ok(()) => status_at_end(making.refused > 0),
         Err(_) => Status::WriteFault,
     };
     Ending { status, lines }
-}
-
-/// All that the editor does: the lines of the site of this number and their row, and then it finishes the board.
-pub fn edit_site<R: Wait, G: Gate, K: Sink>(
-    shared: &Shared<R, G>,
-    number: u32,
-    editor: &mut EditorSeat,
-    out: &mut K,
-) -> Ending
-    requires own { editor.old.table ≡ shared.now.lock.now }
-    requires nothing { editor.old.mine ≡ [] }
-    ensures finished { SiteEnded number result.status result.lines
-        (λ done. HasFinished result.status done editor.old editor.new)
-        (K.taken out.old) (K.taken out.new) }
-    ensures write_fault { TellsFault Status.WriteFault result.status (K.faults out.old) (K.faults out.new) }
-{
-    let ending = do_site(shared, number, editor, out);
-    shared.lock.finish(shared.rt, editor);
-    ending
 }

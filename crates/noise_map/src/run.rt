@@ -2,20 +2,18 @@
 ghost use Rattle.std.specs.Prelude.{◌≡◌, ◌≢◌, ◌≤◌, ◌<◌, ◌^◌, ◌⊎◌, [], length, All, map, string_bytes, Some, None, IsSome, IfSome};
 ghost use Rattle.std.specs.List.{AllZip};
 ghost use Rattle.map_io.specs.Causes.{Rose};
-ghost use Rattle.map_io.specs.Reading.{fresh};
 ghost use Rattle.command_words.specs.Words.{command_line_of};
 ghost use Rattle.noise_map.specs.Crews.{IsFresh, IsBack};
-ghost use Rattle.noise_map.specs.Making.{Makes};
-ghost use Rattle.noise_map.specs.Progress.{HasFinished, Ended, SiteEnded};
-ghost use Rattle.noise_map.specs.Outcome.{Outcome, RunOutcome, TellsFault, RunsToTheEnd};
+ghost use Rattle.noise_map.specs.Progress.{HasEnded, HasFinished, AskedEnded};
+ghost use Rattle.noise_map.specs.Outcome.{RunOutcome, TellsFault, RunsToTheEnd};
 
 use crate::crew::{Crew, join_all};
-use crate::lines::edit_lines;
-use crate::make::edit_site;
+use crate::lines::do_lines;
+use crate::make::do_site;
 use crate::status::{Ending, Report, Status};
 use crate::step::Shared;
 use command_words::{CommandLine, WordsFault, command_line};
-use map_io::{Gate, LineReader, Sink, Source};
+use map_io::{Gate, Sink, Source};
 use map_lock::{EditorSeat, WorkerSeat};
 use receiver_workers::with_workers;
 use std::alloc::Global;
@@ -33,12 +31,35 @@ fn not_begun(status: Status) -> Report
     }
 }
 
-/// The editor does the lines of the input and finishes the board, beside the workers.
-fn lines_beside<R: Threads + Wait + Sync, G: Gate + Sync, S: Source + Send, K: Sink + Send>(
+/// Does the lines of the input, or those of the generated site that is asked for in its place.
+fn do_asked<R: Wait, G: Gate, S: Source, K: Sink>(
+    shared: &Shared<R, G>,
+    words: CommandLine,
+    editor: &mut EditorSeat,
+    input: &mut S,
+    out: &mut K,
+) -> Ending
+    requires own { editor.old.table ≡ shared.now.lock.now }
+    requires nothing { editor.old.mine ≡ [] }
+    ensures ended { AskedEnded words.make words result.status result.lines
+        (λ done. HasEnded result.status done editor.old editor.new) editor.new
+        (S.left input.old) (S.left input.new) (K.taken out.old) (K.taken out.new) }
+    ensures read_fault { TellsFault Status.ReadFault result.status (S.faults input.old) (S.faults input.new) }
+    ensures write_fault { TellsFault Status.WriteFault result.status (K.faults out.old) (K.faults out.new) }
+    ensures unread { IsSome words.make → input.new ≡ input.old }
+{
+    match words.make {
+        Some(number) => do_site(shared, number, editor, out),
+        None => do_lines(shared, words, editor, input, out),
+    }
+}
+
+/// The editor does the lines of the input, or of the generated site that is asked for in its place, and then finishes the
+/// board, beside the workers.
+fn edit_beside<R: Threads + Wait + Sync, G: Gate + Sync, S: Source + Send, K: Sink + Send>(
     shared: &Shared<R, G>,
     words: CommandLine,
     workers: &mut [WorkerSeat],
-    reader: &mut LineReader,
     editor: &mut EditorSeat,
     input: &mut S,
     out: &mut K,
@@ -46,98 +67,13 @@ fn lines_beside<R: Threads + Wait + Sync, G: Gate + Sync, S: Source + Send, K: S
     requires own { editor.old.table ≡ shared.now.lock.now }
     requires theirs { All (IsFresh shared.now.lock.now) workers.old }
     requires few { length workers.old < 2 ^ 32 }
-    requires reader { reader.old ≡ fresh }
     requires nothing { editor.old.mine ≡ [] }
-    ensures finished { Ended words result.status result.lines
+    ensures finished { AskedEnded words.make words result.status result.lines
         (λ done. HasFinished result.status done editor.old editor.new) editor.new
         (S.left input.old) (S.left input.new) (K.taken out.old) (K.taken out.new) }
     ensures read_fault { TellsFault Status.ReadFault result.status (S.faults input.old) (S.faults input.new) }
     ensures write_fault { TellsFault Status.WriteFault result.status (K.faults out.old) (K.faults out.new) }
-    ensures back { All (IsBack shared.now.lock.now) workers.new }
-{
-    with_workers(
-        shared.rt,
-        shared.lock,
-        shared.gate,
-        workers,
-        &mut || -> Ending
-            requires { (editor.now.table ≡ shared.now.lock.now) × (reader.now ≡ fresh)
-                × (editor.now.mine ≡ []) }
-            ensures { Ended words result.status result.lines
-                (λ done. HasFinished result.status done editor.entry.now editor.exit.now) editor.exit.now
-                (S.left input.entry.now) (S.left input.exit.now) (K.taken out.entry.now) (K.taken out.exit.now)
-                × TellsFault Status.ReadFault result.status (S.faults input.entry.now) (S.faults input.exit.now)
-                × TellsFault Status.WriteFault result.status (K.faults out.entry.now) (K.faults out.exit.now) }
-        { edit_lines(shared, words, reader, editor, input, out) },
-    )
-}
-
-/// A run with an empty board over all lines of the input.
-fn run_lines<R: Threads + Wait + Sync, S: Source + Send, K: Sink + Send, G: Gate + Sync>(
-    rt: &R,
-    alloc: Global,
-    words: CommandLine,
-    input: &mut S,
-    out: &mut K,
-    gate: &G,
-) -> Report
-    requires { words.workers ≤ 16 }
-    ensures outcome { Outcome words result.status result.lines result.seat
-        (S.left input.old) (S.left input.new) (K.taken out.old) (K.taken out.new) }
-    ensures read_fault { TellsFault Status.ReadFault result.status (S.faults input.old) (S.faults input.new) }
-    ensures write_fault { TellsFault Status.WriteFault result.status (K.faults out.old) (K.faults out.new) }
-{
-    let Ok(mut reader) = LineReader::new(alloc) else {
-        return not_begun(Status::NoMemory);
-    };
-    let Ok(crew) = Crew::gather(rt, alloc, words.workers) else {
-        return not_begun(Status::NoMemory);
-    };
-    let Crew {
-        lock,
-        mut editor,
-        mut workers,
-    } = crew;
-    let shared = Shared {
-        rt,
-        alloc,
-        lock: &lock,
-        gate,
-    };
-    let ending = lines_beside(
-        &shared,
-        words,
-        workers.as_mut_slice(),
-        &mut reader,
-        &mut editor,
-        input,
-        out,
-    );
-    join_all(&lock, &mut editor, workers);
-    Report {
-        status: ending.status,
-        lines: ending.lines,
-        seat: Some(editor),
-    }
-}
-
-/// The editor does the lines of a generated site, writes the row that tells what they come to and finishes the board, beside
-/// the workers.
-fn site_beside<R: Threads + Wait + Sync, G: Gate + Sync, K: Sink + Send>(
-    shared: &Shared<R, G>,
-    number: u32,
-    workers: &mut [WorkerSeat],
-    editor: &mut EditorSeat,
-    out: &mut K,
-) -> Ending
-    requires own { editor.old.table ≡ shared.now.lock.now }
-    requires theirs { All (IsFresh shared.now.lock.now) workers.old }
-    requires few { length workers.old < 2 ^ 32 }
-    requires nothing { editor.old.mine ≡ [] }
-    ensures finished { SiteEnded number result.status result.lines
-        (λ done. HasFinished result.status done editor.old editor.new)
-        (K.taken out.old) (K.taken out.new) }
-    ensures write_fault { TellsFault Status.WriteFault result.status (K.faults out.old) (K.faults out.new) }
+    ensures unread { IsSome words.make → input.new ≡ input.old }
     ensures back { All (IsBack shared.now.lock.now) workers.new }
 {
     with_workers(
@@ -147,52 +83,21 @@ fn site_beside<R: Threads + Wait + Sync, G: Gate + Sync, K: Sink + Send>(
         workers,
         &mut || -> Ending
             requires { (editor.now.table ≡ shared.now.lock.now) × (editor.now.mine ≡ []) }
-            ensures { SiteEnded number result.status result.lines
-                (λ done. HasFinished result.status done editor.entry.now editor.exit.now)
-                (K.taken out.entry.now) (K.taken out.exit.now)
-                × TellsFault Status.WriteFault result.status (K.faults out.entry.now) (K.faults out.exit.now) }
-        { edit_site(shared, number, editor, out) },
+            ensures { AskedEnded words.make words result.status result.lines
+                (λ done. HasFinished result.status done editor.entry.now editor.exit.now) editor.exit.now
+                (S.left input.entry.now) (S.left input.exit.now) (K.taken out.entry.now) (K.taken out.exit.now)
+                × TellsFault Status.ReadFault result.status (S.faults input.entry.now) (S.faults input.exit.now)
+                × TellsFault Status.WriteFault result.status (K.faults out.entry.now) (K.faults out.exit.now)
+                × (IsSome words.make → input.exit.now ≡ input.entry.now) }
+        {
+            let ending = do_asked(shared, words, editor, input, out);
+            shared.lock.finish(shared.rt, editor);
+            ending
+        },
     )
 }
 
-/// A run with an empty board over the lines of the generated site of this number.
-fn make<R: Threads + Wait + Sync, K: Sink + Send, G: Gate + Sync>(
-    rt: &R,
-    alloc: Global,
-    count: u8,
-    number: u32,
-    out: &mut K,
-    gate: &G,
-) -> Report
-    requires { count ≤ 16 }
-    ensures outcome { Makes number count result.status result.lines result.seat
-        (K.taken out.old) (K.taken out.new) }
-    ensures write_fault { TellsFault Status.WriteFault result.status (K.faults out.old) (K.faults out.new) }
-{
-    let Ok(crew) = Crew::gather(rt, alloc, count) else {
-        return not_begun(Status::NoMemory);
-    };
-    let Crew {
-        lock,
-        mut editor,
-        mut workers,
-    } = crew;
-    let shared = Shared {
-        rt,
-        alloc,
-        lock: &lock,
-        gate,
-    };
-    let ending = site_beside(&shared, number, workers.as_mut_slice(), &mut editor, out);
-    join_all(&lock, &mut editor, workers);
-    Report {
-        status: ending.status,
-        lines: ending.lines,
-        seat: Some(editor),
-    }
-}
-
-/// What there is to do, and where: a run over the input, or over a generated site in its place.
+/// A run with an empty board: over the input, or over a generated site in its place.
 fn run_asked<R: Threads + Wait + Sync, S: Source + Send, K: Sink + Send, G: Gate + Sync>(
     rt: &R,
     alloc: Global,
@@ -208,9 +113,33 @@ fn run_asked<R: Threads + Wait + Sync, S: Source + Send, K: Sink + Send, G: Gate
     ensures write_fault { TellsFault Status.WriteFault result.status (K.faults out.old) (K.faults out.new) }
     ensures unread { IsSome words.make → input.new ≡ input.old }
 {
-    match words.make {
-        Some(number) => make(rt, alloc, words.workers, number, out, gate),
-        None => run_lines(rt, alloc, words, input, out, gate),
+    let Ok(crew) = Crew::gather(rt, alloc, words.workers) else {
+        return not_begun(Status::NoMemory);
+    };
+    let Crew {
+        lock,
+        mut editor,
+        mut workers,
+    } = crew;
+    let shared = Shared {
+        rt,
+        alloc,
+        lock: &lock,
+        gate,
+    };
+    let ending = edit_beside(
+        &shared,
+        words,
+        workers.as_mut_slice(),
+        &mut editor,
+        input,
+        out,
+    );
+    join_all(&lock, &mut editor, workers);
+    Report {
+        status: ending.status,
+        lines: ending.lines,
+        seat: Some(editor),
     }
 }
 

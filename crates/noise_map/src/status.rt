@@ -78,6 +78,19 @@ pub struct Ending {
     pub lines: u64,
 }
 
+impl Ending {
+    /// There was no memory, behind so many lines.
+    pub fn without_memory(lines: u64) -> Ending
+        ensures status { result.status ≡ Status.NoMemory }
+        ensures lines { result.lines ≡ lines }
+    {
+        Ending {
+            status: Status::NoMemory,
+            lines,
+        }
+    }
+}
+
 /// What a run answers.
 #[derive(Drop)]
 pub struct Report {

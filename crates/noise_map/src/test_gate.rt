@@ -1,14 +1,11 @@
 //! Runs whose workers wait at the gate for one another, and whose lines wait for a worker.
 ghost use Rattle.std.specs.Prelude.{None};
 
-use crate::run::run;
 use crate::status::Status;
-use map_io::{Failed, Gate, MemSink, Source};
-use std::alloc::Global;
-use std::sync::Wait;
+use crate::tests::taken_of;
+use map_io::{Failed, Gate, Source};
 use std::sync::atomic::{AtomicU64, Ordering};
 use std::test::Fail;
-use std::thread::Threads;
 
 const SCENE: &str =
     r#"{"do":"source","name":"s","kind":"industry","x":0,"y":0,"h":2000,"lw":[null,null,null,null,10000,null,null,null]}
@@ -97,26 +94,10 @@ impl Gate for Noting<'_> {
     }
 }
 
-// The run over a source with as many workers as the word says.
-fn taken<R: Threads + Wait + Sync, G: Gate + Sync>(
-    rt: &R,
-    alloc: Global,
-    workers: &str,
-    mut source: SlowSource,
-    gate: &G,
-) -> Result<(Status, Vec<u8>), Fail> {
-    let program = String::from_str(alloc, "noisemap")?;
-    let words = vec![in alloc; program, String::from_str(alloc, workers)?]?;
-    let mut sink = MemSink::new(Vec::new(alloc));
-    sink.reserve(alloc, 4_096)?;
-    let report = run(rt, alloc, words.as_slice(), &mut source, &mut sink, gate);
-    Ok((report.status, sink.bytes().to_vec(alloc)?))
-}
-
 #[test]
 fn two_workers_meet_at_the_gate(rt: HostRuntime) -> Result<(), Fail> {
     let (first, second) = (AtomicU64::new(0), AtomicU64::new(0));
-    let source = SlowSource {
+    let mut source = SlowSource {
         reads: 0,
         worker: None,
     };
@@ -124,8 +105,8 @@ fn two_workers_meet_at_the_gate(rt: HostRuntime) -> Result<(), Fail> {
         first: &first,
         second: &second,
     };
-    let (status, rows) = taken(&rt, rt.alloc(), "--workers=2", source, &gate)?;
-    assert_eq!(rt; status, Status::Done);
+    let (report, rows) = taken_of(&rt, rt.alloc(), &["--workers=2"], &mut source, 0, &gate)?;
+    assert_eq!(rt; report.status, Status::Done);
     assert_eq!(rt; rows.as_slice(), SETTLED.as_bytes());
     let came = (first.load(Ordering::SeqCst), second.load(Ordering::SeqCst));
     assert_eq!(rt; came, (1, 1));
@@ -135,13 +116,13 @@ fn two_workers_meet_at_the_gate(rt: HostRuntime) -> Result<(), Fail> {
 #[test]
 fn a_worker_solves_before_the_settle_is_read(rt: HostRuntime) -> Result<(), Fail> {
     let first = AtomicU64::new(0);
-    let source = SlowSource {
+    let mut source = SlowSource {
         reads: 0,
         worker: Some(&first),
     };
     let gate = Noting { first: &first };
-    let (status, rows) = taken(&rt, rt.alloc(), "--workers=1", source, &gate)?;
-    assert_eq!(rt; status, Status::Done);
+    let (report, rows) = taken_of(&rt, rt.alloc(), &["--workers=1"], &mut source, 0, &gate)?;
+    assert_eq!(rt; report.status, Status::Done);
     assert_eq!(rt; rows.as_slice(), SETTLED.as_bytes());
     assert_eq!(rt; first.load(Ordering::SeqCst), 1);
     Ok(())

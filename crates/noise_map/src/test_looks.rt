@@ -1,49 +1,20 @@
 //! Runs with looks, stale rows and counts, with workers and without. The rows expected are those of an independent
 //! calculation.
-use crate::run::run;
 use crate::status::Status;
-use map_io::{MemSink, MemSource, OpenGate};
-use std::alloc::Global;
-use std::sync::Wait;
+use crate::tests::written;
 use std::test::Fail;
-use std::thread::Threads;
 
 const SOURCE: &str =
     r#"{"do":"source","name":"s","kind":"industry","x":0,"y":0,"h":2000,"lw":[null,null,null,null,10000,null,null,null]}"#;
 
 const RECEIVER: &str = r#"{"do":"receiver","name":"r","x":100000,"y":0,"h":2000}"#;
 
-// What a run with these options over this input answers, and what its sink has taken.
-fn taken<R: Threads + Wait + Sync>(
-    rt: &R,
-    alloc: Global,
-    options: &[&str],
-    input: &str,
-) -> Result<(Status, Vec<u8>), Fail> {
-    let mut words = vec![in alloc; String::from_str(alloc, "noisemap")?]?;
-    for option in options {
-        words.push(String::from_str(alloc, option)?)?;
-    }
-    let mut source = MemSource::new(input.as_bytes().to_vec(alloc)?, 10, Vec::new(alloc));
-    let mut sink = MemSink::new(Vec::new(alloc));
-    sink.reserve(alloc, 65_536)?;
-    let report = run(
-        rt,
-        alloc,
-        words.as_slice(),
-        &mut source,
-        &mut sink,
-        &OpenGate,
-    );
-    Ok((report.status, sink.bytes().to_vec(alloc)?))
-}
-
 #[test]
 fn a_receiver_without_levels_is_new(rt: HostRuntime) -> Result<(), Fail> {
     let alloc = rt.alloc();
     let input = format!(in alloc; "{SOURCE}\n{RECEIVER}\n{{\"do\":\"look\"}}\n")?;
-    let (status, rows) = taken(&rt, alloc, &[], input.as_str())?;
-    assert_eq!(rt; status, Status::Done);
+    let (report, rows) = written(&rt, alloc, &[], input.as_bytes(), 0, 0)?;
+    assert_eq!(rt; report.status, Status::Done);
     assert_eq!(rt;
         rows.as_slice(),
         b"look,2,1,,,,\nrow,2,r,new,,,\n".as_slice()
@@ -65,8 +36,8 @@ fn a_stale_row_names_the_edit_that_touches_it(rt: HostRuntime) -> Result<(), Fai
     let expected =
         "settle,4,1,,,,\nrow,4,r,current,,33.39,33.40\nlook,5,1,,,,\nrow,4,r,stale,5,33.39,33.40\nsettle,5,1,,,,\nrow,5,r,current,,35.61,35.62\n";
     for workers in ["--workers=0", "--workers=1", "--workers=4"] {
-        let (status, rows) = taken(&rt, alloc, &[workers], input.as_str())?;
-        assert_eq!(rt; status, Status::Done);
+        let (report, rows) = written(&rt, alloc, &[workers], input.as_bytes(), 0, 0)?;
+        assert_eq!(rt; report.status, Status::Done);
         assert_eq!(rt; rows.as_slice(), expected.as_bytes());
     }
     Ok(())
@@ -82,8 +53,8 @@ fn what_no_edit_touches_is_not_taken_again(rt: HostRuntime) -> Result<(), Fail> 
 {"do":"look"}
 {"do":"settle"}"#;
     let input = format!(in alloc; "{SOURCE}\n{RECEIVER}\n{far}\n")?;
-    let (status, rows) = taken(&rt, alloc, &["--counts"], input.as_str())?;
-    assert_eq!(rt; status, Status::Done);
+    let (report, rows) = written(&rt, alloc, &["--counts"], input.as_bytes(), 0, 0)?;
+    assert_eq!(rt; report.status, Status::Done);
     assert_eq!(rt;
         rows.as_slice(),
         b"settle,3,1,,,,\nrow,3,r,current,,51.62,51.64\ncounts,3,1,1,1,0,0\nlook,4,1,,,,\nrow,4,r,current,,51.62,51.64\nsettle,4,1,,,,\nrow,4,r,current,,51.62,51.64\ncounts,4,1,1,1,0,0\n".as_slice()

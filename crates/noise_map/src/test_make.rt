@@ -1,7 +1,7 @@
 //! Runs over a generated site. The row expected is that of an independent calculation.
-use crate::run::run;
 use crate::status::{Report, Status};
-use map_io::{FreeSource, MemSink, OpenGate};
+use crate::tests::taken_of;
+use map_io::{FreeSource, OpenGate};
 use std::alloc::Global;
 use std::sync::Wait;
 use std::test::Fail;
@@ -13,24 +13,9 @@ fn made<R: Threads + Wait + Sync>(
     alloc: Global,
     write_fault: u32,
 ) -> Result<(Report, Vec<u8>), Fail> {
-    let words = vec![in alloc;
-        String::from_str(alloc, "noisemap")?,
-        String::from_str(alloc, "--make=7")?,
-        String::from_str(alloc, "--workers")?,
-        String::from_str(alloc, "4")?,
-    ]?;
     let mut source = FreeSource::new(b"{\"do\":\"settle\"}".to_vec(alloc)?);
-    let mut sink = MemSink::new(vec![in alloc; write_fault]?);
-    sink.reserve(alloc, 4_096)?;
-    let report = run(
-        rt,
-        alloc,
-        words.as_slice(),
-        &mut source,
-        &mut sink,
-        &OpenGate,
-    );
-    Ok((report, sink.bytes().to_vec(alloc)?))
+    let options = ["--make=7", "--workers", "4"];
+    taken_of(rt, alloc, &options, &mut source, write_fault, &OpenGate)
 }
 
 #[test]

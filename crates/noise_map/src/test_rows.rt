@@ -259,7 +259,12 @@ pub(crate) fn write_their_rows<R: Abort + Threads + Wait + Sync>(
     runs: &[Run],
 ) -> Result<(), Fail> {
     for (name, bands, input, rows, status) in runs {
-        let (report, taken) = written(rt, alloc, *bands, input.as_bytes(), 0, 0)?;
+        let input = input.as_bytes();
+        let (report, taken) = if *bands {
+            written(rt, alloc, &["--bands"], input, 0, 0)?
+        } else {
+            written(rt, alloc, &[], input, 0, 0)?
+        };
         assert_eq!(rt; report.status, *status, "{name}");
         assert_eq!(rt; taken.as_slice(), rows.as_bytes(), "{name}");
     }

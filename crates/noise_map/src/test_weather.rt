@@ -20,7 +20,7 @@ const ROWS: &str =
 
 #[test]
 fn each_path_is_corrected_by_its_length(rt: HostRuntime) -> Result<(), Fail> {
-    let (report, taken) = written(&rt, rt.alloc(), false, INPUT.as_bytes(), 0, 0)?;
+    let (report, taken) = written(&rt, rt.alloc(), &[], INPUT.as_bytes(), 0, 0)?;
     assert_eq!(rt; report.status, Status::Done);
     assert_eq!(rt; taken.as_slice(), ROWS.as_bytes());
     Ok(())

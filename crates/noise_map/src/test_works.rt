@@ -12,7 +12,7 @@ const ROWS: &str = "settle,12,25,,,,\nrow,12,g/0/0,current,,50.21,50.22\n";
 
 #[test]
 fn rows_before_a_failing_write_are_taken(rt: HostRuntime) -> Result<(), Fail> {
-    let (report, taken) = written(&rt, rt.alloc(), false, WORKS.as_bytes(), 0, 3)?;
+    let (report, taken) = written(&rt, rt.alloc(), &[], WORKS.as_bytes(), 0, 3)?;
     assert_eq!(rt; report.status, Status::WriteFault);
     assert_eq!(rt; taken.as_slice(), ROWS.as_bytes());
     Ok(())

@@ -3,7 +3,7 @@ ghost use Rattle.std.specs.Prelude.{None};
 
 use crate::run::run;
 use crate::status::{Fault, Report, Status};
-use map_io::{Failed, FreeSink, FreeSource, MemSink, MemSource, OpenGate, Sink, Source};
+use map_io::{Failed, FreeSink, FreeSource, Gate, MemSink, MemSource, OpenGate, Sink, Source};
 use std::alloc::Global;
 use std::process::Abort;
 use std::sync::Wait;
@@ -20,31 +20,36 @@ const SETTLE: &str = r#"{"do":"settle"}"#;
 
 const SETTLED: &str = "settle,2,1,,,,\nrow,2,r,current,,51.62,51.64\n";
 
+// What a run with these options over a source answers, and what its sink has taken, which fails at the call of this number.
+pub(crate) fn taken_of<R: Threads + Wait + Sync, S: Source + Send, G: Gate + Sync>(
+    rt: &R,
+    alloc: Global,
+    options: &[&str],
+    source: &mut S,
+    write_fault: u32,
+    gate: &G,
+) -> Result<(Report, Vec<u8>), Fail> {
+    let mut words = vec![in alloc; String::from_str(alloc, "noisemap")?]?;
+    for option in options {
+        words.push(String::from_str(alloc, option)?)?;
+    }
+    let mut sink = MemSink::new(vec![in alloc; write_fault]?);
+    sink.reserve(alloc, 65_536)?;
+    let report = run(rt, alloc, words.as_slice(), source, &mut sink, gate);
+    Ok((report, sink.bytes().to_vec(alloc)?))
+}
+
 // What a run over these bytes answers, and what its sink has taken.
 pub(crate) fn written<R: Threads + Wait + Sync>(
     rt: &R,
     alloc: Global,
-    bands: bool,
+    options: &[&str],
     input: &[u8],
     read_fault: u32,
     write_fault: u32,
 ) -> Result<(Report, Vec<u8>), Fail> {
-    let mut words = vec![in alloc; String::from_str(alloc, "noisemap")?]?;
-    if bands {
-        words.push(String::from_str(alloc, "--bands")?)?;
-    }
     let mut source = MemSource::new(input.to_vec(alloc)?, 10, vec![in alloc; read_fault]?);
-    let mut sink = MemSink::new(vec![in alloc; write_fault]?);
-    sink.reserve(alloc, 65_536)?;
-    let report = run(
-        rt,
-        alloc,
-        words.as_slice(),
-        &mut source,
-        &mut sink,
-        &OpenGate,
-    );
-    Ok((report, sink.bytes().to_vec(alloc)?))
+    taken_of(rt, alloc, options, &mut source, write_fault, &OpenGate)
 }
 
 #[test]
@@ -53,11 +58,11 @@ fn lines_end_as_they_may(rt: HostRuntime) -> Result<(), Fail> {
     let unended = format!(in alloc; "{FAN}\n{HOUSE}\n{SETTLE}")?;
     let returns = format!(in alloc; "{FAN}\r\n{HOUSE}\r\n{SETTLE}\r\n")?;
     for input in [unended.as_bytes(), returns.as_bytes()] {
-        let (report, taken) = written(&rt, alloc, false, input, 0, 0)?;
+        let (report, taken) = written(&rt, alloc, &[], input, 0, 0)?;
         assert_eq!(rt; (report.status, report.lines), (Status::Done, 3));
         assert_eq!(rt; taken.as_slice(), SETTLED.as_bytes());
     }
-    let (report, taken) = written(&rt, alloc, false, b"\xff\n{\"do\":\"settle\"}\n", 0, 0)?;
+    let (report, taken) = written(&rt, alloc, &[], b"\xff\n{\"do\":\"settle\"}\n", 0, 0)?;
     assert_eq!(rt; report.status, Status::SomeRefused);
     assert_eq!(rt;
         taken.as_slice(),
@@ -89,7 +94,7 @@ fn long_lines_and_deep_nests_are_refused(rt: HostRuntime) -> Result<(), Fail> {
             input.push(b']')?;
         }
         input.extend_from_slice(b"}\n")?;
-        let (_, taken) = written(&rt, alloc, false, input.as_slice(), 0, 0)?;
+        let (_, taken) = written(&rt, alloc, &[], input.as_slice(), 0, 0)?;
         assert_eq!(rt;
             taken.as_slice(),
             rows.as_bytes(),
@@ -103,11 +108,11 @@ fn long_lines_and_deep_nests_are_refused(rt: HostRuntime) -> Result<(), Fail> {
 fn faults_break_a_run_off(rt: HostRuntime) -> Result<(), Fail> {
     let alloc = rt.alloc();
     let input = format!(in alloc; "{FAN}\n{HOUSE}\n{SETTLE}\n")?;
-    let (report, taken) = written(&rt, alloc, false, input.as_bytes(), 3, 0)?;
+    let (report, taken) = written(&rt, alloc, &[], input.as_bytes(), 3, 0)?;
     assert_eq!(rt; (report.status, report.lines), (Status::ReadFault, 0));
     assert!(rt; taken.is_empty());
     for (write, rows) in [(1, ""), (2, "settle,2,1,,,,\n"), (3, SETTLED)] {
-        let (report, taken) = written(&rt, alloc, false, input.as_bytes(), 0, write)?;
+        let (report, taken) = written(&rt, alloc, &[], input.as_bytes(), 0, write)?;
         let status = if write == 3 {
             Status::Done
         } else {
@@ -195,7 +200,7 @@ fn the_4097th_receiver_is_refused(rt: HostRuntime) -> Result<(), Fail> {
     let grid =
         r#"{"do":"grid","name":"g","x":0,"y":0,"step":1000,"columns":64,"rows":64,"h":4000}"#;
     let input = format!(in alloc; "{grid}\n{HOUSE}\n")?;
-    let (report, taken) = written(&rt, alloc, false, input.as_bytes(), 0, 0)?;
+    let (report, taken) = written(&rt, alloc, &[], input.as_bytes(), 0, 0)?;
     assert_eq!(rt; report.status, Status::SomeRefused);
     assert_eq!(rt;
         taken.as_slice(),
@@ -214,7 +219,7 @@ fn the_129th_source_is_refused(rt: HostRuntime) -> Result<(), Fail> {
         )?;
         input.push_str(line.as_str())?;
     }
-    let (report, taken) = written(&rt, alloc, false, input.as_bytes(), 0, 0)?;
+    let (report, taken) = written(&rt, alloc, &[], input.as_bytes(), 0, 0)?;
     assert_eq!(rt; report.status, Status::SomeRefused);
     assert_eq!(rt;
         taken.as_slice(),

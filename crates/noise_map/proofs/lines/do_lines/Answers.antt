@@ -1,17 +1,22 @@
 use Rattle.std.proofs.Common.{refl, sym, ap, ◌∙◌}
 use Rattle.noise_map.proofs.Reading.{within_at_start, passes_on}
-use Rattle.noise_map.proofs.Ending.{started, ended-reading, turned, turned-off}
+use Rattle.noise_map.proofs.Ending.{started, unread, ended-reading, turned, turned-off}
 use Rattle.noise_map.proofs.Told.{goes_without_fault, line_is_no_fault, read_told, write_untold, read_untold, write_told}
 use Rattle.noise_map.proofs.lines.do_lines.Goals as goal
 
 pub loop-status-init : goal.loop-status-init
 loop-status-init g c = record {
-  progress = started c.args.words c.args.reader.now c.args.editor.now _ _ c.requires.reader c.requires.nothing;
+  progress = started c.args.words c.in-Ok.reader c.args.editor.now _ _ c.in-Ok.ensures c.requires.nothing;
   own = c.requires.own;
-  within = within_at_start _ c.requires.reader;
+  within = within_at_start _ c.in-Ok.ensures;
   reads = refl;
   writes = refl;
 }
+
+pub returns-in_default-clause-ended : goal.returns-in_default-clause-ended
+returns-in_default-clause-ended g c =
+    unread c.args.words c.args.editor.now (g.S.Source.left c.args.input.now) (g.K.Sink.taken c.args.out.now) c.requires.nothing c.without_memory.result.status c.without_memory.result.lines
+    c.without_memory.ensures.status c.without_memory.ensures.lines
 
 pub returns-in-Some-clause-ended : goal.returns-in-Some-clause-ended
 returns-in-Some-clause-ended g c =
@@ -23,7 +28,7 @@ returns-in-Some-clause-ended g c =
 pub loop-status-smaller : goal.loop-status-smaller
 loop-status-smaller g c =
     passes_on c.next-next.result c.loop-status.reader c.next-next.new.self c.loop-status.lines c.loop-status.refused _ _ _ c.loop-status.invariant.progress.done c.loop-status.invariant.progress.read
-    (sym c.ending.ensures ∙ c.in_default.is) c.next-next.ensures.going
+    (sym c.ending.ensures ∙ c.in_default-ending.is) c.next-next.ensures.going
     (λ h. let kept = c.next-next.ensures.stopped h in (kept.0, kept.1, ap g.S.Source.left kept.2)) c.next-next.ensures.within.1
 
 pub returns-in-Err-clause-ended : goal.returns-in-Err-clause-ended
@@ -31,7 +36,7 @@ returns-in-Err-clause-ended g c =
     rw c.status_when.ensures
     (turned-off c.args.words c.next-next.result c.line.result.now c.loop-status.reader c.next-next.new.self c.loop-status.lines c.loop-status.version c.loop-status.refused c.args.editor.now c.loop-status.editor c.do_and_show.new.editor
     _ _ _ _ _ _ c.loop-status.invariant.progress
-    (sym c.ending.ensures ∙ c.in_default.is) c.next-next.ensures.going
+    (sym c.ending.ensures ∙ c.in_default-ending.is) c.next-next.ensures.going
     (λ h. let kept = c.next-next.ensures.stopped h in (kept.0, kept.1, ap g.S.Source.left kept.2)) c.next-next.ensures.within.1 c.line.ensures c.in-Err.stopped c.in-Err.ensures.done c.next-next.ensures.few.1)
 
 pub returns-in-Some-clause-read_fault : goal.returns-in-Some-clause-read_fault
@@ -45,7 +50,7 @@ returns-in-Some-clause-write_fault g c = write_untold c.next-next.result c.loop-
 pub returns-in-Err-clause-read_fault : goal.returns-in-Err-clause-read_fault
 returns-in-Err-clause-read_fault g c =
     rw c.status_when.ensures
-    (read_untold c.in-Err.stopped _ _ (c.next-next.ensures.well (line_is_no_fault _ _ (sym c.ending.ensures ∙ c.in_default.is)) ∙ c.loop-status.invariant.reads))
+    (read_untold c.in-Err.stopped _ _ (c.next-next.ensures.well (line_is_no_fault _ _ (sym c.ending.ensures ∙ c.in_default-ending.is)) ∙ c.loop-status.invariant.reads))
 
 pub returns-in-Err-clause-write_fault : goal.returns-in-Err-clause-write_fault
 returns-in-Err-clause-write_fault g c = rw c.status_when.ensures (write_told c.in-Err.stopped _ _ _ c.loop-status.invariant.writes c.in-Err.ensures.cause)
@@ -55,12 +60,12 @@ loop-status-preserved g c =
     let on =
     turned c.args.words c.next-next.result c.line.result.now c.loop-status.reader c.next-next.new.self c.loop-status.lines c.loop-status.version c.loop-status.refused c.args.editor.now c.loop-status.editor c.do_and_show.new.editor
     (g.S.Source.left c.args.input.now) (g.S.Source.left c.loop-status.input) (g.S.Source.left c.next-next.new.source) (g.K.Sink.taken c.args.out.now) (g.K.Sink.taken c.loop-status.out) (g.K.Sink.taken c.do_and_show.new.out) c.loop-status.invariant.progress
-    (sym c.ending.ensures ∙ c.in_default.is) c.next-next.ensures.going
-    (λ h. let kept = c.next-next.ensures.stopped h in (kept.0, kept.1, ap g.S.Source.left kept.2)) c.next-next.ensures.within.1 c.line.ensures c.in-Ok.done c.in-Ok.ensures.done in
+    (sym c.ending.ensures ∙ c.in_default-ending.is) c.next-next.ensures.going
+    (λ h. let kept = c.next-next.ensures.stopped h in (kept.0, kept.1, ap g.S.Source.left kept.2)) c.next-next.ensures.within.1 c.line.ensures c.in-Ok-do_and_show.done c.in-Ok-do_and_show.ensures.done in
     record {
       progress = on;
       own = on.did.same.table ∙ c.requires.own;
       within = c.next-next.ensures.within.1;
-      reads = c.next-next.ensures.well (line_is_no_fault _ _ (sym c.ending.ensures ∙ c.in_default.is)) ∙ c.loop-status.invariant.reads;
-      writes = c.in-Ok.ensures.cause.done ∙ c.loop-status.invariant.writes;
+      reads = c.next-next.ensures.well (line_is_no_fault _ _ (sym c.ending.ensures ∙ c.in_default-ending.is)) ∙ c.loop-status.invariant.reads;
+      writes = c.in-Ok-do_and_show.ensures.cause.done ∙ c.loop-status.invariant.writes;
     }

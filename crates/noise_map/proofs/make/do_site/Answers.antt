@@ -13,7 +13,7 @@ use Rattle.noise_map.specs.Making.{making_of, made_by, made_with, made_with_answ
 use Rattle.noise_map.specs.Progress.{Did, HasEnded, SiteEnded}
 use Rattle.noise_map.proofs.Doing.{did-more, failed-way}
 use Rattle.noise_map.proofs.Ending.{did-at-start}
-use Rattle.noise_map.proofs.Sites.{line-step, line-whole, made-push, made-journal, made-more, with-refused, ended, broken_off, no-line, unmade, way-at-end}
+use Rattle.noise_map.proofs.Sites.{next-line, line-whole, made-push, made-journal, made-more, with-refused, ended, broken_off, no-line, unmade, way-at-end}
 use Rattle.noise_map.proofs.make.do_site.Goals.{in-Ok-put_all, in-Err}
 use Rattle.noise_map.proofs.make.do_site.Goals as goal
 
@@ -40,9 +40,7 @@ loop-line-preserved g c =
     let after = c.in-Some.after.now in
     let kept = c.loop-line.invariant in
     let parts : IsFirstLine c.loop-line.rest.now (Some (line, after)) = rw c.in-Some.is at c.first_line.ensures in
-    let whole : done ++ line ∷ lines after ≡ all = ap (λ l. done ++ l) (sym parts.0) ∙ kept.whole in
-    let counted : k + length (line ∷ lines after) ≡ length all = omega (arith, kept.counted, ap length parts.0) in
-    let step : take (k + 1) all ≡ done ++ line ∷ [] = line-step all k line (lines after) whole counted in
+    let next = next-line all k c.loop-line.rest.now line after parts kept.whole kept.counted in
     let added = c.in-Ok-make_line.ensures.adds in
     let met = added.1 in
     let did = did-more c.args.editor.now c.loop-line.editor c.make_line.new.editor done line added.0 kept.did met in
@@ -50,10 +48,10 @@ loop-line-preserved g c =
     let made : c.make_line.new.making ≡ making_of (made_with (made_by done) (demand_of line)) =
     added.2 ∙ (ap (λ (m : Making). made_with_answer m added.0) kept.made ∙ more) in
     record {
-      whole = line-whole all k line (lines after) whole counted;
-      counted = omega (arith, counted);
-      did = subst (Did c.args.editor.now c.make_line.new.editor) (sym step) did;
-      made = made ∙ ap making_of (sym (ap made_by step ∙ made-push done line));
+      whole = line-whole all k line (lines after) next.whole next.counted;
+      counted = omega (arith, next.counted);
+      did = subst (Did c.args.editor.now c.make_line.new.editor) (sym next.step) did;
+      made = made ∙ ap making_of (sym (ap made_by next.step ∙ made-push done line));
       few = omega (arith, kept.few, parts.1);
       refused = omega (arith, kept.refused, ap (λ (m : Making). m.refused) kept.made, with-refused (made_by done) (demand_of line), ap (λ (m : Making). m.refused) made);
       level = c.make_line.ensures.level;
@@ -93,19 +91,13 @@ returns-in_default-clause-ended g c =
 
 pub returns-in_default-make_line-clause-ended : goal.returns-in_default-make_line-clause-ended
 returns-in_default-make_line-clause-ended g c =
-    let all = site_lines c.args.number in
     let k = c.loop-line.lines in
-    let done = take k all in
-    let line = c.in-Some.line.now in
-    let after = c.in-Some.after.now in
     let kept = c.loop-line.invariant in
-    let parts : IsFirstLine c.loop-line.rest.now (Some (line, after)) = rw c.in-Some.is at c.first_line.ensures in
-    let whole : done ++ line ∷ lines after ≡ all = ap (λ l. done ++ l) (sym parts.0) ∙ kept.whole in
-    let counted : k + length (line ∷ lines after) ≡ length all = omega (arith, kept.counted, ap length parts.0) in
-    let step : take (k + 1) all ≡ done ++ line ∷ [] = line-step all k line (lines after) whole counted in
-    let ended = failed-way c.args.editor.now c.loop-line.editor c.make_line.new.editor done line kept.did c.in_default-make_line.ensures.adds in
-    unmade c.args.number (k + 1) c.args.editor.now c.make_line.new.editor (g.K.Sink.taken c.args.out.now) (omega (arith, counted))
-    (subst (λ (l : List (List ℕ)). HasEnded status.NoMemory l c.args.editor.now c.make_line.new.editor) (sym step) ended)
+    let parts : IsFirstLine c.loop-line.rest.now (Some (c.in-Some.line.now, c.in-Some.after.now)) = rw c.in-Some.is at c.first_line.ensures in
+    let next = next-line (site_lines c.args.number) k c.loop-line.rest.now c.in-Some.line.now c.in-Some.after.now parts kept.whole kept.counted in
+    let ended = failed-way c.args.editor.now c.loop-line.editor c.make_line.new.editor (take k (site_lines c.args.number)) c.in-Some.line.now kept.did c.in_default-make_line.ensures.adds in
+    unmade c.args.number (k + 1) c.args.editor.now c.make_line.new.editor (g.K.Sink.taken c.args.out.now) (omega (arith, next.counted))
+    (subst (λ (l : List (List ℕ)). HasEnded status.NoMemory l c.args.editor.now c.make_line.new.editor) (sym next.step) ended)
     c.without_memory-in_default-make_line.result.status c.without_memory-in_default-make_line.result.lines c.without_memory-in_default-make_line.ensures.status c.without_memory-in_default-make_line.ensures.lines
 
 pub returns-in_default-row-clause-ended : goal.returns-in_default-row-clause-ended
