@@ -28,3 +28,5 @@ pub mod TenLaw
 pub mod DigitSteps
 pub mod DigitTables
 pub mod WholeFactors
+pub mod ShortProducts
+pub mod ShortSums

@@ -88,7 +88,7 @@ quotient-interval l h n ordered low high some = record {
 
 -- ---- ends as the code finds them
 
-within-64 : (z : ℤ) → unsigned_abs z < 2 ^ 63 → to_z w64 (of_z w64 z) ≡ z
+pub within-64 : (z : ℤ) → unsigned_abs z < 2 ^ 63 → to_z w64 (of_z w64 z) ≡ z
 within-64 z h = to_z-of_z w64 z (fits_signed_from_abs w64 z (omega arith))
 
 pub product-found : (x : ℤ) (n : ℕ) (end by : ℤ) → unsigned_abs x < 2 ^ 62 → n < 2 ^ 32 → end ≡ to_z w64 (of_z w64 x) → by ≡ pos n

@@ -14,6 +14,7 @@ mod products;
 mod quotients;
 mod roots;
 mod short;
+mod short_products;
 mod span;
 mod square_root;
 mod starts;

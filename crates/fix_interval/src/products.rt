@@ -7,12 +7,33 @@ ghost use Rattle.fix_interval.specs.Round.{floor_of, ceil_of};
 ghost use Rattle.fix_interval.specs.Values.{end_of, least_product, greatest_product, product_of_ends, rounded_outward, mul_of};
 
 use crate::iv::Iv;
+use crate::short::short_ends;
+use crate::short_products::short_multiple;
 use crate::span::{Span, bounded};
 use crate::values::{end, greater_of_highs, lesser_of_lows};
 
 /// The product of two quantities: from the least of the four products of ends to the greatest, rounded
 /// outward. Nothing is known where an end is unbounded or such a product reaches 2^126.
+#[inline(always)]
 pub fn mul(a: Iv, b: Iv) -> Iv
+    ensures { result ≡ mul_of a b }
+{
+    let (Some(first), Some(second)) = (short_ends(a), short_ends(b)) else {
+        return product_of_any(a, b);
+    };
+    if 0 <= first.lo {
+        short_multiple(first, second)
+    } else if 0 <= second.lo {
+        short_multiple(second, first)
+    } else {
+        product_of_any(a, b)
+    }
+}
+
+/// The same, whatever the ends.
+#[cold]
+#[inline(never)]
+fn product_of_any(a: Iv, b: Iv) -> Iv
     ensures { result ≡ mul_of a b }
 {
     let Some(first) = bounded(a) else {
@@ -109,7 +130,8 @@ fn from_products(least: Option<i128>, greatest: Option<i128>) -> Iv
 }
 
 /// A product in units of 2^-64 as units of 2^-32, rounded down.
-fn units_below(product: i128) -> i128
+#[inline(always)]
+pub(crate) fn units_below(product: i128) -> i128
     requires { unsigned_abs product < 2 ^ 126 }
     ensures { result ≡ floor_of product unit }
 {
@@ -117,7 +139,8 @@ fn units_below(product: i128) -> i128
 }
 
 /// A product in units of 2^-64 as units of 2^-32, rounded up.
-fn units_above(product: i128) -> i128
+#[inline(always)]
+pub(crate) fn units_above(product: i128) -> i128
     requires { unsigned_abs product < 2 ^ 126 }
     ensures { result ≡ ceil_of product unit }
 {

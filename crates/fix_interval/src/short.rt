@@ -1,6 +1,6 @@
 //! An interval whose ends are short.
 
-ghost use Rattle.std.specs.Prelude.{◌≡◌, ◌<◌, ◌^◌, pos, ◌*ℤ◌, ◌≤ℤ◌, Some, unsigned_abs, IfSome};
+ghost use Rattle.std.specs.Prelude.{◌≡◌, ◌<◌, ◌^◌, pos, ◌+ℤ◌, ◌-ℤ◌, ◌*ℤ◌, ◌≤ℤ◌, Some, unsigned_abs, IfSome};
 ghost use Rattle.fix_interval.specs.Round.{floor_of, ceil_of};
 
 use crate::iv::Iv;
@@ -11,8 +11,8 @@ const SHORT: i128 = 1 << 62;
 /// Two bounded ends in units of 2^-32, each strictly between -2^62 and 2^62.
 #[derive(Clone, Copy, Drop)]
 pub(crate) struct Short {
-    lo: i64,
-    hi: i64,
+    pub(crate) lo: i64,
+    pub(crate) hi: i64,
     ghost low_end: { unsigned_abs lo < 2 ^ 62 },
     ghost high_end: { unsigned_abs hi < 2 ^ 62 },
     ghost ordered: { lo ≤ℤ hi },
@@ -37,6 +37,28 @@ pub(crate) fn short_ends(x: Iv) -> Option<Short>
 }
 
 impl Short {
+    /// The ends added.
+    #[inline(always)]
+    pub(crate) fn plus(self, other: Short) -> Iv
+        ensures { result ≡ record { lo = Some (self.lo +ℤ other.lo); hi = Some (self.hi +ℤ other.hi) } }
+    {
+        Iv::of_ends(
+            Some((self.lo + other.lo).into()),
+            Some((self.hi + other.hi).into()),
+        )
+    }
+
+    /// The low end less the high end of another, and the high end less its low end.
+    #[inline(always)]
+    pub(crate) fn minus(self, other: Short) -> Iv
+        ensures { result ≡ record { lo = Some (self.lo -ℤ other.hi); hi = Some (self.hi -ℤ other.lo) } }
+    {
+        Iv::of_ends(
+            Some((self.lo - other.hi).into()),
+            Some((self.hi - other.lo).into()),
+        )
+    }
+
     /// Both ends times a whole number.
     #[inline(always)]
     pub(crate) fn times(self, n: u32) -> Iv

@@ -6,23 +6,41 @@ ghost use Rattle.fix_interval.specs.Interval.{IsEnd};
 ghost use Rattle.fix_interval.specs.Values.{end_of, ratio_of, sum_of_ends, add_of, neg_of, sub_of, greater_low, lesser_low, greater_high, lesser_high, max_of, min_of, hull_of, is_before, is_up_to, less_of, pick_of};
 
 use crate::iv::Iv;
+use crate::short::short_ends;
 use crate::truth::Truth;
 
 /// An end's absolute value stays below this number of units, 2^126.
 pub(crate) const END_LIMIT: u128 = 1 << 126;
 
 /// The sum of two quantities: the ends are added.
+#[inline(always)]
 pub fn add(a: Iv, b: Iv) -> Iv
     ensures { result ≡ add_of a b }
 {
-    Iv::of_ends(sum_of(a.low(), b.low()), sum_of(a.high(), b.high()))
+    match (short_ends(a), short_ends(b)) {
+        (Some(first), Some(second)) => first.plus(second),
+        _ => sum(a, b),
+    }
 }
 
 /// The difference of two quantities, as the sum of the first and the negated second.
+#[inline(always)]
 pub fn sub(a: Iv, b: Iv) -> Iv
     ensures { result ≡ sub_of a b }
 {
-    add(a, neg(b))
+    match (short_ends(a), short_ends(b)) {
+        (Some(first), Some(second)) => first.minus(second),
+        _ => sum(a, neg(b)),
+    }
+}
+
+/// The sum of two quantities, whatever their ends.
+#[cold]
+#[inline(never)]
+fn sum(a: Iv, b: Iv) -> Iv
+    ensures { result ≡ add_of a b }
+{
+    Iv::of_ends(sum_of(a.low(), b.low()), sum_of(a.high(), b.high()))
 }
 
 /// The negated quantity: the ends are negated and exchanged.

@@ -3,7 +3,7 @@
 ghost use Rattle.std.specs.Prelude.{◌≡◌};
 ghost use Rattle.term_barrier.specs.Prepared.{apart_of};
 
-use fix_interval::{Iv, div, exact, mul};
+use fix_interval::{Iv, mul, over};
 
 /// The square of the distance between two edges and a third of it, in square metres.
 #[derive(Clone, Copy, Drop)]
@@ -20,7 +20,7 @@ impl Apart {
         let square = mul(e, e);
         Apart {
             square,
-            third: div(square, exact(3)),
+            third: over(square, 3),
         }
     }
 }

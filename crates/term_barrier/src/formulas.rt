@@ -9,7 +9,7 @@ ghost use Rattle.term_barrier.specs.Prepared as prepared;
 use crate::apart::Apart;
 use enclose_exp::exp_neg;
 use enclose_log::lg;
-use fix_interval::{Iv, add, div, exact, less, max, min, mul, pick, root, sub};
+use fix_interval::{Iv, add, div, exact, less, max, min, mul, over, pick, root, sub};
 use scene_geom::Band;
 
 /// By how much a way that is `length` long across edges, and at a right angle to that as long as `square` says, is longer
@@ -28,7 +28,7 @@ pub(crate) fn k_met(d_ss: Iv, d_sr: Iv, d: Iv, z: Iv) -> Iv
 {
     let zero = exact(0);
     let quotient = div(mul(mul(d_ss, d_sr), d), mul(exact(2), z));
-    let decay = exp_neg(max(zero, div(root(quotient), exact(2000))));
+    let decay = exp_neg(max(zero, over(root(quotient), 2000)));
     pick(less(zero, z), decay, exact(1))
 }
 

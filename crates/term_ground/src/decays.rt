@@ -8,7 +8,7 @@ ghost use Rattle.term_ground.specs.Ground.{decay_at_500, decay_at_1000, near_gro
 ghost use Rattle.term_ground.specs.Ground as form;
 
 use enclose_exp::exp_neg;
-use fix_interval::{Iv, div, exact, mul, ratio, sub};
+use fix_interval::{Iv, exact, mul, over, ratio, sub, times};
 use path_shape::Path;
 
 /// What the functions below Table 3 take of a height, in mm: how they decay with it. It belongs to a source or a receiver
@@ -89,10 +89,7 @@ pub(crate) fn growths_over(path: &Path) -> Growths
     let squared = mul(path.dp, path.dp);
     Growths {
         dp: path.dp,
-        near: sub(one, exp_neg(div(path.dp, exact(50)))),
-        far: sub(
-            one,
-            exp_neg(div(mul(squared, exact(28)), exact(10_000_000))),
-        ),
+        near: sub(one, exp_neg(over(path.dp, 50))),
+        far: sub(one, exp_neg(over(times(squared, 28), 10_000_000))),
     }
 }

@@ -1,21 +1,23 @@
-use Rattle.std.proofs.Common.{◌∙◌, sym}
-use Rattle.fix_interval.specs.Values.{mul_of, product_of_ends}
-use Rattle.fix_interval.proofs.Ends.{on_ends-first, on_ends-second, on_ends-bounded}
+use Rattle.std.proofs.Common.{◌≡◌, ◌∙◌}
+use Rattle.std.specs.Prelude.{Some}
+use Rattle.fix_interval.specs.Values.{mul_of}
+use Rattle.fix_interval.proofs.Multiplying.{product_of_ends_comm}
 use Rattle.fix_interval.proofs.products.mul.Goals as goal
 
-pub returns-in_default : goal.returns-in_default
+pub returns-then-first-ge0 : goal.returns-then-first-ge0
 unfolding mul_of
-returns-in_default c =
-    sym (on_ends-first product_of_ends c.args.a.lo c.args.a.hi c.args.b.lo c.args.b.hi (c.in_default.ensures).unbounded)
+returns-then-first-ge0 c =
+    let first = c.in-Some-Some.first in
+    let second = c.in-Some-Some.second in
+    let a : c.args.a ≡ record { lo = Some first.lo; hi = Some first.hi } = rw c.in-Some-Some.is-0 at c.short_ends.ensures in
+    let b : c.args.b ≡ record { lo = Some second.lo; hi = Some second.hi } = rw c.in-Some-Some.is-1 at c.short_ends-2.ensures in
+    rw (a, b) c.short_multiple.ensures
 
-pub returns-in_default-bounded : goal.returns-in_default-bounded
+pub returns-then-second-ge0 : goal.returns-then-second-ge0
 unfolding mul_of
-returns-in_default-bounded c =
-    sym (on_ends-second product_of_ends c.args.a.lo c.args.a.hi c.args.b.lo c.args.b.hi (c.in_default-bounded.ensures).unbounded)
-
-pub returns : goal.returns
-unfolding mul_of
-returns c =
-    c.product_of_spans.ensures
-    ∙ sym (on_ends-bounded product_of_ends c.args.a c.args.b c.in-Some.first.lo c.in-Some.first.hi c.in-Some-bounded.second.lo c.in-Some-bounded.second.hi
-    (c.in-Some.ensures).both (c.in-Some-bounded.ensures).both)
+returns-then-second-ge0 c =
+    let first = c.in-Some-Some.first in
+    let second = c.in-Some-Some.second in
+    let a : c.args.a ≡ record { lo = Some first.lo; hi = Some first.hi } = rw c.in-Some-Some.is-0 at c.short_ends.ensures in
+    let b : c.args.b ≡ record { lo = Some second.lo; hi = Some second.hi } = rw c.in-Some-Some.is-1 at c.short_ends-2.ensures in
+    rw (a, b) (c.short_multiple-then-second-ge0.ensures ∙ product_of_ends_comm second.lo second.hi first.lo first.hi)

@@ -1,13 +1,13 @@
-use Rattle.fix_interval.proofs.Intervals.{IsInterval-add_of}
-use Rattle.fix_interval.specs.Values.{add_of}
+use Rattle.std.proofs.Common.{◌≡◌, ◌∙◌, sym}
+use Rattle.std.specs.Prelude.{Some}
+use Rattle.fix_interval.proofs.ShortSums.{sum-short}
 use Rattle.fix_interval.proofs.values.add.Goals as goal
 
-pub of_ends-requires : goal.of_ends-requires
-unfolding add_of
-of_ends-requires c =
-    rw (c.sum_of.ensures, c.sum_of-2.ensures, c.low.ensures.end, c.low-2.ensures.end, c.high.ensures.end, c.high-2.ensures.end)
-    (IsInterval-add_of c.args.a c.args.b c.low.ensures.interval c.low-2.ensures.interval)
-
-pub returns : goal.returns
-unfolding add_of
-returns c = cc
+pub returns-in-Some-Some : goal.returns-in-Some-Some
+returns-in-Some-Some c =
+    let first = c.in-Some-Some.first in
+    let second = c.in-Some-Some.second in
+    let a : c.args.a ≡ record { lo = Some first.lo; hi = Some first.hi } = rw c.in-Some-Some.is-0 at c.short_ends.ensures in
+    let b : c.args.b ≡ record { lo = Some second.lo; hi = Some second.hi } = rw c.in-Some-Some.is-1 at c.short_ends-2.ensures in
+    rw (a, b)
+    (c.plus.ensures ∙ sym (sum-short first.lo first.hi second.lo second.hi first.low_end first.high_end second.low_end second.high_end first.ordered second.ordered))

@@ -5,9 +5,9 @@ use Rattle.term_ground.proofs.decays.growths_over.Goals as goal
 pub exp_neg-requires : goal.exp_neg-requires
 exp_neg-requires c =
     let path = c.args.path.now in
-    rw (c.div.ensures, c.exact.ensures) (near-low path.dp (path-span path.legs path.s path.r path.dp c.requires))
+    rw (c.over.ensures) (near-low path.dp (path-span path.legs path.s path.r path.dp c.requires))
 
 pub exp_neg-requires-2 : goal.exp_neg-requires-2
 exp_neg-requires-2 c =
     let path = c.args.path.now in
-    rw (c.div-2.ensures, c.exact-3.ensures, c.mul.ensures, c.exact-2.ensures, c.mul-squared.ensures) (far-low path.dp (path-span path.legs path.s path.r path.dp c.requires))
+    rw (c.over-2.ensures, c.times.ensures, c.mul-squared.ensures) (far-low path.dp (path-span path.legs path.s path.r path.dp c.requires))
