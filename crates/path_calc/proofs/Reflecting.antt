@@ -1,6 +1,6 @@
 -- Paths by way of walls that are found one after another, and what is known of each.
 use Rattle.std.proofs.Common.{◌≡◌, ℕ, zero, suc, ◌^◌, pos, ◌≤ℤ◌, subst, ◌+◌, ◌≤◌, ◌<◌, List, [], ◌∷◌, ◌++◌, length, drop, get_or, map, filter, refl, sym, ap, ◌∙◌, arith, append_assoc, append-nil}
-use Rattle.std.specs.Prelude.{Option, Some, None, Bool, true, false, All, flat_map, slice_get, ◌==◌, ◌&&◌}
+use Rattle.std.specs.Prelude.{Option, Some, None, Bool, true, false, All, flat_map, slice_get}
 use Rattle.std.specs.List.{filter_map}
 use Rattle.std.specs.Bool.{then_some}
 use Rattle.std.specs.Option.{option_to_list}

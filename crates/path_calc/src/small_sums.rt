@@ -13,10 +13,9 @@ pub(crate) fn plus(a: Iv, b: Iv) -> Iv
     requires second { IsSmall b }
     ensures { result ≡ add_of a b }
 {
-    Iv::of_ends(
-        Some(low_end(a) + low_end(b)),
-        Some(high_end(a) + high_end(b)),
-    )
+    let (low, high) = ends(a);
+    let (other_low, other_high) = ends(b);
+    Iv::of_ends(Some(low + other_low), Some(high + other_high))
 }
 
 /// The difference of two small quantities, as `sub` gives it.
@@ -26,31 +25,21 @@ pub(crate) fn minus(a: Iv, b: Iv) -> Iv
     requires second { IsSmall b }
     ensures { result ≡ sub_of a b }
 {
-    Iv::of_ends(
-        Some(low_end(a) - high_end(b)),
-        Some(high_end(a) - low_end(b)),
-    )
+    let (low, high) = ends(a);
+    let (other_low, other_high) = ends(b);
+    Iv::of_ends(Some(low - other_high), Some(high - other_low))
 }
 
-/// The low end of a small quantity, in units of 2^-32. As it is bounded, nothing stands in its place, and no test is
+/// The ends of a small quantity, in units of 2^-32. As they are bounded, nothing stands in their places, and no test is
 /// left of it.
 #[inline(always)]
-fn low_end(a: Iv) -> i128
+fn ends(a: Iv) -> (i128, i128)
     requires { IsSmall a }
-    ensures end { a.lo ≡ Some result }
-    ensures small { unsigned_abs result ≤ 2 ^ 120 }
+    ensures low { a.lo ≡ Some result.0 }
+    ensures high { a.hi ≡ Some result.1 }
+    ensures small_low { unsigned_abs result.0 ≤ 2 ^ 120 }
+    ensures small_high { unsigned_abs result.1 ≤ 2 ^ 120 }
     ensures interval { IsInterval a }
 {
-    a.low().unwrap_or(OPEN_LO)
-}
-
-/// The high end of a small quantity, in units of 2^-32, in the same way.
-#[inline(always)]
-fn high_end(a: Iv) -> i128
-    requires { IsSmall a }
-    ensures end { a.hi ≡ Some result }
-    ensures small { unsigned_abs result ≤ 2 ^ 120 }
-    ensures interval { IsInterval a }
-{
-    a.high().unwrap_or(OPEN_HI)
+    (a.low().unwrap_or(OPEN_LO), a.high().unwrap_or(OPEN_HI))
 }

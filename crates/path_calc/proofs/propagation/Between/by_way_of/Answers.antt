@@ -1,4 +1,4 @@
-use Rattle.std.proofs.Common.{◌≡◌, ap, sym, subst, ◌∙◌, List, map}
+use Rattle.std.proofs.Common.{ap, sym, subst, ◌∙◌, List, map}
 use Rattle.std.specs.Prelude.{All}
 use Rattle.fix_interval.specs.Values.{less_of}
 use Rattle.fix_interval.specs.Tree.{Known, enc}

@@ -1,4 +1,4 @@
-use Rattle.std.proofs.Common.{◌≡◌, ◌≤◌, ◌++◌, ◌∙◌, [], drop, map, ap, sym, append-nil, arith}
+use Rattle.std.proofs.Common.{◌≡◌, ◌++◌, ◌∙◌, [], drop, map, ap, sym, append-nil, arith}
 use Rattle.std.specs.Prelude.{List, flat_map}
 use Rattle.std.proofs.lemmas.List.{drop_all}
 use Rattle.scene_parts.specs.Views.{Obstacle}
