@@ -1,5 +1,5 @@
 -- The receivers of a grid, and the names that they bear.
-use Rattle.std.proofs.Common.{◌≡◌, ℕ, zero, suc, ◌+◌, ◌-◌, ◌*◌, ◌<◌, ◌≤◌, Bool, true, false, ◌&&◌, ◌||◌, ◌⊎◌, inl, inr, List, [], ◌∷◌, ◌++◌, length, get_or, take, drop, refl, sym, ap, subst, ◌∙◌, arith, rules, append_assoc, add-one, length-append}
+use Rattle.std.proofs.Common.{◌≡◌, ℕ, zero, suc, ◌+◌, ◌-◌, ◌<◌, ◌≤◌, Bool, true, false, ◌&&◌, ◌||◌, ◌⊎◌, inl, inr, List, [], ◌∷◌, ◌++◌, length, get_or, take, drop, refl, sym, ap, subst, ◌∙◌, arith, rules, append_assoc, add-one, length-append}
 use Rattle.std.specs.Prelude.{bytes_eq, Option, Some, IsTrue, IfSome, ◌↔◌}
 use Rattle.std.specs.Bool.{then_some}
 use Rattle.std.specs.List.{list_any}

@@ -1,7 +1,7 @@
 -- What stands in a trace: the direct line, the legs of every reflection, and the strings of every band, also of those
 -- bands that list none of their own since the same obstacles screen in the band before.
-use Rattle.std.proofs.Common.{◌≡◌, refl, sym, ap, subst, ◌∙◌, Bool, true, false, ◌&&◌, List, [], ◌∷◌, ◌++◌, map}
-use Rattle.std.specs.Prelude.{Some, flat_map, if◌then◌else◌}
+use Rattle.std.proofs.Common.{◌≡◌, refl, sym, ap, subst, ◌∙◌, Bool, true, false, List, [], ◌∷◌, map}
+use Rattle.std.specs.Prelude.{Some, flat_map}
 use Rattle.std.specs.List.{list_any}
 use Rattle.std.specs.Option.{option_map}
 use Rattle.scene_geom.specs.declared.plan.Side.{Side}
@@ -132,36 +132,22 @@ module _ (book : Book) (s : Source) (r : Receiver) where
       → Traced before → Traced band
   traced-next before band is_before traced = by-renewal band _ refl (λ same. traced-same before band is_before same traced)
 
-  traced-63 : Traced Hz63
-  traced-63 = by-renewal Hz63 _ refl traced-first
-
-  traced-125 : Traced Hz125
-  traced-125 = traced-next Hz63 Hz125 (λ o. refl) traced-63
-
-  traced-250 : Traced Hz250
-  traced-250 = traced-next Hz125 Hz250 (λ o. refl) traced-125
-
-  traced-500 : Traced Hz500
-  traced-500 = traced-next Hz250 Hz500 (λ o. refl) traced-250
-
-  traced-1000 : Traced Hz1000
-  traced-1000 = traced-next Hz500 Hz1000 (λ o. refl) traced-500
-
-  traced-2000 : Traced Hz2000
-  traced-2000 = traced-next Hz1000 Hz2000 (λ o. refl) traced-1000
-
-  traced-4000 : Traced Hz4000
-  traced-4000 = traced-next Hz2000 Hz4000 (λ o. refl) traced-2000
-
-  traced-8000 : Traced Hz8000
-  traced-8000 = traced-next Hz4000 Hz8000 (λ o. refl) traced-4000
-
   pub in-strings : (band : Band) → Traced band
-  in-strings Hz63 = traced-63
-  in-strings Hz125 = traced-125
-  in-strings Hz250 = traced-250
-  in-strings Hz500 = traced-500
-  in-strings Hz1000 = traced-1000
-  in-strings Hz2000 = traced-2000
-  in-strings Hz4000 = traced-4000
-  in-strings Hz8000 = traced-8000
+  in-strings band =
+      let traced-63 : Traced Hz63 = by-renewal Hz63 _ refl traced-first in
+      let traced-125 : Traced Hz125 = traced-next Hz63 Hz125 (λ o. refl) traced-63 in
+      let traced-250 : Traced Hz250 = traced-next Hz125 Hz250 (λ o. refl) traced-125 in
+      let traced-500 : Traced Hz500 = traced-next Hz250 Hz500 (λ o. refl) traced-250 in
+      let traced-1000 : Traced Hz1000 = traced-next Hz500 Hz1000 (λ o. refl) traced-500 in
+      let traced-2000 : Traced Hz2000 = traced-next Hz1000 Hz2000 (λ o. refl) traced-1000 in
+      let traced-4000 : Traced Hz4000 = traced-next Hz2000 Hz4000 (λ o. refl) traced-2000 in
+      elim band as (λ b. Traced b) [
+        | Hz63 ↦ traced-63
+        | Hz125 ↦ traced-125
+        | Hz250 ↦ traced-250
+        | Hz500 ↦ traced-500
+        | Hz1000 ↦ traced-1000
+        | Hz2000 ↦ traced-2000
+        | Hz4000 ↦ traced-4000
+        | Hz8000 ↦ traced-next Hz4000 Hz8000 (λ o. refl) traced-4000
+      ]
