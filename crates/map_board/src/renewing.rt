@@ -36,8 +36,9 @@ pub(crate) fn fresh_rows(
 ) -> Result<Vec<HeldRow>, NoMemory>
     ensures { IfOk result (λ rows. AreFresh version hold.now.value.scene rows.items) }
 {
-    let mut rows = Vec::new(alloc);
-    for _receiver in hold.scene.receivers() {
+    let receivers = hold.scene.receivers();
+    let mut rows = Vec::with_capacity(alloc, receivers.len())?;
+    for _receiver in receivers {
         rows.push(fresh_row(alloc, hold.clone()?, version))?;
     }
     Ok(rows)

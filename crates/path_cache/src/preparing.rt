@@ -11,8 +11,9 @@ use std::alloc::Global;
 pub fn prepare(alloc: Global, scene: &Scene) -> Result<Vec<PreparedSource>, NoMemory>
     ensures { IfOk result (λ prepared. prepared.items ≡ map prepared_of scene.now.sources) }
 {
-    let mut prepared = Vec::new(alloc);
-    for source in scene.sources() {
+    let sources = scene.sources();
+    let mut prepared = Vec::with_capacity(alloc, sources.len())?;
+    for source in sources {
         prepared.push(PreparedSource::of(source))?;
     }
     Ok(prepared)

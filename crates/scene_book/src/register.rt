@@ -67,6 +67,15 @@ impl<T: Named> Register<T> {
         }
     }
 
+    /// A register of nothing, with room for so many things.
+    fn with_room(alloc: Global, count: usize) -> Result<Self, NoMemory>
+        ensures { IfOk result (λ made. made ≡ []) }
+    {
+        Ok(Register {
+            things: IndexMap::with_capacity(alloc, count)?,
+        })
+    }
+
     /// The things, in order.
     pub fn items(&self) -> &[T]
         ensures value { result.now ≡ self.now }
@@ -191,7 +200,7 @@ impl<T: Named> Register<T> {
     pub fn copy(&self, alloc: Global) -> Result<Self, NoMemory>
         ensures { IfOk result (λ copied. copied ≡ self.now) }
     {
-        let mut copied = Register::new(alloc);
+        let mut copied = Register::with_room(alloc, self.len())?;
         for thing in self.items() {
             let _none = copied.put(alloc, thing)?;
         }
