@@ -1,4 +1,4 @@
-use Rattle.std.proofs.Common.{◌≡◌, ◌+◌, ◌≤◌, ap, ◌∙◌, arith, length, flat_map}
+use Rattle.std.proofs.Common.{◌+◌, ap, ◌∙◌, arith, length, flat_map}
 use Rattle.std.specs.Prelude.{sum_by}
 use Rattle.std.proofs.lemmas.List.{take_all}
 use Rattle.path_calc.specs.Lengths.{is_within}
