@@ -161,46 +161,51 @@ module _ (show : RunsShowRight) (before after : BoardSeat) (edit : Edit) where
       → entry number (calls.Edit edit) (replies.Edited result) ∷ [] ≡ entry editor (calls.Edit edit) (replies.Edited answer) ∷ []
   edit-entry-is number result answer is same = λ i. entry (is i) (calls.Edit edit) (replies.Edited (sym same i)) ∷ []
 
+  abbrev own_journal : List Edit
+  own_journal = accepted_edits before.mine
+
+  abbrev edit_entry : Result ℕ EditFault → BoardEntry
+  edit_entry said = entry before.number (calls.Edit edit) (replies.Edited said)
+
+  -- what the journal becomes and the line answers, where the scene answers so
+  abbrev Follows : Result ℕ EditFault → Answer → Type 0
+  Follows said answer =
+      numbered (suc (length own_journal)) (apply_of edit (newest_scene own_journal)) ≡ said
+      → (own_journal ++ accepted_edits (edit_entry said ∷ []) ≡ with_edit own_journal edit (apply_of edit (newest_scene own_journal)))
+      × (answer ≡ answer_to_edit own_journal (apply_of edit (newest_scene own_journal)))
+
+  edit-turned : (said : Result ℕ EditFault) (answer : Answer) (turn : HasTurned before (calls.Edit edit) (replies.Edited said) after) → IsEditor after → ShowsFew answer
+      → numbered (suc (length turn.met.journal)) (apply_of edit (newest_scene turn.met.journal)) ≡ said → Follows said answer
+      → HasMet before (command (commands.Edit edit)) answer after
+  edit-turned said answer turn sound few there follows =
+      let e : BoardEntry = edit_entry said in
+      let is : numbered (suc (length own_journal)) (apply_of edit (newest_scene own_journal)) ≡ said =
+      subst (λ (es : List Edit). numbered (suc (length es)) (apply_of edit (newest_scene es)) ≡ said) (journal-there show before after (calls.Edit edit) (replies.Edited said) turn sound) there in
+      let parts = follows is in
+      record {
+        added = e ∷ [];
+        goes = gone-one before after (calls.Edit edit) (replies.Edited said) turn refl;
+        does = edit-entry-is before.number said (numbered (suc (length own_journal)) (apply_of edit (newest_scene own_journal)))
+            (is-editors show before after (calls.Edit edit) (replies.Edited said) turn sound) is;
+        asked = ap length (looks_in-one e);
+        accepts = ap accepted_edits turn.called.mine ∙ (accepted-append before.mine (e ∷ []) ∙ parts.0);
+        few = few;
+        answered = parts.1;
+      }
+
   pub edit-met : (version : ℕ) → HasTurned before (calls.Edit edit) (replies.Edited (Ok version)) after → IsEditor after
       → HasMet before (command (commands.Edit edit)) (answers.Edited version) after
   edit-met version turn sound =
-      let e : BoardEntry = entry before.number (calls.Edit edit) (replies.Edited (Ok version)) in
-      let journal = accepted_edits before.mine in
-      let J = journal-there show before after (calls.Edit edit) (replies.Edited (Ok version)) turn sound in
-      let said : numbered (suc (length journal)) (apply_of edit (newest_scene journal)) ≡ Ok version =
-      subst (λ (es : List Edit). numbered (suc (length es)) (apply_of edit (newest_scene es)) ≡ Ok version) J turn.step.0 in
-      let parts = edit-accepted journal edit version (apply_of edit (newest_scene journal)) said in
-      record {
-        added = e ∷ [];
-        goes = gone-one before after (calls.Edit edit) (replies.Edited (Ok version)) turn refl;
-        does = edit-entry-is before.number (Ok version) (numbered (suc (length journal)) (apply_of edit (newest_scene journal)))
-            (is-editors show before after (calls.Edit edit) (replies.Edited (Ok version)) turn sound) said;
-        asked = ap length (looks_in-one e);
-        accepts = ap accepted_edits turn.called.mine ∙ (accepted-append before.mine (e ∷ []) ∙ (ap (λ l. journal ++ l) (accepted-one e) ∙ parts.0));
-        few = tt;
-        answered = parts.1;
-      }
+      edit-turned (Ok version) (answers.Edited version) turn sound tt turn.step.0
+      (λ is. let parts = edit-accepted own_journal edit version (apply_of edit (newest_scene own_journal)) is in
+      (ap (λ l. own_journal ++ l) (accepted-one (edit_entry (Ok version))) ∙ parts.0, parts.1))
 
   pub edit-refused-met : (fault : EditFault) → lacks_memory fault ≡ false → HasTurned before (calls.Edit edit) (replies.Edited (Err fault)) after → IsEditor after
       → HasMet before (command (commands.Edit edit)) (answers.Refused (OfEdit fault)) after
   edit-refused-met fault memory turn sound =
-      let e : BoardEntry = entry before.number (calls.Edit edit) (replies.Edited (Err fault)) in
-      let journal = accepted_edits before.mine in
-      let J = journal-there show before after (calls.Edit edit) (replies.Edited (Err fault)) turn sound in
-      let there : numbered (suc (length turn.met.journal)) (apply_of edit (newest_scene turn.met.journal)) ≡ Err fault = rw memory at turn.step.0 in
-      let said : numbered (suc (length journal)) (apply_of edit (newest_scene journal)) ≡ Err fault =
-      subst (λ (es : List Edit). numbered (suc (length es)) (apply_of edit (newest_scene es)) ≡ Err fault) J there in
-      let parts = edit-refused journal edit fault (apply_of edit (newest_scene journal)) said in
-      record {
-        added = e ∷ [];
-        goes = gone-one before after (calls.Edit edit) (replies.Edited (Err fault)) turn refl;
-        does = edit-entry-is before.number (Err fault) (numbered (suc (length journal)) (apply_of edit (newest_scene journal)))
-            (is-editors show before after (calls.Edit edit) (replies.Edited (Err fault)) turn sound) said;
-        asked = ap length (looks_in-one e);
-        accepts = ap accepted_edits turn.called.mine ∙ (accepted-append before.mine (e ∷ []) ∙ (ap (λ l. journal ++ l) (accepted-one e) ∙ (append-nil journal ∙ parts.0)));
-        few = tt;
-        answered = parts.1;
-      }
+      edit-turned (Err fault) (answers.Refused (OfEdit fault)) turn sound tt (rw memory at turn.step.0)
+      (λ is. let parts = edit-refused own_journal edit fault (apply_of edit (newest_scene own_journal)) is in
+      (ap (λ l. own_journal ++ l) (accepted-one (edit_entry (Err fault))) ∙ (append-nil own_journal ∙ parts.0), parts.1))
 
   want : (fault : EditFault) → lacks_memory fault ≡ true → fault ≡ faults.NoMemory
   want faults.NoMemory h = refl
