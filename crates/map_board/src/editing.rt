@@ -36,7 +36,7 @@ impl Plan {
         ensures fault { IfErr result (λ fault.
             Unless (lacks_memory fault) (apply_of edit.now scene.now ≡ Err fault)) }
     {
-        let mut after = scene.copy(alloc)?;
+        let mut after = scene.copy()?;
         let old = after.apply(alloc, edit)?;
         let named = named_receivers(edit, &old)?;
         let hold = shared(alloc, after)?;

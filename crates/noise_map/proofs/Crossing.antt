@@ -19,7 +19,7 @@ use Rattle.map_board.specs.contracts.calls.BoardReply as BoardReply
 use Rattle.turn_lock.specs.contracts.view.View as View
 use Rattle.atomic_table.specs.contracts.shared.Seat as Place
 use Rattle.std.specs.contracts.option.Option as Option
-use Rattle.scene_book.specs.contracts.scene.Scene as Scene
+use Rattle.scene_book.proofs.Crossing.{Scene-send, Scene-sync}
 use Rattle.map_board.specs.contracts.past.Past as Past
 use Rattle.map_board.specs.contracts.past.Past.TheKnot as knot
 use Rattle.map_board.specs.declared.past.Past.TheDeep as deep
@@ -46,13 +46,7 @@ layer-send p = record { owned = λ x vs d. ((layer-fields p).owned d.0 vs, tt); 
 Past-send : IsSend Past.the_row
 Past-send = tied_goals knot.frame knot.step knot.sizes alone (λ p all g. layer-send p) tt
 
--- a scene and what holds it, a level at a time, since one search through all of them ends without an answer
-Scene-send : IsSend Scene.the_row
-Scene-send = search (crosses, sendable) depth 80 fits 100000 steps 1000000
-
-Scene-sync : IsSync Scene.the_row
-Scene-sync = search (crosses, sendable) depth 80 fits 100000 steps 1000000
-
+-- what holds a scene, a level at a time, since one search through all of them ends without an answer
 PreparedScene-send : IsSend PreparedScene.the_row
 PreparedScene-send = search (Scene-send, crosses, sendable) depth 80 fits 100000 steps 1000000
 

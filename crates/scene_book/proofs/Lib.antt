@@ -2,3 +2,4 @@ pub mod FiledLemmas
 pub mod ListLemmas
 pub mod GridLemmas
 pub mod EditLemmas
+pub mod Crossing

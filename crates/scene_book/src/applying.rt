@@ -44,7 +44,7 @@ impl Scene {
         ensures value { Leaves self.new result (remove_of name.now self.old) }
         ensures unchanged { OnErr result (self.new ≡ self.old) }
     {
-        match self.take(name.items()) {
+        match self.take(name.items())? {
             Some(part) => Ok(Some(part)),
             None => Err(EditFault::NoSuchName {
                 name: copy_of(name)?,

@@ -10,6 +10,7 @@ pub mod limits;
 mod named;
 mod register;
 mod scene;
+mod shared;
 #[cfg(test)]
 mod tests;
 

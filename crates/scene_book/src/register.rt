@@ -10,7 +10,7 @@ use super::filing::{filed, insert_all, key_of};
 use super::limits::at_most;
 use indexmap::IndexMap;
 use scene_parts::{Class, NoMemory};
-use std::alloc::Global;
+use std::alloc::{AllocError, Global};
 use std::marker::Model;
 
 /// What bears a name and stands in a list of its class.
@@ -144,7 +144,8 @@ impl<T: Named> Register<T> {
         self.things.len()
     }
 
-    fn has(&self, name: &[u8]) -> bool
+    /// Whether a thing bears a name.
+    pub fn has(&self, name: &[u8]) -> bool
         ensures { result ≡ is_some (named T.name_of name.now self.now) }
     {
         self.get(name).is_some()
@@ -205,5 +206,18 @@ impl<T: Named> Register<T> {
             let _none = copied.put(alloc, thing)?;
         }
         Ok(copied)
+    }
+}
+
+impl<T: Named> Clone for Register<T> {
+    ghost use Rattle.std.specs.Prelude.{◌≡◌};
+
+    ghost is_clone = { λ register copied. copied ≡ register };
+
+    fn clone(&self) -> Result<Self, AllocError> {
+        match self.copy(*self.things.allocator()) {
+            Ok(copied) => Ok(copied),
+            Err(NoMemory) => Err(AllocError),
+        }
     }
 }

@@ -1,12 +1,13 @@
 //! The scene.
-ghost use Rattle.std.specs.Prelude.{◌≡◌, Ok, IfOk, OnErr};
-ghost use Rattle.scene_book.specs.Lists.{put_in, AreApart};
+ghost use Rattle.std.specs.Prelude.{◌≡◌, Ok, IfOk, OnOk, OnErr};
+ghost use Rattle.scene_book.specs.Lists.{named, put_in, take_out, AreApart};
 ghost use Rattle.scene_book.specs.Book.{IsWithin, NamesAreApart, empty_book, side_total, with_setting};
 ghost use Rattle.scene_book.specs.Applying.{holder, class_of_shape, part_named, put_where_room, put_receivers as put_receivers_of, without_any, Leaves};
 
 use super::edits::EditFault;
 use super::limits::{MOST_SIDES, at_most};
-use super::register::{Named, Register};
+use super::register::Named;
+use super::shared::Shared;
 use scene_parts::limits::FARTHEST_REACH;
 use scene_parts::{
     Air, Class, Globals, NoMemory, Obstacle, Part, PointSource, Receiver, SetSpec, Shape, Zone,
@@ -19,10 +20,10 @@ use std::marker::Model;
 /// the record `Book` of these lists.
 #[derive(Drop)]
 pub struct Scene {
-    sources: Register<PointSource>,
-    obstacles: Register<Obstacle>,
-    zones: Register<Zone>,
-    receivers: Register<Receiver>,
+    sources: Shared<PointSource>,
+    obstacles: Shared<Obstacle>,
+    zones: Shared<Zone>,
+    receivers: Shared<Receiver>,
     sides: u32,
     globals: Globals,
 }
@@ -44,10 +45,10 @@ impl Scene {
         ensures { result ≡ Ok empty_book }
     {
         Ok(Scene {
-            sources: Register::new(alloc),
-            obstacles: Register::new(alloc),
-            zones: Register::new(alloc),
-            receivers: Register::new(alloc),
+            sources: Shared::new(),
+            obstacles: Shared::new(),
+            zones: Shared::new(),
+            receivers: Shared::new(),
             sides: 0,
             globals: Globals {
                 reach: FARTHEST_REACH,
@@ -101,14 +102,14 @@ impl Scene {
         &self.globals
     }
 
-    /// The same scene again.
-    pub fn copy(&self, alloc: Global) -> Result<Self, NoMemory>
+    /// The same scene again. It shares each list with this one until either changes it.
+    pub fn copy(&self) -> Result<Self, NoMemory>
         ensures { IfOk result (λ copied. copied ≡ self.now) }
     {
-        let sources = self.sources.copy(alloc)?;
-        let obstacles = self.obstacles.copy(alloc)?;
-        let zones = self.zones.copy(alloc)?;
-        let receivers = self.receivers.copy(alloc)?;
+        let sources = self.sources.share()?;
+        let obstacles = self.obstacles.share()?;
+        let zones = self.zones.share()?;
+        let receivers = self.receivers.share()?;
         Ok(Scene {
             sources,
             obstacles,
@@ -194,21 +195,38 @@ impl Scene {
     }
 
     /// Takes out the part of a name.
-    pub(crate) fn take(&mut self, name: &[u8]) -> Option<Part>
-        ensures value { result ≡ part_named self.old name.now }
-        ensures left { self.new ≡ without_any name.now (part_named self.old name.now) self.old }
+    pub(crate) fn take(&mut self, name: &[u8]) -> Result<Option<Part>, NoMemory>
+        ensures value { IfOk result (λ part. part ≡ part_named self.old name.now) }
+        ensures left { OnOk result (self.new ≡ without_any name.now (part_named self.old name.now) self.old) }
+        ensures unchanged { OnErr result (self.new ≡ self.old) }
     {
-        if let Some(source) = self.sources.take(name) {
-            return Some(Part::Source(source));
+        if self.sources.has(name) {
+            return Ok(self.sources.take(name)?.map(Part::Source));
         }
-        if let Some(obstacle) = self.obstacles.take(name) {
-            self.sides -= sides(&obstacle);
-            return Some(Part::Obstacle(obstacle));
+        if self.obstacles.has(name) {
+            return Ok(self.take_obstacle(name)?.map(Part::Obstacle));
         }
-        if let Some(zone) = self.zones.take(name) {
-            return Some(Part::Zone(zone));
+        if self.zones.has(name) {
+            return Ok(self.zones.take(name)?.map(Part::Zone));
         }
-        Some(Part::Receiver(self.receivers.take(name)?))
+        if self.receivers.has(name) {
+            return Ok(self.receivers.take(name)?.map(Part::Receiver));
+        }
+        Ok(None)
+    }
+
+    /// Takes out the barrier or building of a name.
+    fn take_obstacle(&mut self, name: &[u8]) -> Result<Option<Obstacle>, NoMemory>
+        ensures value { IfOk result (λ taken. taken ≡ named (λ o. o.name) name.now self.old.obstacles) }
+        ensures left { OnOk result (self.new
+            ≡ record self.old { obstacles = take_out (λ o. o.name) name.now self.old.obstacles }) }
+        ensures unchanged { OnErr result (self.new ≡ self.old) }
+    {
+        let Some(obstacle) = self.obstacles.take(name)? else {
+            return Ok(None);
+        };
+        self.sides -= sides(&obstacle);
+        Ok(Some(obstacle))
     }
 
     /// Sets some of the globals.

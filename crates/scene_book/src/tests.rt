@@ -286,7 +286,7 @@ fn copy_keeps(
 /// Compares what a scene and its copy keep after all edits.
 fn compare(rt: &impl Abort, alloc: Global, scene: &mut Scene) -> Result<(), Fail> {
     assert!(rt; are_edited(scene.receivers()));
-    let copy = scene.copy(alloc)?;
+    let copy = scene.copy()?;
     Ok(copy_keeps(rt, alloc, scene, &copy)?)
 }
 
