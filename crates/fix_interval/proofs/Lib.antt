@@ -30,3 +30,4 @@ pub mod DigitTables
 pub mod WholeFactors
 pub mod ShortProducts
 pub mod ShortSums
+pub mod ShortEnds

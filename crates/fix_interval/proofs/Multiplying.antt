@@ -1,7 +1,7 @@
 -- Lemmas on the least and the greatest product of ends.
-use Rattle.std.proofs.Common.{◌≡◌, ℕ, suc, ◌<◌, ◌≤◌, ◌^◌, ℤ, pos, negsuc, ◌*ℤ◌, neg_ℤ, ◌≤ℤ◌, ◌<ℤ◌, arith, refl, sym, ap, ◌∙◌, inl, inr, to_z, of_z, ◌-ℤ◌}
+use Rattle.std.proofs.Common.{◌≡◌, ℕ, zero, suc, ◌<◌, ◌≤◌, ◌^◌, ℤ, pos, negsuc, ◌*ℤ◌, neg_ℤ, ◌≤ℤ◌, ◌<ℤ◌, arith, option_map, true, false, refl, sym, ap, ◌∙◌, inl, inr, to_z, of_z, ◌-ℤ◌}
 use Rattle.std.specs.Prelude.{FitsSigned as SFits}
-use Rattle.std.specs.Prelude.{unsigned_abs, Some, None, ◌⊎◌, Option}
+use Rattle.std.specs.Prelude.{unsigned_abs, nat_lt, if◌then◌else◌, Some, None, ◌⊎◌, Option}
 use Rattle.std.proofs.Math.Nat.{mul-le-mul_right}
 use Rattle.std.proofs.Math.IntN.{*ℤ_comm}
 use Rattle.std.proofs.lemmas.Int.{ints, clamps, to_z-of_z, fits_signed_mul, fits_signed_from_abs}
@@ -48,9 +48,6 @@ least_of-third p q r s h k l = omega (arith, ints, clamps)
 greatest_of-fourth : (p q r s : ℤ) → p ≤ℤ q → q ≤ℤ s → r ≤ℤ s → greatest_of p q r s ≡ s
 greatest_of-fourth p q r s h k l = omega (arith, ints, clamps)
 
-greatest_of-second : (p q r s : ℤ) → p ≤ℤ q → r ≤ℤ s → s ≤ℤ q → greatest_of p q r s ≡ q
-greatest_of-second p q r s h k l = omega (arith, ints, clamps)
-
 module _ (al ah bl bh : ℤ) (positive : pos 0 ≤ℤ al) (a : al ≤ℤ ah) (b : bl ≤ℤ bh) where
   high_positive : pos 0 ≤ℤ ah
   high_positive = omega (arith, ints)
@@ -67,9 +64,22 @@ module _ (al ah bl bh : ℤ) (positive : pos 0 ≤ℤ al) (a : al ≤ℤ ah) (b 
   greatest_product-positive h =
       greatest_of-fourth (al *ℤ bl) (al *ℤ bh) (ah *ℤ bl) (ah *ℤ bh) (times-mono_right al bl bh positive b) (times-mono al ah bh h a) (times-mono_right ah bl bh high_positive b)
 
-  pub greatest_product-negative : bh <ℤ pos 0 → greatest_product al ah bl bh ≡ al *ℤ bh
-  greatest_product-negative h =
-      greatest_of-second (al *ℤ bl) (al *ℤ bh) (ah *ℤ bl) (ah *ℤ bh) (times-mono_right al bl bh positive b) (times-mono_right ah bl bh high_positive b) (times-anti al ah bh h a)
+-- ---- the second factor negated
+
+times-negated : (x y : ℤ) → x *ℤ neg_ℤ y ≡ neg_ℤ (x *ℤ y)
+times-negated (pos a) (pos zero) = omega (arith, ints)
+times-negated (negsuc a) (pos zero) = omega (arith, ints)
+times-negated (pos a) (pos (suc b)) = omega (arith, ints)
+times-negated (negsuc a) (pos (suc b)) = omega (arith, ints)
+times-negated (pos a) (negsuc b) = omega (arith, ints)
+times-negated (negsuc a) (negsuc b) = omega (arith, ints)
+
+least_of-negated : (p q r s : ℤ) → least_of (neg_ℤ q) (neg_ℤ p) (neg_ℤ s) (neg_ℤ r) ≡ neg_ℤ (greatest_of p q r s)
+least_of-negated p q r s = omega (arith, ints, clamps)
+
+pub least_product-negated : (al ah bl bh : ℤ) → least_product al ah (neg_ℤ bh) (neg_ℤ bl) ≡ neg_ℤ (greatest_product al ah bl bh)
+least_product-negated al ah bl bh =
+    rw (times-negated al bl, times-negated al bh, times-negated ah bl, times-negated ah bh) (least_of-negated (al *ℤ bl) (al *ℤ bh) (ah *ℤ bl) (ah *ℤ bh))
 
 -- ---- the factors exchanged
 
@@ -96,6 +106,13 @@ product_of_ends_comm al ah bl bh =
 
 pub end_of-small : (z : ℤ) → unsigned_abs z < 2 ^ 126 → end_of z ≡ Some z
 end_of-small z h = rw (nat_lt-yes (unsigned_abs z) (2 ^ 126) h)
+
+pub end_of-negated : (z : ℤ) → option_map neg_ℤ (end_of (neg_ℤ z)) ≡ end_of z
+end_of-negated z =
+    rw (unsigned_abs-neg_ℤ z) (elim (nat_lt (unsigned_abs z) (2 ^ 126)) as (λ b. option_map neg_ℤ (if b then Some (neg_ℤ z) else None) ≡ (if b then Some z else None)) [
+      | true ↦ ap Some (omega (arith, ints))
+      | false ↦ refl
+    ])
 
 pub end_of-large : (z : ℤ) → 2 ^ 126 ≤ unsigned_abs z → end_of z ≡ None
 end_of-large z h = rw (nat_lt-no (unsigned_abs z) (2 ^ 126) h)

@@ -89,14 +89,16 @@ impl Iv {
 
     /// The low end in units of 2^-32, or `OPEN_LO` where it is unbounded.
     pub const fn lo(&self) -> i128
-        ensures { result ≡ unwrap_or self.now.lo open_low }
+        ensures number { result ≡ unwrap_or self.now.lo open_low }
+        ensures interval { IsInterval self.now }
     {
         self.lo
     }
 
     /// The high end in units of 2^-32, or `OPEN_HI` where it is unbounded.
     pub const fn hi(&self) -> i128
-        ensures { result ≡ unwrap_or self.now.hi open_high }
+        ensures number { result ≡ unwrap_or self.now.hi open_high }
+        ensures interval { IsInterval self.now }
     {
         self.hi
     }

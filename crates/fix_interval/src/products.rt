@@ -10,7 +10,7 @@ use crate::iv::Iv;
 use crate::short::short_ends;
 use crate::short_products::short_multiple;
 use crate::span::{Span, bounded};
-use crate::values::{end, greater_of_highs, lesser_of_lows};
+use crate::values::{end, greater_of_highs, lesser_of_lows, negated};
 
 /// The product of two quantities: from the least of the four products of ends to the greatest, rounded
 /// outward. Nothing is known where an end is unbounded or such a product reaches 2^126.
@@ -77,16 +77,12 @@ fn least_multiple(a: Span, b: Span) -> Option<i128>
     }
 }
 
-/// The greatest product of ends where the first factor isn't negative: of the high end of the second.
+/// The greatest product of ends where the first factor isn't negative: the least with the second negated, negated itself.
 fn greatest_multiple(a: Span, b: Span) -> Option<i128>
     requires { pos 0 ≤ℤ a.lo }
     ensures { result ≡ end_of (greatest_product a.lo a.hi b.lo b.hi) }
 {
-    if 0 <= b.hi {
-        product(a.hi, b.hi)
-    } else {
-        product(a.lo, b.hi)
-    }
+    negated(least_multiple(a, b.negated()))
 }
 
 /// The product by all four products of ends; where one of them is too large, so is the least or the greatest.
@@ -139,8 +135,7 @@ pub(crate) fn units_below(product: i128) -> i128
 }
 
 /// A product in units of 2^-64 as units of 2^-32, rounded up.
-#[inline(always)]
-pub(crate) fn units_above(product: i128) -> i128
+fn units_above(product: i128) -> i128
     requires { unsigned_abs product < 2 ^ 126 }
     ensures { result ≡ ceil_of product unit }
 {

@@ -1,6 +1,7 @@
 //! An interval whose ends are short.
 
-ghost use Rattle.std.specs.Prelude.{◌≡◌, ◌<◌, ◌^◌, pos, ◌+ℤ◌, ◌-ℤ◌, ◌*ℤ◌, ◌≤ℤ◌, Some, unsigned_abs, IfSome};
+ghost use Rattle.std.specs.Prelude.{◌≡◌, ◌<◌, ◌^◌, pos, ◌+ℤ◌, ◌*ℤ◌, ◌≤ℤ◌, Some, unwrap_or, neg_ℤ, ◌⊎◌, unsigned_abs, IfSome, IfNone};
+ghost use Rattle.fix_interval.specs.Interval.{open_low, open_high};
 ghost use Rattle.fix_interval.specs.Round.{floor_of, ceil_of};
 
 use crate::iv::Iv;
@@ -18,14 +19,14 @@ pub(crate) struct Short {
     ghost ordered: { lo ≤ℤ hi },
 }
 
-/// The ends of an interval, where both are short.
+/// The ends of an interval, where both are short. What stands for an unbounded end is not.
 #[inline(always)]
 pub(crate) fn short_ends(x: Iv) -> Option<Short>
-    ensures { IfSome result (λ ends. x ≡ record { lo = Some ends.lo; hi = Some ends.hi }) }
+    ensures ends { IfSome result (λ ends. x ≡ record { lo = Some ends.lo; hi = Some ends.hi }) }
+    ensures long { IfNone result ((unwrap_or x.lo open_low ≤ℤ neg_ℤ (pos (2 ^ 62)))
+        ⊎ (pos (2 ^ 62) ≤ℤ unwrap_or x.hi open_high)) }
 {
-    let (Some(lo), Some(hi)) = (x.low(), x.high()) else {
-        return None;
-    };
+    let (lo, hi) = (x.lo(), x.hi());
     if -SHORT < lo && hi < SHORT {
         Some(Short {
             lo: lo as i64,
@@ -48,15 +49,16 @@ impl Short {
         )
     }
 
-    /// The low end less the high end of another, and the high end less its low end.
+    /// The ends negated and exchanged.
     #[inline(always)]
-    pub(crate) fn minus(self, other: Short) -> Iv
-        ensures { result ≡ record { lo = Some (self.lo -ℤ other.hi); hi = Some (self.hi -ℤ other.lo) } }
+    pub(crate) fn negated(self) -> Short
+        ensures low { result.lo ≡ neg_ℤ self.hi }
+        ensures high { result.hi ≡ neg_ℤ self.lo }
     {
-        Iv::of_ends(
-            Some((self.lo - other.hi).into()),
-            Some((self.hi - other.lo).into()),
-        )
+        Short {
+            lo: -self.hi,
+            hi: -self.lo,
+        }
     }
 
     /// Both ends times a whole number.

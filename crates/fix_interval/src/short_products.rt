@@ -6,7 +6,7 @@ ghost use Rattle.fix_interval.specs.Round.{floor_of, ceil_of};
 ghost use Rattle.fix_interval.specs.Values.{least_product, greatest_product, product_of_ends};
 
 use crate::iv::Iv;
-use crate::products::{units_above, units_below};
+use crate::products::units_below;
 use crate::short::Short;
 
 /// The product where the first factor isn't negative, so that two products of ends are enough.
@@ -31,17 +31,13 @@ fn least_multiple(a: Short, b: Short) -> i128
     }
 }
 
-/// The greatest product of ends, rounded up: of the high end of the second factor.
+/// The greatest product of ends, rounded up: the least with the second factor negated, negated itself.
 #[inline(always)]
 fn greatest_multiple(a: Short, b: Short) -> i128
     requires { pos 0 ≤ℤ a.lo }
     ensures { result ≡ ceil_of (greatest_product a.lo a.hi b.lo b.hi) unit }
 {
-    if 0 <= b.hi {
-        units_above(product(a.hi, b.hi))
-    } else {
-        units_above(product(a.lo, b.hi))
-    }
+    -least_multiple(a, b.negated())
 }
 
 /// The product of two short ends in units of 2^-64.

@@ -29,7 +29,7 @@ pub fn sub(a: Iv, b: Iv) -> Iv
     ensures { result ≡ sub_of a b }
 {
     match (short_ends(a), short_ends(b)) {
-        (Some(first), Some(second)) => first.minus(second),
+        (Some(first), Some(second)) => first.plus(second.negated()),
         _ => sum(a, neg(b)),
     }
 }
@@ -130,7 +130,7 @@ fn sum_of(x: Option<i128>, y: Option<i128>) -> Option<i128>
 }
 
 /// The negated end, which belongs to the other side.
-fn negated(x: Option<i128>) -> Option<i128>
+pub(crate) fn negated(x: Option<i128>) -> Option<i128>
     requires { IsEnd x }
     ensures { result ≡ option_map neg_ℤ x }
 {

@@ -1,19 +1,16 @@
-use Rattle.std.proofs.Common.{◌∙◌, arith, pos, ◌≤ℤ◌, ◌<ℤ◌}
-use Rattle.std.proofs.lemmas.Int.{ints}
 use Rattle.fix_interval.specs.Values.{greatest_product}
-use Rattle.fix_interval.proofs.Multiplying.{product_passed, greatest_product-positive, greatest_product-negative}
+use Rattle.fix_interval.proofs.Multiplying.{least_product-negated, end_of-negated}
 use Rattle.fix_interval.proofs.products.greatest_multiple.Goals as goal
 
-pub returns-then-b-ge0 : goal.returns-then-b-ge0
-returns-then-b-ge0 c =
-    let positive : pos 0 ≤ℤ c.args.b.hi = omega (arith, ints, c.args.b.low_end, c.args.b.high_end) in
-    c.product.ensures
-    ∙ product_passed c.args.a.hi c.args.b.hi (greatest_product c.args.a.lo c.args.a.hi c.args.b.lo c.args.b.hi) c.args.a.high_end c.args.b.high_end
-    (greatest_product-positive c.args.a.lo c.args.a.hi c.args.b.lo c.args.b.hi c.requires c.args.a.ordered c.args.b.ordered positive)
-
-pub returns-else-b-ge0 : goal.returns-else-b-ge0
-returns-else-b-ge0 c =
-    let negative : c.args.b.hi <ℤ pos 0 = omega (arith, ints, c.args.b.low_end, c.args.b.high_end) in
-    c.product-else-b-ge0.ensures
-    ∙ product_passed c.args.a.lo c.args.b.hi (greatest_product c.args.a.lo c.args.a.hi c.args.b.lo c.args.b.hi) c.args.a.low_end c.args.b.high_end
-    (greatest_product-negative c.args.a.lo c.args.a.hi c.args.b.lo c.args.b.hi c.requires c.args.a.ordered c.args.b.ordered negative)
+pub returns : goal.returns
+returns c =
+    let a = c.args.a in
+    let b = c.args.b in
+    rw (
+      c.negated-2.ensures,
+      c.least_multiple.ensures,
+      c.negated.ensures.low,
+      c.negated.ensures.high,
+      least_product-negated a.lo a.hi b.lo b.hi,
+    )
+    (end_of-negated (greatest_product a.lo a.hi b.lo b.hi))

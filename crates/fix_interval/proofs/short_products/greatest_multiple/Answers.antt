@@ -1,22 +1,26 @@
-use Rattle.std.proofs.Common.{arith, pos, ◌≤ℤ◌, ◌<ℤ◌}
+use Rattle.std.proofs.Common.{◌≡◌, arith}
 use Rattle.std.proofs.lemmas.Int.{ints}
-use Rattle.fix_interval.specs.Values.{greatest_product}
-use Rattle.fix_interval.proofs.Multiplying.{greatest_product-positive, greatest_product-negative}
-use Rattle.fix_interval.proofs.ShortProducts.{ceil-found}
+use Rattle.fix_interval.specs.Units.{unit}
+use Rattle.fix_interval.specs.Round.{floor_of}
+use Rattle.fix_interval.specs.Values.{least_product}
+use Rattle.std.specs.Prelude.{neg_ℤ}
+use Rattle.fix_interval.proofs.Ratios.{passed}
+use Rattle.fix_interval.proofs.ShortProducts.{least-small, greatest-found}
 use Rattle.fix_interval.proofs.short_products.greatest_multiple.Goals as goal
 
-pub returns-then-b-ge0 : goal.returns-then-b-ge0
-returns-then-b-ge0 c =
+pub overflow_sub-result : goal.overflow_sub-result
+overflow_sub-result c =
     let a = c.args.a in
     let b = c.args.b in
-    let positive : pos 0 ≤ℤ b.hi = omega (arith, ints, b.high_end) in
-    ceil-found a.hi b.hi c.product.result (greatest_product a.lo a.hi b.lo b.hi) c.units_above.result a.high_end b.high_end c.product.ensures.value
-    (greatest_product-positive a.lo a.hi b.lo b.hi c.requires a.ordered b.ordered positive) c.units_above.ensures
+    let low : c.least_multiple.result ≡ floor_of (least_product a.lo a.hi (neg_ℤ b.hi) (neg_ℤ b.lo)) unit =
+    rw (c.negated.ensures.low, c.negated.ensures.high) at c.least_multiple.ensures in
+    let small = least-small a.lo a.hi b.lo b.hi a.low_end a.high_end b.low_end b.high_end c.least_multiple.result low in
+    rw (passed c.least_multiple.result small) (omega (arith, ints, small))
 
-pub returns-else-b-ge0 : goal.returns-else-b-ge0
-returns-else-b-ge0 c =
+pub returns : goal.returns
+returns c =
     let a = c.args.a in
     let b = c.args.b in
-    let negative : b.hi <ℤ pos 0 = omega (arith, ints, b.high_end) in
-    ceil-found a.lo b.hi c.product-else-b-ge0.result (greatest_product a.lo a.hi b.lo b.hi) c.units_above-else-b-ge0.result a.low_end b.high_end c.product-else-b-ge0.ensures.value
-    (greatest_product-negative a.lo a.hi b.lo b.hi c.requires a.ordered b.ordered negative) c.units_above-else-b-ge0.ensures
+    let low : c.least_multiple.result ≡ floor_of (least_product a.lo a.hi (neg_ℤ b.hi) (neg_ℤ b.lo)) unit =
+    rw (c.negated.ensures.low, c.negated.ensures.high) at c.least_multiple.ensures in
+    greatest-found a.lo a.hi b.lo b.hi a.low_end a.high_end b.low_end b.high_end c.least_multiple.result low
