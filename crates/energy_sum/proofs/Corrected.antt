@@ -5,10 +5,10 @@ use Rattle.std.specs.Int.{div_ceil}
 use Rattle.std.proofs.lemmas.Int.{ints}
 use Rattle.fix_interval.specs.Units.{unit, unit-is}
 use Rattle.fix_interval.specs.Interval.{Interval, IsInterval}
-use Rattle.fix_interval.specs.Bounds.{AreBetween}
+use Rattle.fix_interval.specs.Bounds.{IsBetween, AreBetween}
 use Rattle.fix_interval.specs.Round.{floor_of, ceil_of}
 use Rattle.fix_interval.specs.Values.{ratio_of, neg_of, mul_of, div_of, hull_of, pick_of, less_of}
-use Rattle.fix_interval.specs.Ranges.{constant, sum, negation, product, choice, sum_range}
+use Rattle.fix_interval.specs.Ranges.{constant, sum, negation, product, quotient, choice, sum_range, quotient_range}
 use Rattle.fix_interval.specs.Tree.{Known, Const, Div, enc}
 use Rattle.fix_interval.specs.declared.truth.Truth.TheVariants.{Never}
 use Rattle.fix_interval.proofs.Ratios.{ratio_of-small}
@@ -96,7 +96,7 @@ never r d a b c e er ed ea = rw (er.lo_is, er.hi_is, ed.lo_is, ed.hi_is, above, 
   reached : int_le e a ≡ true
   reached = grind (arith, ints)
 
-zero-between : IsWeatherCorrection (ratio_of (pos 0) 1)
+pub zero-between : IsWeatherCorrection (ratio_of (pos 0) 1)
 unfolding ratio_of unit
 zero-between = record { lo = (omega (arith, ints), omega (arith, ints)); hi = (omega (arith, ints), omega (arith, ints)) }
 
@@ -148,3 +148,33 @@ by_length dp hs hr c0 few d r = by_size (either (pos d.high) (pos r.low)) where
 pub correction-between : (dp : Interval) (hs hr c0 : ℕ) → IsInterval dp → IsLengthInPlan dp → IsCorrectable hs hr c0 → IsWeatherCorrection (enc (correction (Known dp) hs hr c0))
 correction-between dp hs hr c0 interval length h =
     by_length dp hs hr c0 h.most (found dp.lo dp.hi interval length) (reach (hs + hr) h.above_ground (omega (arith, h.source, h.receiver)))
+
+-- ---- where C_0 is 0
+
+from-between : (hs hr : ℕ) → hs < 2 ^ 32 → hr < 2 ^ 32 → AreBetween (pos 0) (pos (2 ^ 60)) (enc (correction_from hs hr))
+from-between hs hr few few' =
+    let n = 10 * (hs + hr) in
+    let floor : pos 0 ≤ℤ floor_of (pos n *ℤ pos unit) 1000 = omega (arith, ints) in
+    let order = floor_of-le-ceil_of (pos n *ℤ pos unit) 1000 (omega arith) in
+    let top : ceil_of (pos n *ℤ pos unit) 1000 ≤ℤ pos (2 ^ 60) = ceil_of-mono (pos n *ℤ pos unit) (pos (1000 * 2 ^ 60)) 1000 (omega arith) (rw unit-is (omega (arith, ints))) in
+    rw (ratio_of-small (pos n) 1000 (omega arith))
+    (record { lo = (floor, ≤ℤ_trans _ _ _ order top); hi = (≤ℤ_trans _ _ _ floor order, top) })
+
+-- between 0 and 0 there is 0 alone
+zero-alone : (i : Interval) → AreBetween (pos 0) (pos 0) i → i ≡ enc (Const (pos 0) 1)
+unfolding ratio_of unit
+zero-alone i h = both i.lo i.hi h.lo h.hi where
+  zero : (z : ℤ) → pos 0 ≤ℤ z → z ≤ℤ pos 0 → z ≡ pos 0
+  zero z low high = omega (arith, ints)
+
+  both : (lo hi : Option ℤ) → IsBetween (pos 0) (pos 0) lo → IsBetween (pos 0) (pos 0) hi → ◌≡◌ {A = Interval} (record { lo = lo; hi = hi }) (enc (Const (pos 0) 1))
+  both None hi l h = absurd l
+  both (Some l) None low high = absurd high
+  both (Some l) (Some h) low high = rw (zero l low.0 low.1, zero h high.0 high.1) refl
+
+pub nothing-due : (dp : Interval) (hs hr : ℕ) → hs < 2 ^ 32 → hr < 2 ^ 32 → AreBetween (pos 1) (pos (2 ^ 56)) dp → enc (correction (Known dp) hs hr 0) ≡ enc (Const (pos 0) 1)
+unfolding correction unit ratio_of mul_of div_of hull_of neg_of sum_range quotient_range
+nothing-due dp hs hr few few' length =
+    zero-alone (enc (correction (Known dp) hs hr 0))
+    (between _ _ {t = correction (Known dp) hs hr 0}
+    (choice {z = Const (pos 0) 1} {w = Const (pos 0) 1} (product (constant (lit< tt)) (sum (constant (lit< tt)) (negation (quotient (part-between _ _ {t = correction_from hs hr} (from-between hs hr few few')) (part-between _ _ {t = Known dp} length))))) (constant (lit< tt))) refl)
