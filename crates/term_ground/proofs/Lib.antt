@@ -1,3 +1,4 @@
+pub mod Factors
 pub mod Eight
 pub mod Decaying
 pub mod Same

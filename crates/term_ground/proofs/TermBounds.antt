@@ -15,7 +15,8 @@ use Rattle.fix_interval.specs.Ranges.{LiesIn, HasRanges, from_to, part, constant
 use Rattle.fix_interval.specs.Tree.{Tree, Known, Const, Add, Mul, ExpNeg, enc}
 use Rattle.fix_interval.specs.declared.truth.Truth.TheVariants.{Never}
 use Rattle.fix_interval.proofs.Ratios.{ratio_of-small}
-use Rattle.fix_interval.proofs.Rounding.{ceil_of-mono, floor_of-le-ceil_of}
+use Rattle.fix_interval.proofs.Rounding.{ceil_of-mono, ceil_of-pos, floor_of-le-ceil_of}
+use Rattle.std.proofs.lemmas.Grind.{div_ceil_times}
 use Rattle.fix_interval.proofs.Ranging.{LiesIn-All}
 use Rattle.fix_interval.proofs.RangedFormulas.{between, part-between}
 use Rattle.fix_interval.proofs.Dividing.{≤ℤ_trans}
@@ -55,19 +56,28 @@ parts = Known (from_to (neg_ℤ (pos (2 ^ 56))) (pos (2 ^ 32)))
 
 -- ---- ground factors
 
-factor-between : (g0 : ℕ) → g0 ≤ 100 → AreBetween (pos 0) (pos (2 ^ 32)) (ratio_of (pos g0) 100)
-factor-between g0 h =
+pub factor-within : (g0 top : ℕ) → g0 ≤ 100 * top → g0 < 2 ^ 64 → AreBetween (pos 0) (pos (top * 2 ^ 32)) (ratio_of (pos g0) 100)
+factor-within g0 top h small =
     let floor : pos 0 ≤ℤ floor_of (pos g0 *ℤ pos unit) 100 = omega (arith, ints) in
     let order = floor_of-le-ceil_of (pos g0 *ℤ pos unit) 100 (omega arith) in
-    let top : ceil_of (pos g0 *ℤ pos unit) 100 ≤ℤ pos (2 ^ 32) = ceil_of-mono (pos g0 *ℤ pos unit) (pos (100 * 2 ^ 32)) 100 (omega arith) (rw unit-is (omega (arith, ints))) in
+    let whole : ceil_of (pos (100 * (top * 2 ^ 32))) 100 ≤ℤ pos (top * 2 ^ 32) =
+    rw (ceil_of-pos (pos (100 * (top * 2 ^ 32))) 100 (omega arith) (omega (arith, ints))) (omega (arith, ints, (div_ceil_times (100 * (top * 2 ^ 32)) 100 (omega arith)).1)) in
+    let most = ≤ℤ_trans _ _ _ (ceil_of-mono (pos g0 *ℤ pos unit) (pos (100 * (top * 2 ^ 32))) 100 (omega arith) (rw unit-is (omega (arith, ints)))) whole in
     rw (ratio_of-small (pos g0) 100 (omega arith))
-    (record { lo = (floor, ≤ℤ_trans _ _ _ order top); hi = (≤ℤ_trans _ _ _ floor order, top) })
+    (record { lo = (floor, ≤ℤ_trans _ _ _ order most); hi = (≤ℤ_trans _ _ _ floor order, most) })
 
 pub share-between : (region : Region) (zones : List Zone) (g0 : ℕ) (path : Path) (dp : Tree) → g0 ≤ 100 → AreBetween (pos 0) (pos (2 ^ 32)) (enc (share_of region zones g0 path dp))
 unfolding share_of unit ratio_of max_of min_of hull_of
 share-between region zones g0 path dp h =
     between _ _ {t = share_of region zones g0 path dp}
-    (choice {z = zero_form} {w = zero_form} (greater (constant (lit< tt)) (lesser (constant (lit< tt)) (part (LiesIn-All _)))) (part-between _ _ {t = factor g0} (factor-between g0 h))) refl
+    (choice {z = zero_form} {w = zero_form} (greater (constant (lit< tt)) (lesser (constant (lit< tt)) (part (LiesIn-All _)))) (part-between _ _ {t = factor g0} (factor-within g0 1 (omega arith) (omega arith)))) refl
+
+-- also where ground outside of zones counts as more than porous
+pub share-small : (region : Region) (zones : List Zone) (g0 : ℕ) (path : Path) (dp : Tree) → g0 < 256 → AreBetween (pos 0) (pos (2 ^ 36)) (enc (share_of region zones g0 path dp))
+unfolding share_of unit ratio_of max_of min_of hull_of
+share-small region zones g0 path dp h =
+    between _ _ {t = share_of region zones g0 path dp}
+    (choice {z = zero_form} {w = zero_form} (greater (constant (lit< tt)) (lesser (constant (lit< tt)) (part (LiesIn-All _)))) (part-between _ _ {t = factor g0} (factor-within g0 16 (omega arith) (omega arith)))) refl
 
 -- ---- the functions below Table 3
 
@@ -98,6 +108,65 @@ square-small h few =
 abbrev faded : ℕ → ℕ → Tree
 faded n d = Mul (Const (pos n) d) (ExpNeg not_negative)
 
+at-125-has : (h : ℕ) → h < 2 ^ 32 → HasRanges (decay_at_125 h) (faded 3 1)
+unfolding decay_at_125
+at-125-has h few =
+    product (constant (lit< tt)) (decay-has (12 * abs_diff h 5000 ^ 2) (10 ^ 8) (omega (arith, square-small (abs_diff h 5000) (omega arith))) (lit< tt))
+
+far-at-125-has : (h : ℕ) → h < 2 ^ 32 → HasRanges (far_decay_at_125 h) (faded 57 10)
+unfolding far_decay_at_125
+far-at-125-has h few = product (constant (lit< tt)) (decay-has (9 * h ^ 2) (10 ^ 8) (omega (arith, square-small h few)) (lit< tt))
+
+at-250-has : (h : ℕ) → h < 2 ^ 32 → HasRanges (decay_at_250 h) (faded 86 10)
+unfolding decay_at_250
+at-250-has h few = product (constant (lit< tt)) (decay-has (9 * h ^ 2) (10 ^ 8) (omega (arith, square-small h few)) (lit< tt))
+
+at-500-has : (h : ℕ) → h < 2 ^ 32 → HasRanges (decay_at_500 h) (faded 14 1)
+unfolding decay_at_500
+at-500-has h few = product (constant (lit< tt)) (decay-has (46 * h ^ 2) (10 ^ 8) (omega (arith, square-small h few)) (lit< tt))
+
+at-1000-has : (h : ℕ) → h < 2 ^ 32 → HasRanges (decay_at_1000 h) (faded 5 1)
+unfolding decay_at_1000
+at-1000-has h few = product (constant (lit< tt)) (decay-has (9 * h ^ 2) (10 ^ 7) (omega (arith, square-small h few)) (lit< tt))
+
+length-has : (dp : Interval) → Found dp → HasRanges (Known dp) lengths
+length-has dp f =
+    part-between (pos 0) (pos (2 ^ 56)) {t = Known dp}
+    (record { lo = rw f.lo_is (omega (arith, ints), omega (arith, ints, f.ordered, f.within)); hi = rw f.hi_is (omega (arith, ints), omega (arith, ints, f.within)) })
+
+-- a decay is at most 16
+abbrev IsSmall : Tree → Type 0
+IsSmall t = AreBetween (pos 0) (pos (2 ^ 36)) (enc t)
+
+pub at-125-small : (h : ℕ) → h < 2 ^ 32 → IsSmall (decay_at_125 h)
+unfolding unit ratio_of mul_of decay_range
+at-125-small h few = between _ _ {t = decay_at_125 h} (at-125-has h few) refl
+
+pub far-at-125-small : (h : ℕ) → h < 2 ^ 32 → IsSmall (far_decay_at_125 h)
+unfolding unit ratio_of mul_of decay_range
+far-at-125-small h few = between _ _ {t = far_decay_at_125 h} (far-at-125-has h few) refl
+
+pub at-250-small : (h : ℕ) → h < 2 ^ 32 → IsSmall (decay_at_250 h)
+unfolding unit ratio_of mul_of decay_range
+at-250-small h few = between _ _ {t = decay_at_250 h} (at-250-has h few) refl
+
+pub at-500-small : (h : ℕ) → h < 2 ^ 32 → IsSmall (decay_at_500 h)
+unfolding unit ratio_of mul_of decay_range
+at-500-small h few = between _ _ {t = decay_at_500 h} (at-500-has h few) refl
+
+pub at-1000-small : (h : ℕ) → h < 2 ^ 32 → IsSmall (decay_at_1000 h)
+unfolding unit ratio_of mul_of decay_range
+at-1000-small h few = between _ _ {t = decay_at_1000 h} (at-1000-has h few) refl
+
+-- and a growth at most 1
+pub near-small : (dp : Interval) → Found dp → IsSmall (near_growth (Known dp))
+unfolding unit ratio_of mul_of div_of neg_of sum_range quotient_range decay_range near_growth
+near-small dp f = between _ _ {t = near_growth (Known dp)} (near-has (Known dp) (length-has dp f)) refl
+
+pub far-small : (dp : Interval) → Found dp → IsSmall (far_growth (Known dp))
+unfolding unit ratio_of mul_of div_of neg_of sum_range quotient_range decay_range far_growth
+far-small dp f = between _ _ {t = far_growth (Known dp)} (far-has (Known dp) (length-has dp f)) refl
+
 -- 1.5 and a decay
 abbrev one_part : ℕ → ℕ → Tree
 one_part n d = Add one_and_a_half (Mul (faded n d) (near_growth lengths))
@@ -107,31 +176,19 @@ abbrev a_range : Tree
 a_range = Add (one_part 3 1) (Mul (faded 57 10) (far_growth lengths))
 
 a-has : (h : ℕ) (dp : Tree) → h < 2 ^ 32 → HasRanges dp lengths → HasRanges (a_prime h dp) a_range
-unfolding decay_at_125 far_decay_at_125
 a-has h dp few k =
-    let near = square-small (abs_diff h 5000) (omega arith) in
-    let far = square-small h few in
     sum
-    (sum (constant (lit< tt)) (product (product (constant (lit< tt)) (decay-has (12 * abs_diff h 5000 ^ 2) (10 ^ 8) (omega (arith, near)) (lit< tt))) (near-has dp k)))
-    (product (product (constant (lit< tt)) (decay-has (9 * h ^ 2) (10 ^ 8) (omega (arith, far)) (lit< tt))) (far-has dp k))
+    (sum (constant (lit< tt)) (product (at-125-has h few) (near-has dp k)))
+    (product (far-at-125-has h few) (far-has dp k))
 
 b-has : (h : ℕ) (dp : Tree) → h < 2 ^ 32 → HasRanges dp lengths → HasRanges (b_prime h dp) (one_part 86 10)
-unfolding decay_at_250
-b-has h dp few k =
-    let square = square-small h few in
-    sum (constant (lit< tt)) (product (product (constant (lit< tt)) (decay-has (9 * h ^ 2) (10 ^ 8) (omega (arith, square)) (lit< tt))) (near-has dp k))
+b-has h dp few k = sum (constant (lit< tt)) (product (at-250-has h few) (near-has dp k))
 
 c-has : (h : ℕ) (dp : Tree) → h < 2 ^ 32 → HasRanges dp lengths → HasRanges (c_prime h dp) (one_part 14 1)
-unfolding decay_at_500
-c-has h dp few k =
-    let square = square-small h few in
-    sum (constant (lit< tt)) (product (product (constant (lit< tt)) (decay-has (46 * h ^ 2) (10 ^ 8) (omega (arith, square)) (lit< tt))) (near-has dp k))
+c-has h dp few k = sum (constant (lit< tt)) (product (at-500-has h few) (near-has dp k))
 
 d-has : (h : ℕ) (dp : Tree) → h < 2 ^ 32 → HasRanges dp lengths → HasRanges (d_prime h dp) (one_part 5 1)
-unfolding decay_at_1000
-d-has h dp few k =
-    let square = square-small h few in
-    sum (constant (lit< tt)) (product (product (constant (lit< tt)) (decay-has (9 * h ^ 2) (10 ^ 7) (omega (arith, square)) (lit< tt))) (near-has dp k))
+d-has h dp few k = sum (constant (lit< tt)) (product (at-1000-has h few) (near-has dp k))
 
 -- ---- A_s and A_r
 
@@ -209,11 +266,6 @@ part-in path dp f heights = by_size (either (pos f.high) r.low) where
       (record { lo = rw f.lo_is (omega (arith, ints, r.some, h, f.close), omega (arith, ints, f.ordered, f.within)); hi = rw f.hi_is (omega (arith, ints, r.some, h), omega (arith, ints, f.within)) })
 
 -- ---- A_gr
-
-length-has : (dp : Interval) → Found dp → HasRanges (Known dp) lengths
-length-has dp f =
-    part-between (pos 0) (pos (2 ^ 56)) {t = Known dp}
-    (record { lo = rw f.lo_is (omega (arith, ints), omega (arith, ints, f.ordered, f.within)); hi = rw f.hi_is (omega (arith, ints), omega (arith, ints, f.within)) })
 
 -- what makes the sum of a band
 record Shares (gs gm gr q : Tree) : Type 0 where

@@ -1,3 +1,4 @@
+pub mod Amounts
 pub mod EndRegions
 pub mod Ground
 pub mod Laws

@@ -1,18 +1,21 @@
 //! The attenuation by the ground in the octave bands (ISO 9613-2, equation 9 and Table 3).
 
-ghost use Rattle.std.specs.Prelude.{◌≡◌, ◌≤◌, pos, map, true, Some};
+ghost use Rattle.std.specs.Prelude.{◌≡◌, ◌<◌, ◌≤◌, ◌^◌, pos, map, true, Some};
 ghost use Rattle.fix_interval.specs.Tree.{Known, Add, Const, Mul, enc};
+ghost use Rattle.fix_interval.specs.Bounds.{AreBetween};
 ghost use Rattle.path_shape.specs.Shape.{IsPath};
-ghost use Rattle.term_ground.specs.Ground.{ground};
+ghost use Rattle.term_ground.specs.Amounts.{interval_of};
+ghost use Rattle.term_ground.specs.Ground.{ground, end_region_below_2khz};
 ghost use Rattle.term_ground.specs.Limits.{HasHeights, AreLimited};
-ghost use Rattle.term_ground.specs.EndRegions.{AreEndRegions, IsEndRegion, hard, no_factor};
+ghost use Rattle.term_ground.specs.EndRegions.{AreEndRegions, IsEndRegion, no_factor};
 ghost use Rattle.term_ground.specs.EndRegions.{known_attenuations};
 ghost use Rattle.term_ground.specs.Ground as form;
 
+use crate::amount::Amount;
 use crate::decays::{Decays, Growths, decays_at, growths_over};
 use crate::share::shares;
 use crate::stretch::{Regional, middle_from};
-use fix_interval::{Iv, add, div, exact, less, mul, pick, sub};
+use fix_interval::{Iv, Truth, add, div, exact, less, mul, pick, sub};
 use path_shape::Path;
 use scene_parts::Zone;
 
@@ -42,8 +45,36 @@ pub fn a_gr_between(
     ensures bounds { g0 ≤ 100 → HasHeights path.now → AreLimited result }
 {
     let shares = shares(zones, g0, path);
-    let ends = end_regions(&shares, path, source, receiver);
-    in_bands(path, &shares, &ends)
+    if are_hard(&shares) {
+        between_hard_ends(path, &shares)
+    } else {
+        in_bands(path, &shares, &end_regions(&shares, path, source, receiver))
+    }
+}
+
+/// The attenuations in the bands where neither end region has porous ground: A_s and A_r are the same at every height and
+/// distance and in every band, and so is A_m from 125 Hz on.
+fn between_hard_ends(path: &Path, shares: &Regional) -> [Iv; 8]
+    requires path { IsPath path.now }
+    requires source_height { path.now.hs < 2 ^ 32 }
+    requires receiver_height { path.now.hr < 2 ^ 32 }
+    requires source { shares.now.source ≡ no_factor }
+    requires receiver { shares.now.receiver ≡ no_factor }
+    ensures { result ≡ map enc (known_attenuations shares.now path.now) }
+{
+    let hard = base();
+    let at_63 = middle_at_63(middle_part(path));
+    let above = sum(hard, hard, middle_above(at_63, shares.middle));
+    [
+        sum(hard, hard, at_63),
+        above,
+        above,
+        above,
+        above,
+        above,
+        above,
+        above,
+    ]
 }
 
 /// The attenuations in the bands, with A_s and A_r.
@@ -94,18 +125,13 @@ struct EndRegions {
     receiver: EndRegion,
 }
 
-/// A_s and A_r. Where neither region has porous ground, they are the same at every height and distance, and nothing is
-/// calculated.
+/// A_s and A_r.
 fn end_regions(shares: &Regional, path: &Path, source: &Decays, receiver: &Decays) -> EndRegions
-    requires { IsPath path.now }
+    requires path { IsPath path.now }
+    requires source_share { AreBetween (pos 0) (pos (2 ^ 36)) shares.now.source }
+    requires receiver_share { AreBetween (pos 0) (pos (2 ^ 36)) shares.now.receiver }
     ensures { AreEndRegions result shares.now source.now.h receiver.now.h path.now.dp }
 {
-    if are_hard(shares) {
-        return EndRegions {
-            source: hard_region(),
-            receiver: hard_region(),
-        };
-    }
     let growths = growths_over(path);
     EndRegions {
         source: end_region(shares.source, source, &growths),
@@ -128,39 +154,37 @@ fn is_hard(share: Iv) -> bool
     share.low() == Some(0) && share.high() == Some(0)
 }
 
-/// A_s and A_r on hard ground.
-fn hard_region() -> EndRegion
-    ensures { result ≡ hard }
+/// A_s or A_r, with the ground factor of the region.
+fn end_region(share: Iv, decays: &Decays, growths: &Growths) -> EndRegion
+    requires { AreBetween (pos 0) (pos (2 ^ 36)) share }
+    ensures { IsEndRegion result share decays.now.h (Known growths.now.dp) }
 {
-    let base = base();
+    let near = growths.near;
+    let first = one_and_a_half().plus(near.by(decays.at_125));
+    let at_125 = first.plus(growths.far.by(decays.far_at_125));
+    let factor = Amount::of(share);
     EndRegion {
-        at_125: base,
-        at_250: base,
-        at_500: base,
-        at_1000: base,
-        high: base,
+        at_125: at_125.by(factor).less_one_and_a_half(),
+        at_250: below_2khz(factor, decays.at_250, near),
+        at_500: below_2khz(factor, decays.at_500, near),
+        at_1000: below_2khz(factor, decays.at_1000, near),
+        high: mul(base(), sub(exact(1), share)),
     }
 }
 
-/// A_s or A_r, with the ground factor of the region.
-fn end_region(share: Iv, decays: &Decays, growths: &Growths) -> EndRegion
-    ensures { IsEndRegion result share decays.now.h (Known growths.now.dp) }
+/// A_s or A_r in a band from 250 Hz to 1 kHz, with the ground factor of the region, a decay and how it grows.
+#[inline(always)]
+fn below_2khz(share: Amount, decay: Amount, growth: Amount) -> Iv
+    requires share { share.hi ≤ 2 ^ 36 }
+    requires decay { decay.hi ≤ 2 ^ 36 }
+    requires growth { growth.hi ≤ 2 ^ 36 }
+    ensures { result ≡ enc (end_region_below_2khz (Known (interval_of share))
+        (Add form.one_and_a_half (Mul (Known (interval_of decay)) (Known (interval_of growth))))) }
 {
-    let base = base();
-    let late = one_and_a_half();
-    let near = growths.near;
-    let first = add(late, mul(decays.at_125, near));
-    let at_125 = add(first, mul(decays.far_at_125, growths.far));
-    let at_250 = add(late, mul(decays.at_250, near));
-    let at_500 = add(late, mul(decays.at_500, near));
-    let at_1000 = add(late, mul(decays.at_1000, near));
-    EndRegion {
-        at_125: add(base, mul(share, at_125)),
-        at_250: add(base, mul(share, at_250)),
-        at_500: add(base, mul(share, at_500)),
-        at_1000: add(base, mul(share, at_1000)),
-        high: mul(base, sub(exact(1), share)),
-    }
+    one_and_a_half()
+        .plus(growth.by(decay))
+        .by(share)
+        .less_one_and_a_half()
 }
 
 /// A_s and A_r on hard ground, in dB.
@@ -173,10 +197,15 @@ fn base() -> Iv
 
 /// 1.5, in the functions below Table 3.
 #[tactic(auto, unfolding(fix_interval::specs::Values::ratio_of, fix_interval::specs::Units::unit))]
-fn one_and_a_half() -> Iv
-    ensures { result ≡ enc form.one_and_a_half }
+#[inline(always)]
+fn one_and_a_half() -> Amount
+    ensures value { interval_of result ≡ enc form.one_and_a_half }
+    ensures small { result.hi ≤ 2 ^ 36 }
 {
-    Iv::of_ends(Some(6_442_450_944), Some(6_442_450_944))
+    Amount {
+        lo: 6_442_450_944,
+        hi: 6_442_450_944,
+    }
 }
 
 /// q, the part of a path that is its middle region.
@@ -185,8 +214,10 @@ fn middle_part(path: &Path) -> Iv
     ensures { result ≡ enc (form.middle_part path.now (Known path.now.dp)) }
 {
     let from = middle_from(path);
-    let part = sub(exact(1), div(from, path.dp));
-    pick(less(from, path.dp), part, exact(0))
+    match less(from, path.dp) {
+        Truth::Never => exact(0),
+        longer => pick(longer, sub(exact(1), div(from, path.dp)), exact(0)),
+    }
 }
 
 /// A_m at 63 Hz.

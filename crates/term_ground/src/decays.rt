@@ -6,7 +6,9 @@ ghost use Rattle.path_shape.specs.Shape.{IsPath};
 ghost use Rattle.term_ground.specs.Ground.{decay_at_125, far_decay_at_125, decay_at_250};
 ghost use Rattle.term_ground.specs.Ground.{decay_at_500, decay_at_1000, near_growth, far_growth};
 ghost use Rattle.term_ground.specs.Ground as form;
+ghost use Rattle.term_ground.specs.Amounts.{IsFactor};
 
+use crate::amount::Amount;
 use enclose_exp::exp_neg;
 use fix_interval::{Iv, exact, mul, over, ratio, sub, times};
 use path_shape::Path;
@@ -17,21 +19,21 @@ use path_shape::Path;
 pub struct Decays {
     pub h: u32,
     /// 3.0 e^(-0.12 (h - 5 m)²)
-    pub at_125: Iv,
+    pub(crate) at_125: Amount,
     /// 5.7 e^(-0.09 h²)
-    pub far_at_125: Iv,
+    pub(crate) far_at_125: Amount,
     /// 8.6 e^(-0.09 h²)
-    pub at_250: Iv,
+    pub(crate) at_250: Amount,
     /// 14.0 e^(-0.46 h²)
-    pub at_500: Iv,
+    pub(crate) at_500: Amount,
     /// 5.0 e^(-0.9 h²)
-    pub at_1000: Iv,
+    pub(crate) at_1000: Amount,
     pub ghost h_fits: { h < 2 ^ 32 },
-    pub ghost at_125_is: { at_125 ≡ enc (decay_at_125 h) },
-    pub ghost far_at_125_is: { far_at_125 ≡ enc (far_decay_at_125 h) },
-    pub ghost at_250_is: { at_250 ≡ enc (decay_at_250 h) },
-    pub ghost at_500_is: { at_500 ≡ enc (decay_at_500 h) },
-    pub ghost at_1000_is: { at_1000 ≡ enc (decay_at_1000 h) },
+    pub ghost at_125_is: { IsFactor at_125 (decay_at_125 h) },
+    pub ghost far_at_125_is: { IsFactor far_at_125 (far_decay_at_125 h) },
+    pub ghost at_250_is: { IsFactor at_250 (decay_at_250 h) },
+    pub ghost at_500_is: { IsFactor at_500 (decay_at_500 h) },
+    pub ghost at_1000_is: { IsFactor at_1000 (decay_at_1000 h) },
 }
 
 /// The decays at a height in mm.
@@ -43,11 +45,11 @@ pub fn decays_at(h: u32) -> Decays
     let slow = decay(9 * squared, 100_000_000);
     Decays {
         h,
-        at_125: mul(exact(3), decay(12 * square(h.abs_diff(5000)), 100_000_000)),
-        far_at_125: mul(ratio(57, 10), slow),
-        at_250: mul(ratio(86, 10), slow),
-        at_500: mul(exact(14), decay(46 * squared, 100_000_000)),
-        at_1000: mul(exact(5), decay(9 * squared, 10_000_000)),
+        at_125: Amount::of(mul(exact(3), decay(12 * square(h.abs_diff(5000)), 100_000_000))),
+        far_at_125: Amount::of(mul(ratio(57, 10), slow)),
+        at_250: Amount::of(mul(ratio(86, 10), slow)),
+        at_500: Amount::of(mul(exact(14), decay(46 * squared, 100_000_000))),
+        at_1000: Amount::of(mul(exact(5), decay(9 * squared, 10_000_000))),
     }
 }
 
@@ -72,11 +74,11 @@ fn decay(p: u128, q: u32) -> Iv
 pub(crate) struct Growths {
     pub dp: Iv,
     /// 1 - e^(-d_p / 50 m)
-    pub near: Iv,
+    pub near: Amount,
     /// 1 - e^(-2.8 d_p² / 10^6 m²)
-    pub far: Iv,
-    pub ghost near_is: { near ≡ enc (near_growth (Known dp)) },
-    pub ghost far_is: { far ≡ enc (far_growth (Known dp)) },
+    pub far: Amount,
+    pub ghost near_is: { IsFactor near (near_growth (Known dp)) },
+    pub ghost far_is: { IsFactor far (far_growth (Known dp)) },
 }
 
 /// The growths of a path.
@@ -89,7 +91,7 @@ pub(crate) fn growths_over(path: &Path) -> Growths
     let squared = mul(path.dp, path.dp);
     Growths {
         dp: path.dp,
-        near: sub(one, exp_neg(over(path.dp, 50))),
-        far: sub(one, exp_neg(over(times(squared, 28), 10_000_000))),
+        near: Amount::of(sub(one, exp_neg(over(path.dp, 50)))),
+        far: Amount::of(sub(one, exp_neg(over(times(squared, 28), 10_000_000)))),
     }
 }

@@ -4,6 +4,8 @@
 //! porous, of which Table 3 makes the attenuation in each octave band.
 #![tactic(auto)]
 
+mod amount;
+mod amounts;
 mod attenuation;
 mod covering;
 mod decays;

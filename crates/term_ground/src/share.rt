@@ -43,12 +43,26 @@ pub(crate) fn shares(zones: &[Zone], g0: u8, path: &Path) -> Regional
     ensures receiver { result.receiver ≡ known_share Receiver zones.now g0 path.now }
 {
     let outside = factor(g0);
+    if zones.is_empty() && g0 <= 100 {
+        return alike(outside);
+    }
     let sums = sums(zones, outside, path);
     let zero = exact(0);
     Regional {
         source: share(sums.source, outside, zero, path.dp),
         middle: share(sums.middle, outside, middle_from(path), path.dp),
         receiver: share(sums.receiver, outside, zero, path.dp),
+    }
+}
+
+/// The same quantity for each region.
+fn alike(quantity: Iv) -> Regional
+    ensures { result ≡ same quantity }
+{
+    Regional {
+        source: quantity,
+        middle: quantity,
+        receiver: quantity,
     }
 }
 
@@ -65,14 +79,7 @@ fn sums(zones: &[Zone], outside: Iv, path: &Path) -> Regional
     requires { IsPath path.now }
     ensures { result ≡ with_zones zones.now outside path.now (same outside) }
 {
-    let mut total = Regional {
-        source: outside,
-        middle: outside,
-        receiver: outside,
-    };
-    if zones.is_empty() {
-        return total;
-    }
+    let mut total = alike(outside);
     let route = route_of(path);
     for zone in zones {
         total = with_zone(total, zone, outside, &route);

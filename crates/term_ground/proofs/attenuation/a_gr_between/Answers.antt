@@ -1,22 +1,44 @@
-use Rattle.std.proofs.Common.{◌≡◌, ◌∙◌, sym, subst, List, map}
+use Rattle.std.proofs.Common.{◌≡◌, ◌∙◌, ◌≤◌, arith, sym, subst, List, map}
 use Rattle.fix_interval.specs.Interval.{Interval}
 use Rattle.fix_interval.specs.Tree.{Known, enc}
+use Rattle.term_ground.specs.EndRegions.{known_attenuations}
 use Rattle.term_ground.specs.Ground.{ground}
-use Rattle.term_ground.specs.Limits.{AreLimited}
+use Rattle.term_ground.specs.declared.region.Region.TheVariants.{Source, Receiver}
+use Rattle.term_ground.specs.Limits.{HasHeights, AreLimited}
 use Rattle.term_ground.proofs.Shares.{by-shares}
-use Rattle.term_ground.proofs.TermBounds.{ground-between}
+use Rattle.term_ground.proofs.TermBounds.{ground-between, share-small}
+use Rattle.term_ground.proofs.attenuation.a_gr_between.Goals.{After-are_hard}
 use Rattle.term_ground.proofs.attenuation.a_gr_between.Goals as goal
 
-value : (c : goal.After-in_bands) → c.in_bands.result ≡ map enc (ground c.args.zones.now c.args.g0 c.args.path.now (Known c.args.path.now.dp))
-value c =
+value : (c : After-are_hard) (found : List Interval) → found ≡ map enc (known_attenuations c.shares-shares.result c.args.path.now)
+    → found ≡ map enc (ground c.args.zones.now c.args.g0 c.args.path.now (Known c.args.path.now.dp))
+value c found is =
     let shares = c.shares-shares in
-    c.in_bands.ensures
+    is
     ∙ by-shares c.args.zones.now c.args.g0 c.args.path.now shares.result.source shares.result.middle shares.result.receiver shares.ensures.source shares.ensures.middle shares.ensures.receiver
 
-pub returns-clause-value : goal.returns-clause-value
-returns-clause-value c = value c
-
-pub returns-clause-bounds : goal.returns-clause-bounds
-returns-clause-bounds c = λ g heights.
-    subst (λ (found : List Interval). AreLimited found) (sym (value c))
+bounds : (c : After-are_hard) (found : List Interval) → found ≡ map enc (known_attenuations c.shares-shares.result c.args.path.now)
+    → c.args.g0 ≤ 100 → HasHeights c.args.path.now → AreLimited found
+bounds c found is g heights =
+    subst (λ (found : List Interval). AreLimited found) (sym (value c found is))
     (ground-between c.args.zones.now c.args.g0 c.args.path.now c.requires.path g heights)
+
+pub returns-then-are_hard-clause-value : goal.returns-then-are_hard-clause-value
+returns-then-are_hard-clause-value c = value (goal.at.returns-then-are_hard-clause-value c).After-are_hard _ c.between_hard_ends.ensures
+
+pub returns-then-are_hard-clause-bounds : goal.returns-then-are_hard-clause-bounds
+returns-then-are_hard-clause-bounds c = bounds (goal.at.returns-then-are_hard-clause-bounds c).After-are_hard _ c.between_hard_ends.ensures
+
+pub returns-else-are_hard-clause-value : goal.returns-else-are_hard-clause-value
+returns-else-are_hard-clause-value c = value (goal.at.returns-else-are_hard-clause-value c).After-are_hard _ c.in_bands.ensures
+
+pub returns-else-are_hard-clause-bounds : goal.returns-else-are_hard-clause-bounds
+returns-else-are_hard-clause-bounds c = bounds (goal.at.returns-else-are_hard-clause-bounds c).After-are_hard _ c.in_bands.ensures
+
+pub end_regions-requires-clause-source_share : goal.end_regions-requires-clause-source_share
+end_regions-requires-clause-source_share c =
+    rw (c.shares-shares.ensures.source) (share-small Source c.args.zones.now c.args.g0 c.args.path.now (Known c.args.path.now.dp) (omega arith))
+
+pub end_regions-requires-clause-receiver_share : goal.end_regions-requires-clause-receiver_share
+end_regions-requires-clause-receiver_share c =
+    rw (c.shares-shares.ensures.receiver) (share-small Receiver c.args.zones.now c.args.g0 c.args.path.now (Known c.args.path.now.dp) (omega arith))
