@@ -125,70 +125,45 @@ fn take_over(made: &mut HeldRow, row: HeldRow, receiver: &Receiver, change: &Cha
     let Some(hold) = made.hold.take() else {
         unreachable!()
     };
-    *made = renew(row, receiver, change, hold);
+    *made = row;
+    renew(made, receiver, change, hold);
 }
 
 /// The row of a receiver after the edit, with the scene after it: bundles that the edit touches are marked, and kept levels
 /// are stale by it where it is the first that touches them.
-fn renew(row: HeldRow, receiver: &Receiver, change: &Change, hold: Arc<PreparedScene>) -> HeldRow
+fn renew(row: &mut HeldRow, receiver: &Receiver, change: &Change, hold: Arc<PreparedScene>)
     requires change { IsChange change.now }
-    requires holds { RowHolds change.now.past.value receiver.now row }
+    requires holds { RowHolds change.now.past.value receiver.now row.old }
     requires scene { hold.value.scene ≡ scene_after change.now }
-    ensures row { row_of receiver.now result ≡ row_of receiver.now row }
-    ensures holds { RowHolds (journal_after change.now) receiver.now result }
+    ensures row { row_of receiver.now row.new ≡ row_of receiver.now row.old }
+    ensures holds { RowHolds (journal_after change.now) receiver.now row.new }
 {
-    let HeldRow {
-        since,
-        kept,
-        out,
-        cache,
-        hold: _,
-    } = row;
-    let hold = Some(hold);
-    let Some(mut cache) = cache else {
-        return HeldRow {
-            since,
-            kept,
-            out,
-            cache: None,
-            hold,
-        };
-    };
-    let kept = touched_levels(kept, &cache, receiver, change);
-    mark(&mut cache, &change.logged, &change.globals, receiver);
-    HeldRow {
-        since,
-        kept,
-        out,
-        cache: Some(cache),
-        hold,
+    row.hold = Some(hold);
+    if let Some(cache) = &mut row.cache {
+        touch(&mut row.kept, cache, receiver, change);
+        mark(cache, &change.logged, &change.globals, receiver);
     }
 }
 
 /// Kept levels after the edit: where none touched their receiver before, they are stale by this one if it does.
-fn touched_levels(
-    kept: Option<KeptLevels>,
-    cache: &Cache,
-    receiver: &Receiver,
-    change: &Change,
-) -> Option<KeptLevels>
+fn touch(kept: &mut Option<KeptLevels>, cache: &Cache, receiver: &Receiver, change: &Change)
     requires change { IsChange change.now }
-    requires by { ByIsRight change.now.past.value receiver.now kept }
-    requires past { (levels : KeptLevels) → kept ≡ Some levels
+    requires by { ByIsRight change.now.past.value receiver.now kept.old }
+    requires past { (levels : KeptLevels) → kept.old ≡ Some levels
         → levels.version ≤ length change.now.past.value }
-    requires fresh { (levels : KeptLevels) → kept ≡ Some levels → levels.by ≡ None
+    requires fresh { (levels : KeptLevels) → kept.old ≡ Some levels → levels.by ≡ None
         → cache.now.bundles.items ≡ bundles_of (scene_before change.now) receiver.now }
-    ensures same { option_map kept_of result ≡ option_map kept_of kept }
-    ensures by { ByIsRight (journal_after change.now) receiver.now result }
+    ensures same { option_map kept_of kept.new ≡ option_map kept_of kept.old }
+    ensures by { ByIsRight (journal_after change.now) receiver.now kept.new }
 {
-    let mut kept = kept?;
-    if kept.by.is_some() {
-        return Some(kept);
+    let Some(levels) = kept else {
+        return;
+    };
+    if levels.by.is_none()
+        && touches_row(&change.logged, &change.globals, &cache.bundles, receiver)
+    {
+        levels.by = Some(change.version);
     }
-    if touches_row(&change.logged, &change.globals, &cache.bundles, receiver) {
-        kept.by = Some(change.version);
-    }
-    Some(kept)
 }
 
 /// The least version of a job that is out, or this one, which is the newest.
