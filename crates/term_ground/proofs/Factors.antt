@@ -1,20 +1,22 @@
 -- Sums and products of quantities that aren't negative are those of the table of enclosures.
-use Rattle.std.proofs.Common.{◌≡◌, ℕ, ◌+◌, ◌*◌, ◌/◌, ◌<◌, ◌≤◌, ◌^◌, ℤ, pos, neg_ℤ, ◌*ℤ◌, ◌+ℤ◌, ◌-ℤ◌, to_z, of_z, refl, arith}
-use Rattle.std.specs.Prelude.{Some}
+use Rattle.std.proofs.Common.{◌≡◌, ℕ, ◌+◌, ◌*◌, ◌/◌, ◌<◌, ◌≤◌, ◌^◌, ℤ, pos, negsuc, neg_ℤ, ◌*ℤ◌, ◌+ℤ◌, ◌-ℤ◌, ◌≤ℤ◌, to_z, of_z, refl, sym, ◌∙◌, arith}
+use Rattle.std.specs.Prelude.{Some, unsigned_abs}
 use Rattle.std.specs.Int.{w128, div_ceil}
-use Rattle.std.proofs.lemmas.Int.{ints}
+use Rattle.std.proofs.lemmas.Int.{ints, clamps}
 use Rattle.std.proofs.lemmas.Nat.{mul-le}
 use Rattle.std.proofs.lemmas.Grind.{div_ceil_times}
 use Rattle.std.proofs.Math.Nat.{mul-le-mul_right}
 use Rattle.fix_interval.specs.Interval.{Interval}
 use Rattle.fix_interval.specs.Units.{unit, unit-is}
-use Rattle.fix_interval.specs.Values.{add_of, mul_of}
+use Rattle.fix_interval.specs.Round.{floor_of, ceil_of}
+use Rattle.fix_interval.specs.Values.{add_of, neg_of, sub_of, mul_of, least_of, greatest_of}
 use Rattle.fix_interval.proofs.Multiplying.{end_of-small, least_product-positive, greatest_product-positive}
 use Rattle.fix_interval.specs.Tree.{enc}
 use Rattle.fix_interval.specs.Values.{ratio_of}
 use Rattle.fix_interval.proofs.Ratios.{passed}
 use Rattle.fix_interval.proofs.Rounding.{ceil_of-pos}
-use Rattle.term_ground.specs.Ground.{minus_one_and_a_half}
+use Rattle.term_ground.specs.Ground.{minus_one_and_a_half, one_and_a_half}
+use Rattle.term_ground.specs.Lengths.{one_form}
 use Rattle.fix_interval.proofs.Spans.{unit-pos}
 
 abbrev ends : ℕ → ℕ → Interval
@@ -68,3 +70,81 @@ less-is al ah l h a small low high =
       end_of-small (neg_ℤ (pos 6442450944) +ℤ pos ah) (omega (arith, ints)),
     )
     refl
+
+-- ---- 1.5 times what isn't porous, negated, is 1.5 times what is porous, less 1.5
+
+floor-moved : (z : ℤ) (n : ℕ) → z ≡ pos (6442450944 * n) -ℤ pos (6442450944 * 2 ^ 32) → floor_of z (2 ^ 32) ≡ neg_ℤ (pos 6442450944) +ℤ pos (6442450944 * n / 2 ^ 32)
+floor-moved (pos k) n is = omega (arith, ints, is)
+floor-moved (negsuc k) n is = omega (arith, ints, is)
+
+ceil-moved : (z : ℤ) (n : ℕ) → z ≡ pos (6442450944 * n) -ℤ pos (6442450944 * 2 ^ 32) → ceil_of z (2 ^ 32) ≡ neg_ℤ (pos 6442450944) +ℤ pos (div_ceil (6442450944 * n) (2 ^ 32))
+ceil-moved z n is = by (neg_ℤ z) refl where
+  by : (w : ℤ) → neg_ℤ z ≡ w → neg_ℤ (floor_of w (2 ^ 32)) ≡ neg_ℤ (pos 6442450944) +ℤ pos (div_ceil (6442450944 * n) (2 ^ 32))
+  by (pos k) w = omega (arith, ints, is, w, div_ceil_times (6442450944 * n) (2 ^ 32) (omega arith))
+  by (negsuc k) w = omega (arith, ints, is, w, div_ceil_times (6442450944 * n) (2 ^ 32) (omega arith))
+
+times-rest : (n : ℕ) (d : ℤ) → d ≡ pos (2 ^ 32) -ℤ pos n → neg_ℤ (pos 6442450944) *ℤ d ≡ pos (6442450944 * n) -ℤ pos (6442450944 * 2 ^ 32)
+times-rest n (pos k) is = omega (arith, ints, is)
+times-rest n (negsuc k) is = omega (arith, ints, is)
+
+least-alike : (p q : ℤ) → q ≤ℤ p → least_of p q p q ≡ q
+least-alike p q h = omega (arith, ints, clamps)
+
+greatest-alike : (p q : ℤ) → q ≤ℤ p → greatest_of p q p q ≡ p
+greatest-alike p q h = omega (arith, ints, clamps)
+
+module _ (l h : ℕ) (a : l ≤ h) (small : h ≤ 2 ^ 36) where
+  abbrev found : Interval
+  found = record { lo = Some (neg_ℤ (pos 6442450944) +ℤ pos (6442450944 * l / 2 ^ 32)); hi = Some (neg_ℤ (pos 6442450944) +ℤ pos (div_ceil (6442450944 * h) (2 ^ 32))) }
+
+  rest-is : sub_of (enc one_form) (ends l h) ≡ record { lo = Some (pos (2 ^ 32) -ℤ pos h); hi = Some (pos (2 ^ 32) -ℤ pos l) }
+  unfolding add_of neg_of ratio_of unit
+  rest-is =
+      let low : pos (2 ^ 32) +ℤ neg_ℤ (pos h) ≡ pos (2 ^ 32) -ℤ pos h = omega (arith, ints) in
+      let high : pos (2 ^ 32) +ℤ neg_ℤ (pos l) ≡ pos (2 ^ 32) -ℤ pos l = omega (arith, ints) in
+      rw (low, high, end_of-small (pos (2 ^ 32) -ℤ pos h) (omega (arith, ints)), end_of-small (pos (2 ^ 32) -ℤ pos l) (omega (arith, ints))) refl
+
+  abbrev p : ℤ
+  p = pos (6442450944 * h) -ℤ pos (6442450944 * 2 ^ 32)
+
+  abbrev q : ℤ
+  q = pos (6442450944 * l) -ℤ pos (6442450944 * 2 ^ 32)
+
+  order : q ≤ℤ p
+  order = omega (arith, ints)
+
+  small-p : unsigned_abs p < 2 ^ 126
+  small-p = omega (arith, ints)
+
+  small-q : unsigned_abs q < 2 ^ 126
+  small-q = omega (arith, ints)
+
+  left : mul_of (enc minus_one_and_a_half) (sub_of (enc one_form) (ends l h)) ≡ found
+  unfolding mul_of ratio_of unit
+  left =
+      rw (
+        rest-is,
+        times-rest h (pos (2 ^ 32) -ℤ pos h) refl,
+        times-rest l (pos (2 ^ 32) -ℤ pos l) refl,
+        least-alike p q order,
+        greatest-alike p q order,
+        end_of-small p small-p,
+        end_of-small q small-q,
+        floor-moved q l refl,
+        ceil-moved p h refl,
+      )
+      refl
+
+  right : add_of (enc minus_one_and_a_half) (mul_of (enc one_and_a_half) (ends l h)) ≡ found
+  unfolding add_of ratio_of unit
+  right =
+      let up = product-high 6442450944 h (omega arith) in
+      rw (
+        product-is 6442450944 6442450944 l h (omega arith) a (omega arith) (omega (arith, small)),
+        end_of-small (neg_ℤ (pos 6442450944) +ℤ pos (6442450944 * l / 2 ^ 32)) (omega (arith, ints)),
+        end_of-small (neg_ℤ (pos 6442450944) +ℤ pos (div_ceil (6442450944 * h) (2 ^ 32))) (omega (arith, ints, up)),
+      )
+      refl
+
+  pub porous-part : mul_of (enc minus_one_and_a_half) (sub_of (enc one_form) (ends l h)) ≡ add_of (enc minus_one_and_a_half) (mul_of (enc one_and_a_half) (ends l h))
+  porous-part = left ∙ sym right

@@ -5,7 +5,6 @@ use Rattle.fix_interval.specs.Interval.{Interval}
 use Rattle.fix_interval.specs.Tree.{Tree, Known, enc}
 use Rattle.path_shape.specs.declared.path.Path.{Path}
 use Rattle.term_ground.specs.declared.attenuation.EndRegion.{EndRegion}
-use Rattle.term_ground.specs.declared.attenuation.EndRegions.{EndRegions}
 use Rattle.term_ground.specs.declared.stretch.Regional.{Regional}
 use Rattle.term_ground.specs.Ground.{a_prime, b_prime, c_prime, d_prime, end_region_below_2khz, end_region_from_2khz, minus_one_and_a_half, attenuations}
 
@@ -16,11 +15,6 @@ pub record IsEndRegion (region : EndRegion) (share : Interval) (h : ℕ) (dp : T
   pub at_500 : region.at_500 ≡ enc (end_region_below_2khz (Known share) (c_prime h dp))
   pub at_1000 : region.at_1000 ≡ enc (end_region_below_2khz (Known share) (d_prime h dp))
   pub high : region.high ≡ enc (end_region_from_2khz (Known share))
-
--- both, with the ground factors of the regions of a path, and the heights at its ends
-pub record AreEndRegions (ends : EndRegions) (shares : Regional) (hs hr : ℕ) (dp : Interval) : Type 0 where
-  pub source : IsEndRegion ends.source shares.source hs (Known dp)
-  pub receiver : IsEndRegion ends.receiver shares.receiver hr (Known dp)
 
 -- the attenuations, with the ground factors of the regions known
 abbrev pub known_attenuations : Regional → Path → List Tree

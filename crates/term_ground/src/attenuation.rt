@@ -7,8 +7,9 @@ ghost use Rattle.path_shape.specs.Shape.{IsPath};
 ghost use Rattle.term_ground.specs.Amounts.{interval_of};
 ghost use Rattle.term_ground.specs.Ground.{ground, end_region_below_2khz};
 ghost use Rattle.term_ground.specs.Limits.{HasHeights, AreLimited};
-ghost use Rattle.term_ground.specs.EndRegions.{AreEndRegions, IsEndRegion, no_factor};
+ghost use Rattle.term_ground.specs.EndRegions.{IsEndRegion, no_factor};
 ghost use Rattle.term_ground.specs.EndRegions.{known_attenuations};
+ghost use Rattle.term_ground.specs.declared.stretch.Regional.{Regional};
 ghost use Rattle.term_ground.specs.Ground as form;
 
 use crate::amount::Amount;
@@ -48,7 +49,10 @@ pub fn a_gr_between(
     if are_hard(&shares) {
         between_hard_ends(path, &shares)
     } else {
-        in_bands(path, &shares, &end_regions(&shares, path, source, receiver))
+        let growths = growths_over(path);
+        let at_source = end_region(shares.source, source, &growths);
+        let at_receiver = end_region(shares.receiver, receiver, &growths);
+        in_bands(path, shares.middle, &at_source, &at_receiver)
     }
 }
 
@@ -77,16 +81,16 @@ fn between_hard_ends(path: &Path, shares: &Regional) -> [Iv; 8]
     ]
 }
 
-/// The attenuations in the bands, with A_s and A_r.
-fn in_bands(path: &Path, shares: &Regional, ends: &EndRegions) -> [Iv; 8]
-    requires { AreEndRegions ends.now shares.now path.now.hs path.now.hr path.now.dp }
-    ensures { result ≡ map enc (known_attenuations shares.now path.now) }
+/// The attenuations in the bands, with A_s and A_r, and with the ground factor of the middle region.
+fn in_bands(path: &Path, share: Iv, source: &EndRegion, receiver: &EndRegion) -> [Iv; 8]
+    ensures { (shares : Regional) → shares.middle ≡ share
+        → IsEndRegion source.now shares.source path.now.hs (Known path.now.dp)
+        → IsEndRegion receiver.now shares.receiver path.now.hr (Known path.now.dp)
+        → result ≡ map enc (known_attenuations shares path.now) }
 {
-    let source = &ends.source;
-    let receiver = &ends.receiver;
     let below = base();
     let at_63 = middle_at_63(middle_part(path));
-    let middle = middle_above(at_63, shares.middle);
+    let middle = middle_above(at_63, share);
     let high = sum(source.high, receiver.high, middle);
     [
         sum(below, below, at_63),
@@ -118,27 +122,6 @@ struct EndRegion {
     high: Iv,
 }
 
-/// A_s and A_r in the bands from 125 Hz on.
-#[derive(Clone, Copy, Drop)]
-struct EndRegions {
-    source: EndRegion,
-    receiver: EndRegion,
-}
-
-/// A_s and A_r.
-fn end_regions(shares: &Regional, path: &Path, source: &Decays, receiver: &Decays) -> EndRegions
-    requires path { IsPath path.now }
-    requires source_share { AreBetween (pos 0) (pos (2 ^ 36)) shares.now.source }
-    requires receiver_share { AreBetween (pos 0) (pos (2 ^ 36)) shares.now.receiver }
-    ensures { AreEndRegions result shares.now source.now.h receiver.now.h path.now.dp }
-{
-    let growths = growths_over(path);
-    EndRegions {
-        source: end_region(shares.source, source, &growths),
-        receiver: end_region(shares.receiver, receiver, &growths),
-    }
-}
-
 /// Whether the ground factors of both end regions are exactly 0.
 fn are_hard(shares: &Regional) -> bool
     ensures source { result ≡ true → shares.now.source ≡ no_factor }
@@ -168,7 +151,7 @@ fn end_region(share: Iv, decays: &Decays, growths: &Growths) -> EndRegion
         at_250: below_2khz(factor, decays.at_250, near),
         at_500: below_2khz(factor, decays.at_500, near),
         at_1000: below_2khz(factor, decays.at_1000, near),
-        high: mul(base(), sub(exact(1), share)),
+        high: factor.by(one_and_a_half()).less_one_and_a_half(),
     }
 }
 

@@ -1,4 +1,4 @@
-use Rattle.std.proofs.Common.{◌≡◌, ◌∙◌, ◌≤◌, arith, sym, subst, List, map}
+use Rattle.std.proofs.Common.{◌≡◌, ◌∙◌, ◌≤◌, arith, refl, sym, subst, List, map}
 use Rattle.fix_interval.specs.Interval.{Interval}
 use Rattle.fix_interval.specs.Tree.{Known, enc}
 use Rattle.term_ground.specs.EndRegions.{known_attenuations}
@@ -30,15 +30,23 @@ pub returns-then-are_hard-clause-bounds : goal.returns-then-are_hard-clause-boun
 returns-then-are_hard-clause-bounds c = bounds (goal.at.returns-then-are_hard-clause-bounds c).After-are_hard _ c.between_hard_ends.ensures
 
 pub returns-else-are_hard-clause-value : goal.returns-else-are_hard-clause-value
-returns-else-are_hard-clause-value c = value (goal.at.returns-else-are_hard-clause-value c).After-are_hard _ c.in_bands.ensures
+returns-else-are_hard-clause-value c =
+    value (goal.at.returns-else-are_hard-clause-value c).After-are_hard c.in_bands.result
+    (c.in_bands.ensures c.shares-shares.result refl
+    (rw (c.requires.source, c.growths_over-growths.ensures) at c.end_region-at_source.ensures)
+    (rw (c.requires.receiver, c.growths_over-growths.ensures) at c.end_region-at_receiver.ensures))
 
 pub returns-else-are_hard-clause-bounds : goal.returns-else-are_hard-clause-bounds
-returns-else-are_hard-clause-bounds c = bounds (goal.at.returns-else-are_hard-clause-bounds c).After-are_hard _ c.in_bands.ensures
+returns-else-are_hard-clause-bounds c =
+    bounds (goal.at.returns-else-are_hard-clause-bounds c).After-are_hard c.in_bands.result
+    (c.in_bands.ensures c.shares-shares.result refl
+    (rw (c.requires.source, c.growths_over-growths.ensures) at c.end_region-at_source.ensures)
+    (rw (c.requires.receiver, c.growths_over-growths.ensures) at c.end_region-at_receiver.ensures))
 
-pub end_regions-requires-clause-source_share : goal.end_regions-requires-clause-source_share
-end_regions-requires-clause-source_share c =
+pub end_region-at_source-requires : goal.end_region-at_source-requires
+end_region-at_source-requires c =
     rw (c.shares-shares.ensures.source) (share-small Source c.args.zones.now c.args.g0 c.args.path.now (Known c.args.path.now.dp) (omega arith))
 
-pub end_regions-requires-clause-receiver_share : goal.end_regions-requires-clause-receiver_share
-end_regions-requires-clause-receiver_share c =
+pub end_region-at_receiver-requires : goal.end_region-at_receiver-requires
+end_region-at_receiver-requires c =
     rw (c.shares-shares.ensures.receiver) (share-small Receiver c.args.zones.now c.args.g0 c.args.path.now (Known c.args.path.now.dp) (omega arith))
