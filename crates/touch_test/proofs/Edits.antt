@@ -1,8 +1,8 @@
 -- Edits as they are logged, and bundles of a scene, as the definitions speak of them.
-use Rattle.std.proofs.Common.{◌≡◌, ℕ, ◌*◌, length, refl, sym, ap, List, [], ◌∷◌, map}
+use Rattle.std.proofs.Common.{◌≡◌, ℕ, ◌*◌, length, refl, sym, ap, ◌∙◌, List, [], ◌∷◌, map}
 use Rattle.std.specs.Prelude.{Option, Some, None, Result, Ok, Err}
 use Rattle.scene_parts.specs.Answers.{◌>>◌}
-use Rattle.scene_parts.specs.Views.{Source, Receiver}
+use Rattle.scene_parts.specs.Views.{Source, Receiver, Globals}
 use Rattle.scene_parts.specs.declared.parts.Part.{Part}
 use Rattle.scene_book.specs.declared.edits.Edit.{Edit}
 use Rattle.scene_book.specs.declared.edits.Edit.TheVariants as edits
@@ -13,9 +13,9 @@ use Rattle.scene_book.specs.Limits.{most_receivers}
 use Rattle.scene_book.specs.Lists.{put_all}
 use Rattle.scene_book.specs.Grid.{receivers_of}
 use Rattle.scene_book.specs.Applying.{apply_of, put_of, put_where_room, remove_of, grid_of, taken, part_named, in_limits, with_part, own_class, name_of, class_of, holder, at_most, all_own}
-use Rattle.path_calc.specs.Bundles.{bundle_of}
+use Rattle.path_calc.specs.Bundles.{Bundle, bundle_of}
 use Rattle.path_calc.specs.Show.{sources_within, bundles_of}
-use Rattle.touch_test.specs.Touches.{TracedPath, traced, bundled, old_part}
+use Rattle.touch_test.specs.Touches.{TracedPath, traced, bundled, old_part, edit_touches_any, touches_receiver}
 
 abbrev Answer : Type 0
 Answer = Result (Book × Option Part) EditFault
@@ -52,3 +52,13 @@ bundled-traced book r = by (sources_within book r)
     by : (sources : List Source) → map (bundled r) (map (λ s. bundle_of book s r) sources) ≡ map (traced book r) sources
     by [] = refl
     by (s ∷ sources) = ap (λ (paths : List TracedPath). traced book r s ∷ paths) (by sources)
+
+-- an edit that touches a receiver by its paths in a scene touches it in that scene
+pub row-touched : (edit : Edit) (book after : Book) (old : Option Part) (globals : Globals) (r : Receiver) (bundles : List Bundle)
+    → apply_of edit book ≡ Ok (after, old) → globals ≡ book.globals → bundles ≡ bundles_of book r
+    → edit_touches_any edit old globals r (map (bundled r) bundles) ≡ touches_receiver edit book r
+row-touched edit book after old globals r bundles accepted whole all =
+    ap (λ (before : Option Part). edit_touches_any edit before globals r (map (bundled r) bundles)) (sym (answers-old edit book after old accepted))
+    ∙ ap (λ (g : Globals). edit_touches_any edit (old_part edit book) g r (map (bundled r) bundles)) whole
+    ∙ ap (λ (found : List Bundle). edit_touches_any edit (old_part edit book) book.globals r (map (bundled r) found)) all
+    ∙ ap (edit_touches_any edit (old_part edit book) book.globals r) (bundled-traced book r)
