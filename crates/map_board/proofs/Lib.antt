@@ -22,3 +22,4 @@ pub mod Carrying
 pub mod BoardAfter
 pub mod Receivers
 pub mod Showing
+pub mod Touched

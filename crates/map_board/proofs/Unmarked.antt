@@ -1,7 +1,8 @@
 -- Unmarked bundles after an edit's marks.
 use Rattle.std.proofs.Common.{◌≡◌, ℕ, suc, ◌+◌, ◌<◌, Bool, true, false, cond, List, [], ◌∷◌, ◌++◌, length, map, get_or, set, take, drop, Some, None, refl, sym, ap, ◌∙◌, subst, arith, add-one, append_assoc}
 use Rattle.std.specs.Prelude.{bytes_eq, Option, ◌||◌}
-use Rattle.std.specs.List.{zip}
+use Rattle.std.specs.List.{zip, list_any}
+use Rattle.std.proofs.lemmas.List.Folds.{list_any-append}
 use Rattle.std.proofs.Math.Seq.{drop-cons, take-suc, take-suc-set}
 use Rattle.std.proofs.lemmas.List.{drop-set-lt}
 use Rattle.std.proofs.lemmas.Slice.Eq.{bytes_eq-Decides}
@@ -107,3 +108,28 @@ module _ (touch : Bundle → Bool) where
       ∙ (append_assoc (take i ms) (get_or ms i false ∷ []) (marks_of (drop (suc i) bs) (drop (suc i) ms))
       ∙ (ap (λ m. take i ms ++ m ∷ marks_of (drop (suc i) bs) (drop (suc i) ms)) mark
       ∙ (ap (λ xs. take i ms ++ xs) (sym (here-at bs ms i b below same is)) ∙ so_far))))
+
+  one-next : (bs : List Bundle) (i : ℕ) (b : Bundle) → i < length bs → b ≡ get_or bs i b
+      → list_any touch (take (i + 1) bs) ≡ (list_any touch (take i bs) || touch b)
+  one-next bs i b below is =
+      rw (add-one) (ap (list_any touch) (take-suc bs i b below)
+      ∙ (list_any-append touch (take i bs) (get_or bs i b ∷ [])
+      ∙ ap (λ x. list_any touch (take i bs) || x) (or-last (touch (get_or bs i b)) ∙ ap touch (sym is)))) where
+        or-last : (t : Bool) → (t || false) ≡ t
+        or-last true = refl
+        or-last false = refl
+
+  -- one of the first bundles passes the test
+  pub one-touched : (bs : List Bundle) (i : ℕ) (b : Bundle) → i < length bs → b ≡ get_or bs i b → touch b ≡ true → true ≡ list_any touch (take (i + 1) bs)
+  one-touched bs i b below is touched =
+      sym (one-next bs i b below is ∙ (ap (λ t. list_any touch (take i bs) || t) touched ∙ or-true (list_any touch (take i bs)))) where
+        or-true : (x : Bool) → (x || true) ≡ true
+        or-true true = refl
+        or-true false = refl
+
+  pub one-plain : (bs : List Bundle) (i : ℕ) (b : Bundle) → i < length bs → b ≡ get_or bs i b → touch b ≡ false → list_any touch (take i bs) ≡ list_any touch (take (i + 1) bs)
+  one-plain bs i b below is plain =
+      sym (one-next bs i b below is ∙ (ap (λ t. list_any touch (take i bs) || t) plain ∙ or-false (list_any touch (take i bs)))) where
+        or-false : (x : Bool) → (x || false) ≡ x
+        or-false true = refl
+        or-false false = refl

@@ -10,6 +10,8 @@ use Rattle.map_board.specs.declared.renewing.Change.{Change}
 use Rattle.map_board.specs.declared.editing.Plan.{Plan}
 use Rattle.map_board.specs.Journal.{book_after, newest_scene}
 use Rattle.map_board.specs.Namings.{naming_of}
+use Rattle.map_board.specs.Marks.{touches_one}
+use Rattle.path_calc.specs.Show.{bundles_of}
 
 -- ---- an accepted edit of a journal's newest scene
 
@@ -25,6 +27,11 @@ journal_after change = change.past.value ++ change.logged.edit ∷ []
 -- the edit doesn't name a receiver
 abbrev pub is_unnamed : Change → Receiver → Bool
 is_unnamed change r = not (names_receiver r.name change.logged.edit change.logged.old)
+
+-- the edit touches one of a receiver's paths in the scene before it
+abbrev pub touches_a_path : Change → Receiver → Bool
+touches_a_path change r =
+    touches_one change.logged.edit change.logged.old r (bundles_of (scene_before change) r)
 
 -- the newest scene accepts the edit, with this old part, these globals before it, and this version after it
 pub record IsChange (change : Change) : Type 0 where

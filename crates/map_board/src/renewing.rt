@@ -2,11 +2,11 @@
 ghost use Rattle.std.specs.Prelude.{◌≡◌, ◌≤◌, ◌<◌, ℕ, true, false, length, slice_get, All, IfOk};
 ghost use Rattle.std.specs.Option.{option_map};
 ghost use Rattle.scene_book.specs.Lists.{AreApart};
-ghost use Rattle.path_calc.specs.Show.{bundles_of};
+ghost use Rattle.touch_test.specs.Touches.{touches_receiver};
 ghost use Rattle.map_board.specs.declared.rows.KeptLevels.{KeptLevels};
 ghost use Rattle.map_board.specs.Machine.{rows_after};
 ghost use Rattle.map_board.specs.Boards.{kept_of, row_of, rows_of, ByIsRight, RowHolds, EachHolds, IsOutSince};
-ghost use Rattle.map_board.specs.Changes.{scene_before, scene_after, journal_after, is_unnamed, IsChange, IsFresh, AreFresh};
+ghost use Rattle.map_board.specs.Changes.{scene_before, scene_after, journal_after, touches_a_path, is_unnamed, IsChange, IsFresh, AreFresh};
 
 use crate::marking::mark;
 use crate::past::Past;
@@ -140,30 +140,39 @@ fn renew(row: &mut HeldRow, receiver: &Receiver, change: &Change, hold: Arc<Prep
 {
     row.hold = Some(hold);
     if let Some(cache) = &mut row.cache {
-        touch(&mut row.kept, cache, receiver, change);
-        mark(cache, &change.logged, &change.globals, receiver);
+        let one = mark(cache, &change.logged, &change.globals, receiver);
+        touch(&mut row.kept, one, receiver, change);
     }
 }
 
-/// Kept levels after the edit: where none touched their receiver before, they are stale by this one if it does.
-fn touch(kept: &mut Option<KeptLevels>, cache: &Cache, receiver: &Receiver, change: &Change)
+/// Kept levels after the edit, where it is known whether it touches one of their receiver's paths: where none touched the
+/// receiver before, they are stale by this one if it does.
+fn touch(kept: &mut Option<KeptLevels>, one: bool, receiver: &Receiver, change: &Change)
     requires change { IsChange change.now }
     requires by { ByIsRight change.now.past.value receiver.now kept.old }
     requires past { (levels : KeptLevels) → kept.old ≡ Some levels
         → levels.version ≤ length change.now.past.value }
-    requires fresh { (levels : KeptLevels) → kept.old ≡ Some levels → levels.by ≡ None
-        → cache.now.bundles.items ≡ bundles_of (scene_before change.now) receiver.now }
+    requires one { (levels : KeptLevels) → kept.old ≡ Some levels → levels.by ≡ None
+        → one ≡ touches_a_path change.now receiver.now }
     ensures same { option_map kept_of kept.new ≡ option_map kept_of kept.old }
     ensures by { ByIsRight (journal_after change.now) receiver.now kept.new }
 {
     let Some(levels) = kept else {
         return;
     };
-    if levels.by.is_none()
-        && touches_row(&change.logged, &change.globals, &cache.bundles, receiver)
-    {
+    if levels.by.is_none() && is_touched(one, receiver, change) {
         levels.by = Some(change.version);
     }
+}
+
+/// Whether the edit touches a receiver of the scene before it, where it is known whether it touches one of its paths.
+fn is_touched(one: bool, receiver: &Receiver, change: &Change) -> bool
+    requires change { IsChange change.now }
+    requires one { one ≡ touches_a_path change.now receiver.now }
+    ensures { result
+        ≡ touches_receiver change.now.logged.edit (scene_before change.now) receiver.now }
+{
+    one || touches_row(&change.logged, &change.globals, &[], receiver)
 }
 
 /// The least version of a job that is out, or this one, which is the newest.

@@ -2,7 +2,7 @@ use Rattle.std.proofs.Common.{◌≡◌, ◌∙◌, ◌++◌, ◌+◌, List, Boo
 use Rattle.path_calc.specs.Bundles.{Bundle}
 use Rattle.touch_test.specs.Touches.{bundled, edit_touches}
 use Rattle.map_board.specs.Marks.{marks_after}
-use Rattle.map_board.proofs.Unmarked.{past-touched, past-plain}
+use Rattle.map_board.proofs.Unmarked.{past-touched, past-plain, one-touched, one-plain}
 use Rattle.map_board.proofs.marking.mark_each.Goals as goal
 use Rattle.map_board.proofs.marking.mark_each.Goals.{then-touches, else-touches}
 
@@ -23,5 +23,9 @@ loop-place-preserved c =
         | else-touches w ↦ subst after (sym w.marks-is)
             (past-plain touch bs c.loop-place.marks (all bs c.args.marks.now) i c.index-bundles-place.result c.loop-place-test.true before.one_each
             c.index-bundles-place.is (sym w.if-touches.ensures.exact) before.so_far)
+      ];
+      one = elim c.if-touches.branch [
+        | then-touches w ↦ w.one-is ∙ one-touched touch bs i c.index-bundles-place.result c.loop-place-test.true c.index-bundles-place.is (sym w.if-touches.ensures.exact)
+        | else-touches w ↦ w.one-is ∙ (before.one ∙ one-plain touch bs i c.index-bundles-place.result c.loop-place-test.true c.index-bundles-place.is (sym w.if-touches.ensures.exact))
       ];
     }

@@ -1,6 +1,6 @@
 -- The bundles so far have their marks.
 use Rattle.std.proofs.Common.{◌≡◌, ◌++◌, length, take, drop}
-use Rattle.map_board.specs.Marks.{marks_after}
+use Rattle.map_board.specs.Marks.{marks_after, touches_one}
 use Rattle.map_board.proofs.marking.mark_each.Given as goal
 
 abbrev pub invariant-loop-place : goal.invariant-loop-place
@@ -8,4 +8,5 @@ invariant-loop-place l = record {
   one_each : length l.marks ≡ length l.bundles;
   so_far : take l.place l.marks ++ marks_after l.logged.edit l.logged.old l.receiver (drop l.place l.bundles) (drop l.place l.marks)
       ≡ marks_after l.logged.edit l.logged.old l.receiver l.bundles l.initial.marks;
+  one : l.one ≡ touches_one l.logged.edit l.logged.old l.receiver (take l.place l.bundles);
 }
