@@ -6,16 +6,6 @@
 set -e
 . "$(dirname "$0")/timing.sh"
 
-# ends: 16 sources beside each other, and 512 receivers 400 m east of them.
-ends() {
-    awk 'BEGIN {
-        for (i = 0; i < 16; i++)
-            printf "{\"do\":\"source\",\"name\":\"s%d\",\"kind\":\"industry\",\"x\":0,\"y\":%d,\"h\":2000,\"lw\":[9000,9500,9800,10000,10000,9700,9200,8500]}\n", i, i * 100
-        for (i = 0; i < 512; i++)
-            printf "{\"do\":\"receiver\",\"name\":\"r%d\",\"x\":400000,\"y\":%d,\"h\":4000}\n", i, i * 100 - 25600
-    }'
-}
-
 # obstacles COUNT CROSSING: so many, of which so many cross.
 obstacles() {
     awk -v count="$1" -v crossing="$2" 'BEGIN {
@@ -33,7 +23,7 @@ obstacles() {
 
 # path_time COUNT CROSSING: nanoseconds a path.
 path_time() {
-    { ends; obstacles "$1" "$2"; } > "$work/scene"
+    { ends 100; obstacles "$1" "$2"; } > "$work/scene"
     echo $(($(settle_time "$work/scene") * 1000000 / 8192))
 }
 

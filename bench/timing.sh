@@ -17,6 +17,16 @@ receivers() {
     echo "{\"do\":\"grid\",\"name\":\"r\",\"x\":-320000,\"y\":-320000,\"step\":10000,\"columns\":64,\"rows\":$(($1 / 64)),\"h\":4000}"
 }
 
+# ends STEP: 16 sources beside each other, and 512 receivers 400 m east of them, so many millimetres apart.
+ends() {
+    awk -v step="$1" 'BEGIN {
+        for (i = 0; i < 16; i++)
+            printf "{\"do\":\"source\",\"name\":\"s%d\",\"kind\":\"industry\",\"x\":0,\"y\":%d,\"h\":2000,\"lw\":[9000,9500,9800,10000,10000,9700,9200,8500]}\n", i, i * 100
+        for (i = 0; i < 512; i++)
+            printf "{\"do\":\"receiver\",\"name\":\"r%d\",\"x\":400000,\"y\":%d,\"h\":4000}\n", i, (i - 256) * step
+    }'
+}
+
 # milliseconds INPUT: the least time of five runs over a file. The rows of the last are in $work/rows.
 milliseconds() {
     least=

@@ -5,16 +5,6 @@
 set -e
 . "$(dirname "$0")/timing.sh"
 
-# ends: 16 sources beside each other, and 512 receivers 400 m east of them.
-ends() {
-    awk 'BEGIN {
-        for (i = 0; i < 16; i++)
-            printf "{\"do\":\"source\",\"name\":\"s%d\",\"kind\":\"industry\",\"x\":0,\"y\":%d,\"h\":2000,\"lw\":[9000,9500,9800,10000,10000,9700,9200,8500]}\n", i, i * 100
-        for (i = 0; i < 512; i++)
-            printf "{\"do\":\"receiver\",\"name\":\"r%d\",\"x\":400000,\"y\":%d,\"h\":4000}\n", i, i * 10 - 2560
-    }'
-}
-
 # walls MIRRORS OTHERS: so many barriers north and south of the line that mirror, each a quarter farther off than the one
 # before it, and the sides of so many buildings, a fourth of OTHERS, behind the receivers.
 walls() {
@@ -35,7 +25,7 @@ walls() {
 echo 'mirrors  other walls  ns a path'
 for others in 0 1024; do
     for mirrors in 0 4 32; do
-        { ends; walls "$mirrors" "$others"; } > "$work/scene"
+        { ends 10; walls "$mirrors" "$others"; } > "$work/scene"
         printf '%7d  %11d  %9d\n' "$mirrors" "$others" $(($(settle_time "$work/scene") * 1000000 / 8192))
     done
 done

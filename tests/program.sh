@@ -1,6 +1,8 @@
 #!/bin/sh
 # The program from outside: its words, its rows, its exit status and what it says on standard error, also where the
-# system fails it. Without a word it tries what `rt ci` has built, by each of its two compilers; else the programs named.
+# system fails it; that the documents show what it does; and the script `noisemap`. Without a word it tries both programs
+# that `rt ci` has built of one proved source, by LLVM (noise_map) and by Rattle's own compiler (noise_map.by-rattle);
+# else the programs named. It needs prlimit.
 cd "$(dirname "$0")/.." || exit 1
 room=$(mktemp -d) || exit 1
 trap 'rm -rf "$room"' EXIT
@@ -41,18 +43,116 @@ with_room() {
     return 99
 }
 
-# Each example, with its words and its status where they aren't none and 0.
+# words_of EXAMPLE, input_of EXAMPLE, status_of EXAMPLE: what stands beside its rows; none, nothing and 0 where no file says
+# it. Of words there is one a line, and no blank in it.
+words_of() {
+    if [ -f "$1.args" ]; then cat "$1.args"; fi
+}
+
+input_of() {
+    if [ -f "$1.jsonl" ]; then echo "$1.jsonl"; else echo "$room/nothing"; fi
+}
+
+status_of() {
+    if [ -f "$1.status" ]; then cat "$1.status"; else echo 0; fi
+}
+
 try_examples() {
-    for input in examples/*.jsonl; do
-        example=${input%.jsonl}
-        words=
-        wanted=0
-        if [ -f "$example.args" ]; then words=$(cat "$example.args"); fi
-        if [ -f "$example.status" ]; then wanted=$(cat "$example.status"); fi
-        # One word a line, and no blank in it.
-        # shellcheck disable=SC2086
-        expect "$example" "$wanted" "$example.csv" "" "$program" $words < "$input"
+    for rows in examples/*.csv; do
+        example=${rows%.csv}
+        # shellcheck disable=SC2046
+        expect "$example" "$(status_of "$example")" "$rows" "" "$program" $(words_of "$example") < "$(input_of "$example")"
     done
+    expect "a site, and input beside it" 0 examples/site7.csv "" "$program" --make 7 < examples/first.jsonl
+}
+
+# agree WHAT FILE: whether $room/shown is this file.
+agree() {
+    if cmp -s "$room/shown" "$2"; then
+        passed=$((passed + 1))
+    else
+        failed=$((failed + 1))
+        echo "FAILED: $1: it isn't $2"
+    fi
+}
+
+# blocks DOCUMENT: puts each fenced block of a document into a file of its own, $room/block.N, and lists them in
+# $room/blocks: the number, and the words behind the fence.
+blocks() {
+    rm -f "$room"/block.*
+    awk -v room="$room" '
+        /^```/ && !inside { inside = 1; count++; print count, substr($0, 4); printf "" > (room "/block." count); next }
+        /^```/ { inside = 0; close(room "/block." count); next }
+        inside { print > (room "/block." count) }
+    ' "$1" > "$room/blocks"
+}
+
+# A block behind `json FILE` or `csv FILE` is that file, or a part of it: the blocks of one file, one after the other, are
+# the whole file. One that begins with a command is what the command, as it is printed, writes. `sh` are commands to
+# type, and `text` is a picture. A document has no other block.
+try_document() {
+    document=$1
+    blocks "$document"
+    cut -d ' ' -f 3 "$room/blocks" | sort -u | grep . > "$room/files"
+    while read -r file; do
+        awk -v file="$file" '$3 == file { print $1 }' "$room/blocks" | while read -r number; do
+            cat "$room/block.$number"
+        done > "$room/shown"
+        agree "$document: $file" "$file"
+    done < "$room/files"
+    while read -r number kind file; do
+        block=$room/block.$number
+        command=$(sed -n '1s/^\$ .\/noisemap//p' "$block")
+        case "$kind $file" in
+            'json examples/'* | 'csv examples/'* | 'sh ' | 'text ') ;;
+            *) if [ -n "$command" ]; then try_command "$document"; else judge_block; fi ;;
+        esac
+    done < "$room/blocks"
+}
+
+# A block that says neither what it is nor how it came about.
+judge_block() {
+    failed=$((failed + 1))
+    echo "FAILED: $document: block $number names no file: $(head -n 1 "$block")"
+}
+
+# try_command DOCUMENT: runs the command of a block, and compares its rows and its words with those of its example.
+try_command() {
+    words=${command%%<*}
+    input=$(echo "$command" | sed -n 's/.*< //p')
+    example=${input%.jsonl}
+    if [ -z "$input" ]; then
+        input=$room/nothing
+        for rows in examples/*.csv; do
+            if [ ! -f "${rows%.csv}.jsonl" ] && [ "$(words_of "${rows%.csv}" | xargs)" = "$(echo "$words" | xargs)" ]; then
+                example=${rows%.csv}
+            fi
+        done
+    fi
+    sed 1d "$block" > "$room/shown"
+    agree "$1:$command" "$example.csv"
+    # shellcheck disable=SC2086
+    expect "$1:$command" "$(status_of "$example")" "$room/shown" "" "$program" $words < "$input"
+}
+
+try_documents() {
+    for document in README.md docs/*.md examples/README.md; do
+        try_document "$document"
+    done
+}
+
+# The script, in a folder with a program and in one without: it is called by a link, and builds nothing here.
+try_script() {
+    mkdir -p "$room/house/crates/noise_map/out" "$room/bare/crates" "$room/bin"
+    for house in house bare; do
+        cp noisemap crates.txt "$room/$house"
+    done
+    cp "$program" "$room/house/crates/noise_map/out/noise_map"
+    ln -sf ../house/noisemap "$room/bin/noisemap"
+    expect "the script by a link" 0 examples/first.csv "" "$room/bin/noisemap" < examples/first.jsonl
+    expect "the script without the kit" 70 "$room/nothing" \
+        "rt not found: the program has to be built, which needs the Rattle kit (see README.md)" \
+        env PATH=/usr/bin:/bin "$room/bare/noisemap" < examples/first.jsonl
 }
 
 try_words() {
@@ -90,8 +190,8 @@ try_workers() {
         prlimit --stack=8589934592 --as=4294967296 "$program" --workers 16 < examples/works.jsonl
 }
 
-# As many obstacles and sides as may be, out to the ends of the map, and one obstacle more. The levels are those of an
-# independent calculation.
+# As many obstacles and sides as may be, out to the ends of the map, and one obstacle more: the rows of $room/sides, which
+# is made below. The levels are those of an independent calculation.
 try_screens() {
     {
         echo "refused,4098,4099,Full,obstacle,4096,"
@@ -119,7 +219,7 @@ try_memory() {
     judge "words without memory" $? 5 "$room/nothing" "no memory"
 }
 
-# Inputs: many rows; the limit, and one byte more; many sides; much memory.
+# Inputs: many rows; the limit, and one byte more; many sides, for try_screens; much memory.
 {
     echo '{"do":"grid","name":"g","x":0,"y":0,"step":1000,"columns":64,"rows":64,"h":4000}'
     yes '{"do":"settle"}' | head -n 20
@@ -149,6 +249,8 @@ if [ $# -eq 0 ]; then
 fi
 for program in "$@"; do
     try_examples
+    try_documents
+    try_script
     try_words
     try_ends
     try_workers

@@ -2,5 +2,9 @@ pub mod Texts
 pub mod Values
 pub mod Fields
 pub mod Answers
+pub mod Limits
+pub mod Views
+pub mod Ranges
+pub mod Checking
 pub mod Words
 pub mod Lines

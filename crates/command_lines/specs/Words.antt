@@ -1,7 +1,7 @@
 -- The words of `do`, the fields of each in their order, and what each asks for.
 use Rattle.std.specs.Prelude.{ℕ, List, [], ◌∷◌, Result, Ok, Err, if◌then◌else◌, codes, bytes_eq}
 use Rattle.serde_json.specs.Data.{Data}
-use Rattle.scene_parts.specs.declared.kinds.Field.TheVariants.{Name, Kind, X, Y, H, Lw, Dc, Points, Density, Rho, G, Step, Columns, Rows, Reach, Air, C0}
+use Rattle.scene_parts.specs.declared.kinds.Field.TheVariants.{Name, Kind, X, Y, H, Lw, Dc, Points, Density, Rho, G, Step, Columns, Rows, Reach, Air, C0, Level, Piece}
 use Rattle.scene_parts.specs.declared.raw.RawPart.{RawPart}
 use Rattle.scene_parts.specs.declared.raw.RawPart.TheVariants as raw
 use Rattle.scene_parts.specs.Checking.{check_of}
@@ -9,11 +9,14 @@ use Rattle.scene_book.specs.declared.edits.Edit.TheVariants as edits
 use Rattle.scene_book.specs.Edits.{edit_of}
 use Rattle.command_lines.specs.declared.commands.Command.{Command}
 use Rattle.command_lines.specs.declared.commands.Command.TheVariants as commands
+use Rattle.command_lines.specs.declared.contours.RawContour.{RawContour}
+use Rattle.command_lines.specs.declared.line_sources.RawLineSource.{RawLineSource}
 use Rattle.command_lines.specs.declared.faults.LineFault.{LineFault}
 use Rattle.command_lines.specs.declared.faults.LineFault.TheVariants.{UnknownDo}
 use Rattle.command_lines.specs.Fields.{Entry, text, name, any_name, whole, points, powers, needed, optional, with_fields, text_at, name_at, any_name_at, whole_at, points_at, powers_at, optional_whole_at, optional_text_at}
 use Rattle.scene_parts.specs.Answers.{◌>>=◌}
 use Rattle.command_lines.specs.Answers.{of_part}
+use Rattle.command_lines.specs.Checking.{checked_contour, checked_line_source}
 
 -- The fields of each word
 
@@ -46,6 +49,17 @@ set_fields = optional Reach whole ∷ optional G whole ∷ optional Air text ∷
 abbrev pub remove_fields : List Entry
 remove_fields = needed Name any_name ∷ []
 
+abbrev pub contour_fields : List Entry
+contour_fields = needed Name name ∷ needed Level whole ∷ needed Columns whole ∷ needed Rows whole ∷ []
+
+abbrev pub line_source_fields : List Entry
+line_source_fields =
+    needed Name name ∷ needed Kind text ∷ needed Points points ∷ needed H whole ∷ needed Lw powers ∷ optional Dc whole
+    ∷ needed Piece whole ∷ []
+
+abbrev pub unline_fields : List Entry
+unline_fields = needed Name name ∷ []
+
 -- What a line gives with the fields of its word: a directivity correction and a reflection are 0 where they are absent,
 -- and an absent setting keeps its value
 
@@ -77,6 +91,27 @@ abbrev pub set_in : Data → RawPart
 set_in line =
     raw.Set (optional_whole_at Reach line) (optional_whole_at G line) (optional_text_at Air line)
     (optional_whole_at C0 line)
+
+abbrev pub contour_in : Data → RawContour
+contour_in line =
+    record {
+      name = name_at Name line;
+      level = whole_at Level line;
+      columns = whole_at Columns line;
+      rows = whole_at Rows line;
+    }
+
+abbrev pub line_source_in : Data → RawLineSource
+line_source_in line =
+    record {
+      name = name_at Name line;
+      kind = text_at Kind line;
+      points = points_at Points line;
+      h = whole_at H line;
+      lw = powers_at Lw line;
+      dc = whole_at Dc line;
+      piece = whole_at Piece line;
+    }
 
 -- What a line gives for its word: Missing, then WrongType, else the part with its fields
 
@@ -121,10 +156,36 @@ removal_of line = with_fields remove_fields line (commands.Edit (edits.Remove (a
 unfoldable pub checked_edit : RawPart → Result Command LineFault
 checked_edit part = of_part (check_of part) >>= λ checked. Ok (commands.Edit (edit_of checked))
 
+unfoldable pub raw_contour_of : Data → Result RawContour LineFault
+raw_contour_of line = with_fields contour_fields line (contour_in line)
+
+-- the contours that a line gives, where each field is in its range
+unfoldable pub contour_of : Data → Result Command LineFault
+contour_of line = do
+  raw ← raw_contour_of line
+  spec ← of_part (checked_contour raw)
+  Ok (commands.Contour spec)
+
+unfoldable pub raw_line_source_of : Data → Result RawLineSource LineFault
+raw_line_source_of line = with_fields line_source_fields line (line_source_in line)
+
+-- the line source that a line gives, where none of its faults holds
+unfoldable pub line_source_of : Data → Result Command LineFault
+line_source_of line = do
+  raw ← raw_line_source_of line
+  spec ← of_part (checked_line_source raw)
+  Ok (commands.Line spec)
+
+unfoldable pub unline_of : Data → Result Command LineFault
+unline_of line = with_fields unline_fields line (commands.Unline (name_at Name line))
+
 -- what the word of a line asks for
 unfoldable pub asked : List ℕ → Data → Result Command LineFault
 asked word line =
     if bytes_eq word (codes "settle") then Ok commands.Settle
     else (if bytes_eq word (codes "look") then Ok commands.Look
     else (if bytes_eq word (codes "remove") then removal_of line
-    else (part_of word line >>= checked_edit)))
+    else (if bytes_eq word (codes "contour") then contour_of line
+    else (if bytes_eq word (codes "line") then line_source_of line
+    else (if bytes_eq word (codes "unline") then unline_of line
+    else (part_of word line >>= checked_edit))))))

@@ -18,7 +18,7 @@ pub enum LineFault {
     Missing { field: Field },
     /// The first field in that order whose value is of another type; null in an optional field is so too.
     WrongType { field: Field },
-    /// What the line gives is no part, grid or setting.
+    /// What the line gives is no part, grid or setting, and no line source, contour or version.
     Part(PartFault),
 }
 

@@ -1,4 +1,5 @@
 //! Lines are told as an independent program tells them.
+use super::request_rows::REQUESTS;
 use super::rows::{FORMS, MISSING, RANGES, TYPES, VALUES};
 use super::{Command, LineFault, class_text, command, field_text};
 use scene_book::Edit;
@@ -18,6 +19,9 @@ fn told(alloc: Global, line: &[u8]) -> Result<String, AllocError> {
     match command(alloc, line) {
         Ok(Command::Settle) => String::from_str(alloc, "settle"),
         Ok(Command::Look) => String::from_str(alloc, "look"),
+        Ok(Command::Contour(_)) => String::from_str(alloc, "contour"),
+        Ok(Command::Line(_)) => String::from_str(alloc, "line"),
+        Ok(Command::Unline(_)) => String::from_str(alloc, "unline"),
         Ok(Command::Edit(Edit::Put(_))) => String::from_str(alloc, "put"),
         Ok(Command::Edit(Edit::Remove(_))) => String::from_str(alloc, "remove"),
         Ok(Command::Edit(Edit::Grid(_))) => String::from_str(alloc, "grid"),
@@ -73,6 +77,7 @@ fn lines_are_told_so(rt: HostRuntime) -> Result<(), Fail> {
     tell(&rt, alloc, &TYPES)?;
     tell(&rt, alloc, &VALUES)?;
     tell(&rt, alloc, &RANGES)?;
+    tell(&rt, alloc, &REQUESTS)?;
     for line in BROKEN {
         assert_eq!(rt; told(alloc, line)?.as_str(), "NotJson");
     }

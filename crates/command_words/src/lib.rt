@@ -3,8 +3,6 @@
 
 mod line;
 mod matching;
-#[cfg(test)]
-mod tests;
 mod values;
 
 pub use line::{CommandLine, WordsFault, command_line};

@@ -7,8 +7,6 @@ mod blocking;
 mod hand;
 pub mod laws;
 mod stretching;
-#[cfg(test)]
-mod tests;
 mod winding;
 
 pub use blocking::is_blocked;

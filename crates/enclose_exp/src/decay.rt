@@ -117,37 +117,3 @@ fn decay_up(exponent: u64) -> u64
     }
     product
 }
-
-#[cfg(test)]
-mod tests {
-    use super::*;
-
-    /// An exponent, and the ends of its decay, as an independent calculation on whole numbers gives them.
-    const ENDS: [(i128, i128, i128); 12] = [
-        (0, 4_294_967_296, 4_294_967_296),
-        (1, 4_294_967_294, 4_294_967_296),
-        (2_147_483_648, 2_605_029_347, 2_605_029_348),
-        (4_294_967_295, 1_580_030_169, 1_580_030_170),
-        (4_294_967_296, 1_580_030_168, 1_580_030_169),
-        (4_294_967_297, 1_580_030_168, 1_580_030_169),
-        (13_008_358_677, 207_774_778, 207_774_779),
-        (94_489_280_512, 1, 2),
-        (98_784_247_807, 0, 1),
-        (98_784_247_808, 0, 1),
-        (98_784_247_809, 0, 1),
-        (85_070_591_730_234_615_865_843_651_857_942_052_863, 0, 1),
-    ];
-
-    #[test]
-    fn gives_the_exact_decays(rt: HostRuntime) {
-        for (exponent, low, high) in ENDS {
-            assert!(rt; 0 <= exponent && exponent < 1 << 126);
-            let decay = exp_neg(Iv::of_ends(Some(exponent), Some(exponent)));
-            assert_eq!(rt; decay.low(), Some(low), "the low end of e^-{exponent}");
-            assert_eq!(rt; decay.high(), Some(high), "the high end of e^-{exponent}");
-            let open = exp_neg(Iv::of_ends(Some(exponent), None));
-            assert_eq!(rt; open.low(), Some(0), "from {exponent} on");
-            assert_eq!(rt; open.high(), Some(high), "from {exponent} on");
-        }
-    }
-}

@@ -9,3 +9,6 @@ pub mod LgRange
 pub mod Between
 pub mod TestedDigits
 pub mod Monotone
+pub mod Nearness
+pub mod NearEnds
+pub mod Lengths

@@ -19,7 +19,7 @@ true_or_false true = inl refl
 true_or_false false = inr refl
 
 -- the greatest number that passes does pass, and none above it within the limit does
-greatest-passes : (passes : ℕ → Bool) (limit : ℕ) → passes 0 ≡ true → passes (greatest passes limit) ≡ true
+pub greatest-passes : (passes : ℕ → Bool) (limit : ℕ) → passes 0 ≡ true → passes (greatest passes limit) ≡ true
 unfolding greatest
 greatest-passes passes zero first = first
 greatest-passes passes (suc limit) first =
@@ -37,7 +37,7 @@ greatest-le passes (suc limit) =
       | inr fails ↦ rw fails (omega (arith, greatest-le passes limit))
     ]
 
-greatest-last : (passes : ℕ → Bool) (limit j : ℕ) → greatest passes limit < j → j ≤ limit → passes j ≡ false
+pub greatest-last : (passes : ℕ → Bool) (limit j : ℕ) → greatest passes limit < j → j ≤ limit → passes j ≡ false
 unfolding greatest
 greatest-last passes zero j above within = absurd (omega arith)
 greatest-last passes (suc limit) j above within =
@@ -78,10 +78,10 @@ decade_of-holds n positive small =
     last
 
 -- the two laws, with all powers of ten on the side where they are whole
-lifted : (n : ℕ) → (10 ^ 10 * n) ^ unit ≡ 10 ^ (10 * unit) * n ^ unit
+pub lifted : (n : ℕ) → (10 ^ 10 * n) ^ unit ≡ 10 ^ (10 * unit) * n ^ unit
 lifted n = mul-pow (10 ^ 10) n unit ∙ ap (λ y. y * n ^ unit) (sym (pow-mul 10 10 unit))
 
-low-lifted : (n : ℕ) → 0 < n → n < 2 ^ 126 → 10 ^ (decade_of n * unit + (digits_low (mantissa_low n)).digits) * unit ^ unit ≤ 10 ^ (10 * unit) * n ^ unit
+pub low-lifted : (n : ℕ) → 0 < n → n < 2 ^ 126 → 10 ^ (decade_of n * unit + (digits_low (mantissa_low n)).digits) * unit ^ unit ≤ 10 ^ (10 * unit) * n ^ unit
 unfolding digits_low
 low-lifted n positive small =
     let k = decade_of n in
@@ -95,7 +95,7 @@ low-lifted n positive small =
     low-start : (k m x : ℕ) → m * 10 ^ k ≤ x * 2 ^ 26 → 10 ^ k * unit * m ≤ x * one_mantissa
     low-start k m x h = rw unit-is (omega (arith, h))
 
-high-lifted : (n : ℕ) → 0 < n → n < 2 ^ 126 → 10 ^ (10 * unit) * n ^ unit ≤ 10 ^ (decade_of n * unit + rounded_up (digits_high (mantissa_high n))) * unit ^ unit
+pub high-lifted : (n : ℕ) → 0 < n → n < 2 ^ 126 → 10 ^ (10 * unit) * n ^ unit ≤ 10 ^ (decade_of n * unit + rounded_up (digits_high (mantissa_high n))) * unit ^ unit
 unfolding digits_high
 high-lifted n positive small =
     let k = decade_of n in
@@ -118,7 +118,7 @@ unfolding lg_high
 lg_high-at_least n positive small = at_least-shifted _ _ n (high-lifted n positive small)
 
 -- a power of ten that isn't greater has an exponent that isn't greater
-exponents : (s t y : ℕ) → 0 < y → 10 ^ s * y ≤ 10 ^ t * y → s ≤ t
+pub exponents : (s t y : ℕ) → 0 < y → 10 ^ s * y ≤ 10 ^ t * y → s ≤ t
 exponents s t y positive h =
     let powers : 10 ^ s ≤ 10 ^ t = le_of_mul-le-mul_right {k = y} h positive in
     elim (cases_lt t s) [

@@ -1,2 +1,3 @@
 pub mod Decade
 pub mod Turn
+pub mod Narrow

@@ -47,6 +47,3 @@ fn one_at_least(energy: Iv) -> Iv
 {
     max(exact(1), energy)
 }
-
-#[cfg(test)]
-mod tests;

@@ -38,6 +38,3 @@ pub use roots::root;
 pub use truth::Truth;
 pub use values::{add, hull, less, max, min, neg, pick, sub};
 pub use whole_factors::{over, times};
-
-#[cfg(test)]
-mod tests;

@@ -11,8 +11,6 @@ mod leg;
 mod placing;
 mod reflecting;
 mod search;
-#[cfg(test)]
-mod tests;
 
 pub use dimension::{big_enough, big_enough_in_bands, dimension_squared, needed_squared};
 pub use image::Mirror;

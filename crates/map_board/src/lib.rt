@@ -21,8 +21,6 @@ mod returning;
 mod rows;
 mod scenes;
 mod state;
-#[cfg(test)]
-mod tests;
 
 pub use answers::{Landed, Shown};
 pub use calls::{BoardCall, BoardReply, Took};

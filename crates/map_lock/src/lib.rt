@@ -16,8 +16,3 @@ mod turns;
 pub use desk::Unsolved;
 pub use lock::MapLock;
 pub use seats::{EditorSeat, LookSeat, WorkerSeat};
-
-#[cfg(test)]
-mod test_courses;
-#[cfg(test)]
-mod tests;

@@ -1,6 +1,6 @@
--- The rows that go out (RFC 4180): seven fields each, and a line feed.
+-- The rows that go out: seven fields each.
 use Rattle.std.specs.Prelude.{ℕ, ◌/◌, ◌%◌, ℤ, List, [], ◌∷◌, ◌++◌, Option, Some, decimal, codes}
-use Rattle.csv.specs.Writing.{row_text, default_writer}
+use Rattle.csv_rows.specs.Rows.{row}
 use Rattle.fix_interval.specs.Interval.{Interval}
 use Rattle.energy_sum.specs.Sums.{units_of}
 use Rattle.scene_geom.specs.Bands.{frequency_of}
@@ -10,10 +10,6 @@ use Rattle.map_text.specs.declared.heads.Head.TheVariants.{Settle, Look}
 use Rattle.map_text.specs.declared.refusals.Refusal.{Refusal}
 use Rattle.map_text.specs.Rounding.{low_hundredths, high_hundredths}
 use Rattle.map_text.specs.Faults.{FaultText, refusal_text}
-
--- the text of a row
-unfoldable pub row : List (List ℕ) → List ℕ
-row fields = row_text default_writer fields
 
 -- ---- settles and looks
 

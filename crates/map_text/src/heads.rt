@@ -2,7 +2,7 @@
 ghost use Rattle.std.specs.Prelude.{◌≡◌, IfOk};
 ghost use Rattle.map_text.specs.Rows.{head_word, head_row};
 
-use crate::rows::fields_text;
+use csv_rows::fields_text;
 use scene_parts::NoMemory;
 use std::alloc::Global;
 

@@ -5,7 +5,7 @@ ghost use Rattle.map_text.specs.Rounding.{IsPrintable, IsPrintableLevel};
 ghost use Rattle.map_text.specs.Rows.{hundredths_text, low_text, high_text, level_row, current_row, stale_row, new_row, band_row, made_row};
 
 use crate::rounding::{high_hundredths, low_hundredths};
-use crate::rows::fields_text;
+use csv_rows::fields_text;
 use fix_interval::Iv;
 use scene_geom::Band;
 use scene_parts::{Name, NoMemory};

@@ -9,12 +9,9 @@ mod looks;
 mod refusals;
 mod refused;
 mod rounding;
-mod rows;
-#[cfg(test)]
-mod tests;
-mod texts;
 
 pub use counted::counts_text;
+pub use csv_rows::{RowText, RowTexts};
 pub use heads::{Head, head_text};
 pub use laws::printed_is_around;
 pub use levels::made_text;
@@ -22,4 +19,3 @@ pub use looks::row_text;
 pub use refusals::Refusal;
 pub use refused::refused_text;
 pub use scene_parts::NoMemory;
-pub use texts::{RowText, RowTexts};

@@ -4,7 +4,7 @@ ghost use Rattle.map_text.specs.Rows.{current_row, stale_row};
 ghost use Rattle.map_text.specs.Looks.{row_of_band, band_rows, receiver_rows};
 
 use crate::levels::{band_text, current_text, new_text, stale_text};
-use crate::texts::{RowText, RowTexts};
+use csv_rows::{RowText, RowTexts};
 use map_board::{LookRow, Shown};
 use path_calc::Levels;
 use scene_geom::Band;

@@ -7,8 +7,8 @@ ghost use Rattle.map_text.specs.Faults.{about, part_fault_text, line_fault_text,
 ghost use Rattle.map_text.specs.Rows.{fault_row, said_row, refused_row};
 
 use crate::refusals::Refusal;
-use crate::rows::fields_text;
 use command_lines::{LineFault, class_text, field_text};
+use csv_rows::fields_text;
 use scene_book::EditFault;
 use scene_parts::{Class, Field, NoMemory, PartFault};
 use std::alloc::Global;

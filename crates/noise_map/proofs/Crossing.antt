@@ -31,6 +31,7 @@ use Rattle.atomic_table.proofs.shared.Seat.TheSendSync.{the_send as Seat-send}
 use Rattle.atomic_table.proofs.send_lease.SendLease.TheSendSync.{the_sync as Lease-sync}
 use Rattle.map_io.specs.contracts.reader.LineReader as LineReader
 use Rattle.noise_map.specs.contracts.step.Shared as Shared
+use Rattle.noise_map.specs.contracts.editor.Editor as Editor
 use Rattle.std.proofs.Crossing.{crosses}
 
 -- a journal holds nothing but what contracts see, so one layer of it may cross whatever the layers in it are
@@ -77,8 +78,11 @@ Place-send = Seat-send (Option.the_row SharedBoard.the_row) (View.the_row BoardC
 pub WorkerSeat-send : IsSend WorkerSeat.the_row
 WorkerSeat-send = search (Place-send, sendable) depth 40 fits 10000 steps 100000000
 
-pub editor_crosses : IsSend EditorSeat.the_row
-editor_crosses = search (Place-send, sendable) depth 40 fits 10000 steps 100000000
+EditorSeat-send : IsSend EditorSeat.the_row
+EditorSeat-send = search (Place-send, sendable) depth 40 fits 10000 steps 100000000
+
+pub editor_crosses : IsSend Editor.the_row
+editor_crosses = search (EditorSeat-send, Scene-send, crosses, sendable) depth 40 fits 10000 steps 100000000
 
 pub reader_crosses : IsSend LineReader.the_row
 reader_crosses = search (crosses, sendable) depth 40 fits 10000 steps 1000000

@@ -16,15 +16,17 @@ use Rattle.noise_map.specs.declared.answer.Answer.{Answer}
 use Rattle.noise_map.specs.declared.stopped.Stopped.{Stopped}
 use Rattle.noise_map.specs.declared.stopped.Stopped.TheVariants as stops
 use Rattle.noise_map.specs.declared.status.Status.TheVariants as status
-use Rattle.noise_map.specs.Demands.{demand_of, looks_asked, journal_after, refused_for, is_refused, Point, at_start, point_after, journal_of}
-use Rattle.noise_map.specs.Texts.{answer_to, rows_of, line_text, text_of}
-use Rattle.noise_map.specs.Ways.{looks_in, Does, Way, and_line}
-use Rattle.noise_map.specs.Taking.{TakesFront}
-use Rattle.noise_map.specs.Steps.{HasGone, HasMet, HasFailed, is_refusal, newest_after}
+use Rattle.noise_map.specs.Demands.{demand_of}
+use Rattle.noise_map.specs.Effects.{Effect, effect_of, effect_at, looks_asked, journal_with_all, is_refused, Point, at_start, point_after, journal_of}
+use Rattle.noise_map.specs.Texts.{answer_to, rows_of, line_rows, text_of}
+use Rattle.noise_map.specs.Ways.{looks_in, Does, Way, and_line, Fails}
+use Rattle.noise_map.specs.Taking.{joined, TakesFront}
+use Rattle.noise_map.specs.Steps.{HasGone, HasMet, HasFailed, is_refusal}
 use Rattle.noise_map.specs.Progress.{IsSameSeat, Did, Told, HasEnded, status_of}
 use Rattle.noise_map.specs.Outcome.{TakesPartOf}
 use Rattle.noise_map.proofs.Ways.{looks_in-append, way-grown}
-use Rattle.noise_map.proofs.Demands.{point-push, text-push, text-more, get-behind, newest-is, refusal-is, count-is}
+use Rattle.noise_map.proofs.Fronts.{joined-append, on-from}
+use Rattle.noise_map.proofs.Effects.{point-push, text-push, text-more, get-behind, refusal-is, count-is}
 
 pub same-gone : (before seat after : BoardSeat) (added : Entries) → IsSameSeat before seat → HasGone seat added after → IsSameSeat before after
 same-gone before seat after added same goes = record {
@@ -43,37 +45,42 @@ pub looks-gone : (seat after : BoardSeat) (added : Entries) → HasGone seat add
 looks-gone seat after added goes = ap looks_in goes.mine ∙ looks_in-append seat.mine added
 
 pub way-push : (seat after : BoardSeat) (done : List (List ℕ)) (line : List ℕ) (added : Entries) → Way seat.seen done seat.mine → accepted_edits seat.mine ≡ journal_of done → HasGone seat added after
-    → Does after.seen seat.mine (accepted_edits seat.mine) (demand_of line) added → Way after.seen (done ++ line ∷ []) after.mine
+    → Does after.seen seat.mine (accepted_edits seat.mine) (effect_of (accepted_edits seat.mine) (demand_of line)) added → Way after.seen (done ++ line ∷ []) after.mine
 way-push seat after done line added way journal goes does =
     subst (Way after.seen (done ++ line ∷ [])) (sym goes.mine)
     (and_line done line seat.mine added (way-grown seat.seen after.seen done seat.mine way goes.seen)
-    (subst (λ (es : List Edit). Does after.seen seat.mine es (demand_of line) added) journal does))
+    (subst (λ (es : List Edit). Does after.seen seat.mine es (effect_of es (demand_of line)) added) journal does))
 
-module _ (before seat after : BoardSeat) (done : List (List ℕ)) (line : List ℕ) (answer : Answer) (did : Did before seat done) (met : HasMet seat (demand_of line) answer after) where
+-- what the line comes to behind the edits that the editor has had accepted
+abbrev pub comes_to : BoardSeat → List ℕ → Effect
+comes_to seat line = effect_of (accepted_edits seat.mine) (demand_of line)
+
+module _ (before seat after : BoardSeat) (done : List (List ℕ)) (line : List ℕ) (answer : Answer) (did : Did before seat done) (met : HasMet seat (comes_to seat line) answer after) where
   pub did-more : Did before after (done ++ line ∷ [])
   did-more = record {
     same = same-gone before seat after met.added did.same met.goes;
     way = way-push seat after done line met.added did.way did.journal met.goes met.does;
-    journal = met.accepts ∙ (ap (λ (es : List Edit). journal_after es (demand_of line)) did.journal ∙ ap (λ (p : Point). p.journal) (sym (point-push done line)));
+    journal =
+        met.accepts
+        ∙ (ap (λ (es : List Edit). journal_with_all es (effect_of es (demand_of line)).edits) did.journal ∙ ap (λ (p : Point). p.journal) (sym (point-push done line)));
     asked =
         ap (λ (p : Point). p.asked) (point-push done line)
-        ∙ (ap (λ n. n + looks_asked (demand_of line)) did.asked
-        ∙ (ap (λ n. length (looks_in seat.mine) + n) (sym met.asked)
+        ∙ (ap (λ n. n + looks_asked (effect_at (point_after done) line).display) did.asked
+        ∙ (ap (λ n. length (looks_in seat.mine) + n) (ap (λ (es : List Edit). looks_asked (effect_of es (demand_of line)).display) (sym did.journal) ∙ sym met.asked)
         ∙ (sym (length-append (looks_in seat.mine) (looks_in met.added)) ∙ ap length (sym (looks-gone seat after met.added met.goes)))));
     unfinished = met.goes.unfinished did.unfinished;
   }
 
   -- the rows of the line are its text
-  pub line-text-is : (words : CommandLine) (version : ℕ) → version ≡ length (journal_of done)
-      → line_text words (looks_in after.mine) (point_after done) line ≡ rows_of words (length done + 1) version answer
-  unfolding line_text
-  line-text-is words version is =
+  pub line-rows-are : (words : CommandLine) → line_rows words (looks_in after.mine) (point_after done) line ≡ rows_of words (length done + 1) (length (accepted_edits seat.mine)) answer
+  unfolding line_rows
+  line-rows-are words =
       let looks = looks-gone seat after met.added met.goes in
       let there : slice_get (looks_in after.mine) (point_after done).asked ≡ slice_get (looks_in met.added) 0 =
       (λ i. slice_get (looks i) (did.asked i)) ∙ get-behind (looks_in seat.mine) (looks_in met.added) in
-      let said : answer_to (journal_of done) (slice_get (looks_in after.mine) (point_after done).asked) (demand_of line) ≡ answer =
-      (λ i. answer_to (sym did.journal i) (there i) (demand_of line)) ∙ sym met.answered in
-      λ i. rows_of words (count-is done i + 1) (sym is i) (said i)
+      let said : answer_to (effect_at (point_after done) line).display (slice_get (looks_in after.mine) (point_after done).asked) ≡ answer =
+      (λ i. answer_to (effect_of (sym did.journal i) (demand_of line)).display (there i)) ∙ sym met.answered in
+      λ i. rows_of words (count-is done i + 1) (length (sym did.journal i)) (said i)
 
   text-before : (words : CommandLine) → text_of words (looks_in after.mine) done ≡ text_of words (looks_in seat.mine) done
   text-before words =
@@ -81,32 +88,28 @@ module _ (before seat after : BoardSeat) (done : List (List ℕ)) (line : List �
       ∙ text-more words (looks_in seat.mine) (looks_in met.added) at_start done (omega (arith, did.asked))
 
   -- the text with this line
-  pub text-then : (words : CommandLine) (version : ℕ) → version ≡ length (journal_of done)
-      → text_of words (looks_in after.mine) (done ++ line ∷ []) ≡ text_of words (looks_in seat.mine) done ++ rows_of words (length done + 1) version answer
-  text-then words version is =
-      let here = line-text-is words version is in
+  pub text-then : (words : CommandLine)
+      → text_of words (looks_in after.mine) (done ++ line ∷ []) ≡ text_of words (looks_in seat.mine) done ++ rows_of words (length done + 1) (length (accepted_edits seat.mine)) answer
+  text-then words =
+      let here = line-rows-are words in
       let front = text-before words in
       text-push words (looks_in after.mine) at_start done line ∙ (λ i. front i ++ here i)
 
-  pub told-more : (words : CommandLine) (version : ℕ) (refused : Bool) (taken_before taken_now taken_after : Option (List ℕ)) → Told words version refused seat taken_before taken_now done
-      → Appends taken_now taken_after (rows_of words (length done + 1) version answer)
-      → Told words (newest_after version answer) (refused || is_refusal answer) after taken_before taken_after (done ++ line ∷ [])
-  told-more words version refused taken_before taken_now taken_after told wrote =
-      let journal = accepted_edits seat.mine in
-      let version_is : version ≡ length journal = told.version_is ∙ ap length (sym did.journal) in
+  pub told-more : (words : CommandLine) (refused : Bool) (taken_before taken_now taken_after : Option (List ℕ)) → Told words refused seat taken_before taken_now done
+      → Appends taken_now taken_after (joined (rows_of words (length done + 1) (length (accepted_edits seat.mine)) answer))
+      → Told words (refused || is_refusal answer) after taken_before taken_after (done ++ line ∷ [])
+  told-more words refused taken_before taken_now taken_after told wrote =
       let look = slice_get (looks_in met.added) 0 in
       record {
-        version_is =
-            ap (newest_after version) met.answered
-            ∙ (newest-is journal look version (demand_of line) version_is
-            ∙ (ap (λ (es : List Edit). length (journal_after es (demand_of line))) did.journal ∙ ap (λ (p : Point). length p.journal) (sym (point-push done line))));
         refused_is =
             ap (λ (p : Point). p.refused) (point-push done line)
-            ∙ (λ i. told.refused_is i || (ap (λ (es : List Edit). is_refused (refused_for es (demand_of line))) (sym did.journal)
-            ∙ (sym (refusal-is journal look (demand_of line)) ∙ ap is_refusal (sym met.answered))) i);
+            ∙ (λ i. told.refused_is i || (ap (λ (es : List Edit). is_refused (effect_of es (demand_of line)).display) (sym did.journal)
+            ∙ (sym (refusal-is (comes_to seat line).display look) ∙ ap is_refusal (sym met.answered))) i);
         written =
-            subst (Appends taken_before taken_after) (sym (text-then words version told.version_is))
-            (Appends-trans taken_before taken_now taken_after (text_of words (looks_in seat.mine) done) (rows_of words (length done + 1) version answer) told.written wrote);
+            let text = text_of words (looks_in seat.mine) done in
+            let rows = rows_of words (length done + 1) (length (accepted_edits seat.mine)) answer in
+            subst (Appends taken_before taken_after) (sym (joined-append text rows) ∙ ap joined (sym (text-then words)))
+            (Appends-trans taken_before taken_now taken_after (joined text) (joined rows) told.written wrote);
       }
 
 pub all_but_last-push : (done : List (List ℕ)) (line : List ℕ) → all_but_last (done ++ line ∷ []) ≡ done
@@ -117,45 +120,47 @@ all_but_last-push (first ∷ second ∷ more) line = ap (λ ls. first ∷ ls) (a
 -- ---- lines that were broken off
 
 -- the rows of the last line, or some of them
-pub broken-told : (words : CommandLine) (version : ℕ) (refused : Bool) (before seat after : BoardSeat) (taken_before taken_now taken_after : Option (List ℕ)) (done : List (List ℕ)) (line : List ℕ) (answer : Answer)
-    → Did before seat done → HasMet seat (demand_of line) answer after → Told words version refused seat taken_before taken_now done
-    → TakesFront taken_now taken_after (rows_of words (length done + 1) version answer)
-    → TakesPartOf words (looks_in after.mine) taken_before taken_after (done ++ line ∷ [])
-broken-told words version refused before seat after taken_before taken_now taken_after done line answer did met told takes =
-    let text = text_of words (looks_in seat.mine) done in
+pub broken-told : (stopped : Stopped) (words : CommandLine) (refused : Bool) (before seat after : BoardSeat) (taken_before taken_now taken_after : Option (List ℕ)) (done : List (List ℕ)) (line : List ℕ) (answer : Answer)
+    → Did before seat done → HasMet seat (comes_to seat line) answer after → Told words refused seat taken_before taken_now done
+    → TakesFront stopped taken_now taken_after (rows_of words (length done + 1) (length (accepted_edits seat.mine)) answer)
+    → TakesPartOf stopped words (looks_in after.mine) taken_before taken_after (done ++ line ∷ [])
+broken-told stopped words refused before seat after taken_before taken_now taken_after done line answer did met told takes =
+    let others : text_of words (looks_in after.mine) (all_but_last (done ++ line ∷ [])) ≡ text_of words (looks_in seat.mine) done =
+    ap (text_of words (looks_in after.mine)) (all_but_last-push done line) ∙ text-before before seat after done line answer did met words in
     record {
-      part = text ++ takes.front;
+      front = takes.front;
+      part = takes.part;
       rest = takes.rest;
-      front =
-          text-then before seat after done line answer did met words version told.version_is
-          ∙ (ap (λ t. text ++ t) takes.parts ∙ sym (append_assoc text takes.front takes.rest));
-      last = takes.front;
-      others =
-          ap (λ t. t ++ takes.front)
-          (sym (ap (text_of words (looks_in after.mine)) (all_but_last-push done line) ∙ text-before before seat after done line answer did met words));
-      taken = Appends-trans taken_before taken_now taken_after text takes.front told.written takes.taken;
+      text = text-then before seat after done line answer did met words ∙ (λ i. sym others i ++ takes.parts i);
+      begun = takes.begun;
+      taken =
+          subst (λ (rows : List (List ℕ)). Appends taken_before taken_after (joined (rows ++ takes.front) ++ takes.part)) (sym others)
+          (on-from taken_before taken_now taken_after (text_of words (looks_in seat.mine) done) takes.front takes.part told.written takes.taken);
     }
 
 -- nothing of the last line
-pub failed-told : (words : CommandLine) (version : ℕ) (refused : Bool) (before seat after : BoardSeat) (taken_before taken_now taken_after : Option (List ℕ)) (done : List (List ℕ)) (line : List ℕ)
-    → HasFailed seat (demand_of line) after → Told words version refused seat taken_before taken_now done → Appends taken_now taken_after []
-    → TakesPartOf words (looks_in after.mine) taken_before taken_after (done ++ line ∷ [])
-failed-told words version refused before seat after taken_before taken_now taken_after done line failed told none =
+pub failed-told : (words : CommandLine) (refused : Bool) (before seat after : BoardSeat) (taken_before taken_now taken_after : Option (List ℕ)) (done : List (List ℕ)) (line : List ℕ)
+    → HasFailed seat (comes_to seat line) after → Told words refused seat taken_before taken_now done → Appends taken_now taken_after []
+    → TakesPartOf stops.NoMemory words (looks_in after.mine) taken_before taken_after (done ++ line ∷ [])
+failed-told words refused before seat after taken_before taken_now taken_after done line failed told none =
     let looks : looks_in after.mine ≡ looks_in seat.mine =
     looks-gone seat after failed.added failed.goes ∙ (ap (λ (l : List LookAll). looks_in seat.mine ++ l) failed.unanswered ∙ append-nil (looks_in seat.mine)) in
     let text = text_of words (looks_in seat.mine) done in
+    let others : text_of words (looks_in after.mine) (all_but_last (done ++ line ∷ [])) ≡ text = λ i. text_of words (looks i) (all_but_last-push done line i) in
     record {
-      part = text;
-      rest = line_text words (looks_in seat.mine) (point_after done) line;
-      front = ap (λ (ls : List LookAll). text_of words ls (done ++ line ∷ [])) looks ∙ text-push words (looks_in seat.mine) at_start done line;
-      last = [];
-      others =
-          (λ i. text_of words (sym looks i) (sym (all_but_last-push done line) i))
-          ∙ sym (append-nil (text_of words (looks_in after.mine) (all_but_last (done ++ line ∷ []))));
-      taken = subst (Appends taken_before taken_after) (append-nil text) (Appends-trans taken_before taken_now taken_after text [] told.written none);
+      front = [];
+      part = [];
+      rest = line_rows words (looks_in seat.mine) (point_after done) line;
+      text =
+          ap (λ (ls : List LookAll). text_of words ls (done ++ line ∷ [])) looks
+          ∙ (text-push words (looks_in seat.mine) at_start done line ∙ ap (λ (rows : List (List ℕ)). rows ++ line_rows words (looks_in seat.mine) (point_after done) line) (sym others));
+      begun = refl;
+      taken =
+          subst (λ (rows : List (List ℕ)). Appends taken_before taken_after (joined (rows ++ []) ++ [])) (sym others)
+          (on-from taken_before taken_now taken_after text [] [] told.written none);
     }
 
-pub failed-way : (before seat after : BoardSeat) (done : List (List ℕ)) (line : List ℕ) → Did before seat done → HasFailed seat (demand_of line) after
+pub failed-way : (before seat after : BoardSeat) (done : List (List ℕ)) (line : List ℕ) → Did before seat done → HasFailed seat (comes_to seat line) after
     → HasEnded status.NoMemory (done ++ line ∷ []) before after
 failed-way before seat after done line did failed = record {
   same = same-gone before seat after failed.added did.same failed.goes;
@@ -166,7 +171,7 @@ failed-way before seat after done line did failed = record {
     front = seat.mine;
     added = failed.added;
     way = way-grown seat.seen after.seen done seat.mine did.way failed.goes.seen;
-    fails = failed.fails;
+    fails = subst (λ (es : List Edit). Fails es (effect_of es (demand_of line)) failed.added) did.journal failed.fails;
     own_is = failed.goes.mine;
   });
 }
@@ -176,5 +181,5 @@ stopped-way stops.WriteFault before seat done did = record { same = did.same; wa
 stopped-way stops.NoMemory before seat done did = record { same = did.same; way = inl did.way }
 
 -- of no lines nothing was written
-pub nothing-told : (words : CommandLine) (looks : List LookAll) (taken : Option (List ℕ)) → TakesPartOf words looks taken taken []
-nothing-told words looks taken = record { part = []; rest = []; front = refl; last = []; others = refl; taken = Appends-nil taken }
+pub nothing-told : (words : CommandLine) (looks : List LookAll) (taken : Option (List ℕ)) → TakesPartOf stops.NoMemory words looks taken taken []
+nothing-told words looks taken = record { front = []; part = []; rest = []; text = refl; begun = refl; taken = Appends-nil taken }

@@ -20,18 +20,18 @@ use Rattle.map_lock.specs.Seats.{BoardSeat, BoardEntry, IsEditor}
 use Rattle.map_board.specs.Showing.{accepted_edits}
 use Rattle.map_lock.specs.Turns.{HasTurned}
 use Rattle.map_lock.specs.Settling.{HasNotFinished, is_finish}
-use Rattle.noise_map.specs.declared.lines.LineDone.{LineDone}
+use Rattle.noise_map.specs.declared.editor.Editor.{Editor}
 use Rattle.noise_map.specs.declared.stopped.Stopped.{Stopped}
 use Rattle.noise_map.specs.declared.stopped.Stopped.TheVariants as stops
 use Rattle.noise_map.specs.declared.status.Status.{Status}
 use Rattle.noise_map.specs.declared.status.Status.TheVariants as status
-use Rattle.noise_map.specs.Demands.{point_after}
+use Rattle.noise_map.specs.Effects.{point_after}
 use Rattle.noise_map.specs.Making.{site_lines}
 use Rattle.noise_map.specs.Texts.{text_of, rows_of}
 use Rattle.noise_map.specs.Ways.{Way, begun, looks_in}
 use Rattle.noise_map.specs.Histories.{IsWay}
-use Rattle.noise_map.specs.Taking.{TakesFront}
-use Rattle.noise_map.specs.Steps.{is_refusal, newest_after}
+use Rattle.noise_map.specs.Taking.{joined, TakesFront}
+use Rattle.noise_map.specs.Steps.{Knows, is_refusal}
 use Rattle.noise_map.specs.Progress.{Read, Did, Progress, HasWritten, HasEnded, HasFinished, Ended, AskedEnded, IsTextOf, ending_of, status_at_end, status_of}
 use Rattle.noise_map.specs.Outcome.{Covers, CoversFront, Writes, TellsRefused, TakesPartOf}
 use Rattle.noise_map.proofs.Ways.{looks_in-append, looks_in-one, is_way-grown}
@@ -50,12 +50,12 @@ did-none seat none = record {
 }
 
 pub started : (words : CommandLine) (r : Reading) (seat : BoardSeat) (left taken : Option (List ℕ)) → r ≡ fresh → seat.mine ≡ []
-    → Progress words r 0 0 false seat seat left left taken taken
+    → Progress words r 0 false seat seat left left taken taken
 started words r seat left taken is none = record {
   done = [];
   read = started_as r left is;
   did = did-none seat none;
-  told = record { version_is = refl; refused_is = refl; written = Appends-nil taken };
+  told = record { refused_is = refl; written = Appends-nil taken };
 }
 
 pub did-at-start : (seat : BoardSeat) → seat.mine ≡ [] → Did seat seat []
@@ -71,12 +71,12 @@ abbrev AsEnded : CommandLine → Status → BoardSeat → Option (List ℕ) → 
 AsEnded words s seat taken_before taken_now done = Writes words (looks_in seat.mine) s taken_before taken_now done × IsWay s seat.seen done seat.mine
 
 at_end : (words : CommandLine) (refused : Bool) (seat : BoardSeat) (taken_before taken_now : Option (List ℕ)) (done : List (List ℕ))
-    → Appends taken_before taken_now (text_of words (looks_in seat.mine) done) → Way seat.seen done seat.mine → AsEnded words (status_at_end refused) seat taken_before taken_now done
+    → Appends taken_before taken_now (joined (text_of words (looks_in seat.mine) done)) → Way seat.seen done seat.mine → AsEnded words (status_at_end refused) seat taken_before taken_now done
 at_end words true seat taken_before taken_now done written way = (written, way)
 at_end words false seat taken_before taken_now done written way = (written, way)
 
 as_ended : (words : CommandLine) (answer : Next) (refused : Bool) (s : Status) (seat : BoardSeat) (taken_before taken_now : Option (List ℕ)) (done : List (List ℕ)) → ending_of answer refused ≡ Some s
-    → Appends taken_before taken_now (text_of words (looks_in seat.mine) done) → Way seat.seen done seat.mine → AsEnded words s seat taken_before taken_now done
+    → Appends taken_before taken_now (joined (text_of words (looks_in seat.mine) done)) → Way seat.seen done seat.mine → AsEnded words s seat taken_before taken_now done
 as_ended words (next.Line n) refused s seat taken_before taken_now done ends written way = cc
 as_ended words next.LongLine refused s seat taken_before taken_now done ends written way = cc
 as_ended words next.End refused s seat taken_before taken_now done ends written way =
@@ -86,11 +86,11 @@ as_ended words next.ReadFault refused s seat taken_before taken_now done ends wr
 as_ended words next.InputLimit refused s seat taken_before taken_now done ends written way =
     subst (λ (x : Status). AsEnded words x seat taken_before taken_now done) (some_injective ends) (written, way)
 
-pub ended-reading : (words : CommandLine) (answer : Next) (s : Status) (r r' : Reading) (count version : ℕ) (refused : Bool) (before seat : BoardSeat) (left now after taken_before taken_now : Option (List ℕ))
-    → (p : Progress words r count version refused before seat left now taken_before taken_now) → bytes_read r' ≤ input_limit
+pub ended-reading : (words : CommandLine) (answer : Next) (s : Status) (r r' : Reading) (count : ℕ) (refused : Bool) (before seat : BoardSeat) (left now after taken_before taken_now : Option (List ℕ))
+    → (p : Progress words r count refused before seat left now taken_before taken_now) → bytes_read r' ≤ input_limit
     → ending_of answer refused ≡ Some s → (r.stop ≡ Going → NextGives answer r r' now after) → StaysStopped answer r r' now after
     → Ended words s count (λ done. HasEnded s done before seat) seat left after taken_before taken_now
-ended-reading words answer s r r' count version refused before seat left now after taken_before taken_now p within ends gives stays =
+ended-reading words answer s r r' count refused before seat left now after taken_before taken_now p within ends gives stays =
     let covered = read_ended answer s r r' count refused left now after p.done p.read within ends gives stays in
     let written = as_ended words answer refused s seat taken_before taken_now p.done ends p.told.written p.did.way in
     record {
@@ -104,7 +104,7 @@ ended-reading words answer s r r' count version refused before seat left now aft
 
 -- what a run says of its lines that was broken off
 broken-says : (words : CommandLine) (stopped : Stopped) (refused : Bool) (looks : List LookAll) (left later taken_before taken_after : Option (List ℕ)) (done : List (List ℕ))
-    → CoversFront left later done → TakesPartOf words looks taken_before taken_after done
+    → CoversFront left later done → TakesPartOf stopped words looks taken_before taken_after done
     → Covers (status_of stopped) left later done × TellsRefused (status_of stopped) refused × Writes words looks (status_of stopped) taken_before taken_after done
 broken-says words stops.WriteFault refused looks left later taken_before taken_after done front part = (front, tt, part)
 broken-says words stops.NoMemory refused looks left later taken_before taken_after done front part = (front, tt, part)
@@ -127,8 +127,8 @@ unread words seat left taken none s n is count =
 
 -- ---- one line more
 
-module _ (words : CommandLine) (answer : Next) (held : List ℕ) (r r' : Reading) (count version : ℕ) (refused : Bool) (before seat after : BoardSeat)
-    (left now later taken_before taken_now taken_after : Option (List ℕ)) (p : Progress words r count version refused before seat left now taken_before taken_now)
+module _ (words : CommandLine) (answer : Next) (held : List ℕ) (r r' : Reading) (count : ℕ) (refused : Bool) (before : BoardSeat) (seat after : Editor)
+    (left now later taken_before taken_now taken_after : Option (List ℕ)) (p : Progress words r count refused before seat.seat left now taken_before taken_now)
     (goes : ending_of answer refused ≡ None) (gives : r.stop ≡ Going → NextGives answer r r' now later) (stays : StaysStopped answer r r' now later)
     (within : bytes_read r' ≤ input_limit) (is : held ≡ r'.line) where
   abbrev this_line : List ℕ
@@ -140,45 +140,45 @@ module _ (words : CommandLine) (answer : Next) (held : List ℕ) (r r' : Reading
   this-text : IsTextOf answer held this_line
   this-text = text_held answer r r' count refused left now later p.done p.read goes gives stays held is
 
-  abbrev On : ℕ → Bool → Type 0
-  On newest any = Progress words r' (count + 1) newest any before after left later taken_before taken_after
+  abbrev On : Bool → Type 0
+  On any = Progress words r' (count + 1) any before after.seat left later taken_before taken_after
 
-  pub turned : (one : LineDone) → ((text : List ℕ) → IsTextOf answer held text → HasWritten (Ok one) words (count + 1) version seat text after taken_now taken_after)
-      → On one.version (refused || one.refused)
+  pub turned : (one : Bool) → ((text : List ℕ) → IsTextOf answer held text → HasWritten (Ok one) words (count + 1) seat text after taken_now taken_after)
+      → On (refused || one) × Knows after
   turned one does =
       let w = does this_line this-text in
-      let on : On (newest_after version w.0) (refused || is_refusal w.0) = record {
+      let on : On (refused || is_refusal w.0) = record {
         done = p.done ++ this_line ∷ [];
         read = read-on;
-        did = did-more before seat after p.done this_line w.0 p.did w.1;
-        told = told-more before seat after p.done this_line w.0 p.did w.1 words version refused taken_before taken_now taken_after p.told
-            (subst (λ n. Appends taken_now taken_after (rows_of words (n + 1) version w.0)) (sym p.read.counted) w.2);
+        did = did-more before seat.seat after.seat p.done this_line w.0 p.did w.1;
+        told = told-more before seat.seat after.seat p.done this_line w.0 p.did w.1 words refused taken_before taken_now taken_after p.told
+            (subst (λ n. Appends taken_now taken_after (joined (rows_of words (n + 1) (length (accepted_edits seat.seat.mine)) w.0))) (sym p.read.counted) w.3);
       } in
-      subst (λ (v : ℕ). On v (refused || one.refused)) (sym w.3) (subst (λ (b : Bool). On (newest_after version w.0) (refused || b)) (sym w.4) on)
+      (subst (λ (b : Bool). On (refused || b)) (sym w.4) on, w.2)
 
   abbrev Broke : Status → Type 0
-  Broke s = Ended words s (count + 1) (λ done. HasEnded s done before after) after left later taken_before taken_after
+  Broke s = Ended words s (count + 1) (λ done. HasEnded s done before after.seat) after.seat left later taken_before taken_after
 
-  broke-at : (stopped : Stopped) → TakesPartOf words (looks_in after.mine) taken_before taken_after (p.done ++ this_line ∷ []) → HasEnded (status_of stopped) (p.done ++ this_line ∷ []) before after
+  broke-at : (stopped : Stopped) → TakesPartOf stopped words (looks_in after.seat.mine) taken_before taken_after (p.done ++ this_line ∷ []) → HasEnded (status_of stopped) (p.done ++ this_line ∷ []) before after.seat
       → length r'.pending ≤ read_size → Broke (status_of stopped)
   broke-at stopped part ended few =
       let front = covers_front r' (count + 1) left later (p.done ++ this_line ∷ []) read-on within few in
-      let says = broken-says words stopped (point_after (p.done ++ this_line ∷ [])).refused (looks_in after.mine) left later taken_before taken_after (p.done ++ this_line ∷ []) front part in
+      let says = broken-says words stopped (point_after (p.done ++ this_line ∷ [])).refused (looks_in after.seat.mine) left later taken_before taken_after (p.done ++ this_line ∷ []) front part in
       record { done = p.done ++ this_line ∷ []; counted = read-on.counted; covers = says.0; refused = says.1; writes = says.2; goes = ended }
 
-  broke-by : (stopped : Stopped) → HasWritten (Err stopped) words (count + 1) version seat this_line after taken_now taken_after → length r'.pending ≤ read_size → Broke (status_of stopped)
+  broke-by : (stopped : Stopped) → HasWritten (Err stopped) words (count + 1) seat this_line after taken_now taken_after → length r'.pending ≤ read_size → Broke (status_of stopped)
   broke-by stopped (inl failed) few =
       subst (λ (x : Stopped). Broke (status_of x)) (sym failed.1)
       (broke-at stops.NoMemory
-      (failed-told words version refused before seat after taken_before taken_now taken_after p.done this_line failed.0 p.told failed.2)
-      (failed-way before seat after p.done this_line p.did failed.0) few)
+      (failed-told words refused before seat.seat after.seat taken_before taken_now taken_after p.done this_line failed.0 p.told failed.2)
+      (failed-way before seat.seat after.seat p.done this_line p.did failed.0) few)
   broke-by stopped (inr (said, met, front)) few =
       broke-at stopped
-      (broken-told words version refused before seat after taken_before taken_now taken_after p.done this_line said p.did met p.told
-      (subst (λ n. TakesFront taken_now taken_after (rows_of words (n + 1) version said)) (sym p.read.counted) front))
-      (stopped-way stopped before after (p.done ++ this_line ∷ []) (did-more before seat after p.done this_line said p.did met)) few
+      (broken-told stopped words refused before seat.seat after.seat taken_before taken_now taken_after p.done this_line said p.did met p.told
+      (subst (λ n. TakesFront stopped taken_now taken_after (rows_of words (n + 1) (length (accepted_edits seat.seat.mine)) said)) (sym p.read.counted) front))
+      (stopped-way stopped before after.seat (p.done ++ this_line ∷ []) (did-more before seat.seat after.seat p.done this_line said p.did met)) few
 
-  pub turned-off : (stopped : Stopped) → ((text : List ℕ) → IsTextOf answer held text → HasWritten (Err stopped) words (count + 1) version seat text after taken_now taken_after)
+  pub turned-off : (stopped : Stopped) → ((text : List ℕ) → IsTextOf answer held text → HasWritten (Err stopped) words (count + 1) seat text after taken_now taken_after)
       → length r'.pending ≤ read_size → Broke (status_of stopped)
   turned-off stopped does few = broke-by stopped (does this_line this-text) few
 

@@ -1,6 +1,8 @@
 pub mod Ways
 pub mod Meeting
-pub mod Demands
+pub mod Effects
+mod EditLists
+mod Contours
 pub mod Reading
 pub mod Doing
 pub mod Told

@@ -16,30 +16,30 @@ use Rattle.map_io.proofs.Scanning.{plain_before_feed, split_at_feed, plain_witho
 use Rattle.noise_map.specs.FirstLine.{IsFirstLine}
 use Rattle.noise_map.specs.declared.answer.Answer.{Answer}
 use Rattle.scene_parts.specs.Views.{Receiver}
-use Rattle.scene_parts.specs.declared.parts.Part.{Part}
 use Rattle.scene_book.specs.Book.{Book}
-use Rattle.scene_book.specs.Applying.{apply_of}
 use Rattle.scene_book.specs.declared.edits.Edit.{Edit}
-use Rattle.scene_book.specs.declared.edits.EditFault.{EditFault}
-use Rattle.command_lines.specs.declared.commands.Command.TheVariants as commands
-use Rattle.map_text.specs.declared.refusals.Refusal.{Refusal}
 use Rattle.map_board.specs.declared.looks.LookAll.{LookAll}
 use Rattle.map_board.specs.declared.looks.LookRow.{LookRow}
 use Rattle.map_board.specs.Journal.{newest_scene}
 use Rattle.map_board.specs.Showing.{accepted_edits, settled_row, settled_rows}
 use Rattle.map_lock.specs.Seats.{BoardSeat, BoardEntry}
 use Rattle.map_lock.specs.Settling.{IsQuiet, is_look}
-use Rattle.noise_map.specs.Demands.{Demand, nothing, refusal, command, demand_of, with_edit, journal_after, fault_of_edit, Point, at_start, passed_line, journal_of}
-use Rattle.noise_map.specs.Texts.{answer_to_edit, settled_by, looked_by}
-use Rattle.noise_map.specs.Ways.{looks_in, look_entry, Settles}
+use Rattle.map_board.specs.Seats.{Entries}
+use Rattle.noise_map.specs.Demands.{demand_of}
+use Rattle.noise_map.specs.Effects.{Display, silent, refused, settled, known, contoured, Effect, effect_of, journal_with, journal_with_all, Point, at_start, passed_line, journal_of}
+use Rattle.noise_map.specs.Texts.{answer_to, settled_by, looked_by, contoured_by}
+use Rattle.noise_map.specs.Ways.{looks_in, look_entry, edit_entry, edit_entries, Settles, DoesLook}
 use Rattle.noise_map.specs.Steps.{HasMet}
 use Rattle.noise_map.proofs.Ways.{looks_in-append, looks_in-one}
 use Rattle.noise_map.proofs.Meeting.{all-each, no-looks}
-use Rattle.noise_map.specs.Making.{no_level, widened, total_in, span_in, Made, and_refused, made_with, making_of, span_with, span_of_rows, made_with_answer, made_after, made_by, nothing_made, site_lines, site_made, site_row, MakesRow}
+use Rattle.noise_map.specs.Making.{no_level, widened, total_in, span_in, Made, made_showing, made_with, making_of, span_with, span_of_rows, made_with_answer, made_after, made_by, nothing_made, site_lines, site_made, site_row, MakesRow}
 use Rattle.noise_map.specs.declared.status.Status.{Status}
 use Rattle.noise_map.specs.Progress.{status_at_end, Did, HasEnded, SiteEnded}
 use Rattle.noise_map.specs.declared.status.Status.TheVariants as status
 use Rattle.map_io.specs.Putting.{TakesPart}
+use Rattle.noise_map.specs.declared.stopped.Stopped.TheVariants as stops
+use Rattle.noise_map.specs.Taking.{TakesFront}
+use Rattle.noise_map.proofs.Fronts.{row-begun}
 use Rattle.std.specs.Option.{option_map}
 use Rattle.std.specs.Io.KnownBytes.{Appends}
 
@@ -106,14 +106,6 @@ line-unended bytes none some =
 
 -- ---- what one more line comes to
 
-span-edit : (made : Made) (journal more : List Edit) (edit : Edit) (r : Result (Book × Option Part) EditFault) → made.journal ≡ journal → more ≡ with_edit journal edit r
-    → made_with_answer (making_of made) (answer_to_edit journal r) ≡ making_of (record made { journal = more; refused = and_refused made.refused (fault_of_edit r) })
-span-edit made journal more edit (Ok after) same is =
-    let n : suc (length journal) ≡ length more = omega (arith, ap length is, length-append journal (edit ∷ [])) in
-    λ i. record { version = n i; refused = made.refused; receivers = made.receivers; span = made.span }
-span-edit made journal more edit (Err fault) same is =
-    λ i. record { version = ap length (same ∙ sym is) i; refused = made.refused + 1; receivers = made.receivers; span = made.span }
-
 -- the levels of a settled board
 span-rows : (book : Book) (span : Option Interval) (rs : List Receiver)
     → fold (λ s (row : LookRow). span_with s row.shown) span (map (settled_row book) rs) ≡ fold widened span (map (total_in book) rs)
@@ -129,57 +121,73 @@ settled-length book [] = refl
 settled-length book (r ∷ rs) = let n = settled-length book rs in omega (arith, n)
 
 -- the look of a settle is the only one of its entries
-settled-look : (seat after : BoardSeat) (answer : Answer) (met : HasMet seat (command commands.Settle) answer after) (does : Settles after.seen seat.mine (accepted_edits seat.mine) met.added)
-    → looks_in met.added ≡ does.look ∷ []
-settled-look seat after answer met does =
+settled-look : (history own : Entries) (journal : List Edit) (added : Entries) (does : Settles history own journal added) → looks_in added ≡ does.look ∷ []
+settled-look history own journal added does =
     ap looks_in does.is
     ∙ (looks_in-append does.work (look_entry does.look ∷ [])
     ∙ (ap (λ (ls : List LookAll). ls ++ looks_in (look_entry does.look ∷ [])) (no-looks does.work (all-each IsQuiet (λ (e : BoardEntry). is_look e.reply ≡ false) (λ e q. q.no_look) does.work does.quiet))
     ∙ looks_in-one (look_entry does.look)))
 
--- what a demand that was met adds, by its answer
-pub made-more : (made : Made) (seat after : BoardSeat) (demand : Demand) (answer : Answer) → accepted_edits seat.mine ≡ made.journal → HasMet seat demand answer after
-    → made_with_answer (making_of made) answer ≡ making_of (made_with made demand)
-made-more made seat after nothing answer journal met = ap (made_with_answer (making_of made)) met.answered
-made-more made seat after (refusal fault) answer journal met = ap (made_with_answer (making_of made)) met.answered
-made-more made seat after (command (commands.Edit edit)) answer journal met =
-    ap (made_with_answer (making_of made)) (met.answered ∙ ap (λ (es : List Edit). answer_to_edit es (apply_of edit (newest_scene es))) journal)
-    ∙ span-edit made made.journal (with_edit made.journal edit (apply_of edit (newest_scene made.journal))) edit (apply_of edit (newest_scene made.journal)) refl refl
-made-more made seat after (command commands.Settle) answer journal met =
+edits-unlooked : (journal edits : List Edit) → looks_in (edit_entries journal edits) ≡ []
+edits-unlooked journal [] = refl
+edits-unlooked journal (edit ∷ more) =
+    looks_in-append (edit_entry journal edit ∷ []) (edit_entries (journal_with journal edit) more)
+    ∙ (ap (λ (ls : List LookAll). ls ++ looks_in (edit_entries (journal_with journal edit) more)) (looks_in-one (edit_entry journal edit)) ∙ edits-unlooked (journal_with journal edit) more)
+
+-- what one more line that is shown so adds, by its answer
+showing-more : (made : Made) (history own : Entries) (display : Display) (looked : Entries) → DoesLook history own made.journal display looked
+    → made_with_answer (making_of made) (answer_to display (slice_get (looks_in looked) 0)) ≡ making_of (made_showing made display)
+showing-more made history own silent looked does = refl
+showing-more made history own (refused fault) looked does = refl
+showing-more made history own settled looked does =
     let book = newest_scene made.journal in
-    let does = met.does in
-    let looks : looks_in met.added ≡ does.look ∷ [] = settled-look seat after answer met does in
-    let rows : does.look.rows ≡ settled_rows book = does.rows ∙ ap (λ (es : List Edit). settled_rows (newest_scene es)) journal in
-    ap (made_with_answer (making_of made)) (met.answered ∙ ap (λ (ls : List LookAll). settled_by (slice_get ls 0)) looks)
+    let looks : looks_in looked ≡ does.look ∷ [] = settled-look history own made.journal looked does in
+    ap (λ (ls : List LookAll). made_with_answer (making_of made) (settled_by (slice_get ls 0))) looks
     ∙ (λ i. record {
-      version = length made.journal;
       refused = made.refused;
-      receivers = (ap length rows ∙ settled-length book book.receivers) i;
-      span = (ap span_of_rows rows ∙ span-settled book) i;
+      receivers = (ap length does.rows ∙ settled-length book book.receivers) i;
+      span = (ap span_of_rows does.rows ∙ span-settled book) i;
     })
-made-more made seat after (command commands.Look) answer journal met =
-    ap (made_with_answer (making_of made)) met.answered ∙ looked (slice_get (looks_in met.added) 0) where
-      looked : (o : Option LookAll) → made_with_answer (making_of made) (looked_by o) ≡ making_of made
-      looked None = refl
-      looked (Some look) = refl
+showing-more made history own known looked does = known-adds (slice_get (looks_in looked) 0) where
+  known-adds : (o : Option LookAll) → made_with_answer (making_of made) (looked_by o) ≡ making_of made
+  known-adds None = refl
+  known-adds (Some look) = refl
+showing-more made history own (contoured contour) looked does = contour-adds (slice_get (looks_in looked) 0) where
+  contour-adds : (o : Option LookAll) → made_with_answer (making_of made) (contoured_by contour o) ≡ making_of made
+  contour-adds None = refl
+  contour-adds (Some look) = refl
 
-refused-few : (n : ℕ) (o : Option Refusal) → and_refused n o ≤ n + 1
-refused-few n None = omega arith
-refused-few n (Some fault) = omega arith
+-- what a line that was carried out adds, by its answer
+pub made-more : (made : Made) (seat after : BoardSeat) (effect : Effect) (answer : Answer) → accepted_edits seat.mine ≡ made.journal → HasMet seat effect answer after
+    → made_with_answer (making_of made) answer ≡ making_of (made_with made effect)
+made-more made seat after effect answer journal met =
+    let does = met.does in
+    let edits = edit_entries (accepted_edits seat.mine) effect.edits in
+    let looks : looks_in met.added ≡ looks_in does.looked =
+    ap looks_in does.is ∙ (looks_in-append edits does.looked ∙ ap (λ (ls : List LookAll). ls ++ looks_in does.looked) (edits-unlooked (accepted_edits seat.mine) effect.edits)) in
+    ap (made_with_answer (making_of made)) (met.answered ∙ ap (λ (ls : List LookAll). answer_to effect.display (slice_get ls 0)) looks)
+    ∙ showing-more (record made { journal = journal_with_all made.journal effect.edits }) after.seen (seat.mine ++ edits) effect.display does.looked
+    (subst (λ (es : List Edit). DoesLook after.seen (seat.mine ++ edits) (journal_with_all es effect.edits) effect.display does.looked) journal does.looks)
 
-pub with-refused : (made : Made) (demand : Demand) → (made_with made demand).refused ≤ made.refused + 1
-with-refused made nothing = omega arith
-with-refused made (refusal fault) = omega arith
-with-refused made (command (commands.Edit edit)) = refused-few made.refused (fault_of_edit (apply_of edit (newest_scene made.journal)))
-with-refused made (command commands.Settle) = omega arith
-with-refused made (command commands.Look) = omega arith
+showing-refused : (made : Made) (display : Display) → (made_showing made display).refused ≤ made.refused + 1
+showing-refused made silent = omega arith
+showing-refused made (refused fault) = omega arith
+showing-refused made settled = omega arith
+showing-refused made known = omega arith
+showing-refused made (contoured contour) = omega arith
 
-pub with-journal : (made : Made) (demand : Demand) → (made_with made demand).journal ≡ journal_after made.journal demand
-with-journal made nothing = refl
-with-journal made (refusal fault) = refl
-with-journal made (command (commands.Edit edit)) = refl
-with-journal made (command commands.Settle) = refl
-with-journal made (command commands.Look) = refl
+pub with-refused : (made : Made) (effect : Effect) → (made_with made effect).refused ≤ made.refused + 1
+with-refused made effect = showing-refused (record made { journal = journal_with_all made.journal effect.edits }) effect.display
+
+showing-journal : (made : Made) (display : Display) → (made_showing made display).journal ≡ made.journal
+showing-journal made silent = refl
+showing-journal made (refused fault) = refl
+showing-journal made settled = refl
+showing-journal made known = refl
+showing-journal made (contoured contour) = refl
+
+pub with-journal : (made : Made) (effect : Effect) → (made_with made effect).journal ≡ journal_with_all made.journal effect.edits
+with-journal made effect = showing-journal (record made { journal = journal_with_all made.journal effect.edits }) effect.display
 
 -- ---- the end
 
@@ -190,10 +198,10 @@ some-refused : (n : ℕ) → true ≡ nat_lt 0 n → 0 < n
 some-refused n test = grind (arith, test)
 
 -- how a run ends that has written its row: by whether lines were refused
-pub ended : (number count refused : ℕ) (before after : Option (List ℕ)) → count ≡ length (site_lines number) → refused ≡ (site_made number).refused → Appends before after (site_row number) → (test : Bool) → test ≡ nat_lt 0 refused
+pub ended : (number count refusals : ℕ) (before after : Option (List ℕ)) → count ≡ length (site_lines number) → refusals ≡ (site_made number).refused → Appends before after (site_row number) → (test : Bool) → test ≡ nat_lt 0 refusals
     → MakesRow number (status_at_end test) count before after
-ended number count refused before after all is row true test = (all, subst (λ (n : ℕ). 0 < n) is (some-refused refused test), row)
-ended number count refused before after all is row false test = (all, sym is ∙ none-refused refused test, row)
+ended number count refusals before after all is row true test = (all, subst (λ (n : ℕ). 0 < n) is (some-refused refusals test), row)
+ended number count refusals before after all is row false test = (all, sym is ∙ none-refused refusals test, row)
 
 pub way-at-end : (test : Bool) (before seat : BoardSeat) (done : List (List ℕ)) → Did before seat done → HasEnded (status_at_end test) done before seat
 way-at-end true before seat done did = record { same = did.same; way = did.way }
@@ -209,7 +217,7 @@ unmade number k before seat taken few ended s n is count =
 
 -- a part of the row was taken
 pub broken_off : (number count : ℕ) (before after : Option (List ℕ)) (row : List ℕ) → count ≡ length (site_lines number) → row ≡ site_row number → TakesPart before after row → MakesRow number status.WriteFault count before after
-broken_off number count before after row all is part = (all, record { front = part.front; rest = part.rest; parts = sym is ∙ part.parts; taken = part.taken })
+broken_off number count before after row all is part = (all, subst (λ (r : List ℕ). TakesFront stops.WriteFault before after (r ∷ [])) is (row-begun before after row part))
 
 -- bytes of which no line comes first
 pub no-line : {A : Type 0} (bytes : List ℕ) (found : Option A) (both : A → List ℕ × List ℕ) → IsFirstLine bytes (option_map both found) → found ≡ None → bytes ≡ []
@@ -253,7 +261,7 @@ made-journal-from : (made : Made) (point : Point) (done : List (List ℕ)) → m
 made-journal-from made point [] same = same
 made-journal-from made point (line ∷ more) same =
     made-journal-from (made_after made line) (passed_line point line) more
-    (with-journal made (demand_of line) ∙ ap (λ (es : List Edit). journal_after es (demand_of line)) same)
+    (with-journal made (effect_of made.journal (demand_of line)) ∙ ap (λ (es : List Edit). journal_with_all es (effect_of es (demand_of line)).edits) same)
 
 pub made-journal : (done : List (List ℕ)) → (made_by done).journal ≡ journal_of done
 made-journal done = made-journal-from nothing_made at_start done refl

@@ -2,7 +2,6 @@
 use Rattle.std.proofs.Common.{◌≡◌, ℕ, List, [], ◌∷◌, ◌++◌, sym, ap, ◌∙◌, inl, inr, append_assoc}
 use Rattle.std.proofs.lemmas.List.{append-nil, append_cancel_right}
 use Rattle.std.proofs.lemmas.List.Concat.{flat_map-append, flat_map-cons}
-use Rattle.command_lines.specs.declared.commands.Command.TheVariants as commands
 use Rattle.turn_lock.specs.History.{Begins, entries_of}
 use Rattle.turn_lock.proofs.Histories.{entries_of-append}
 use Rattle.map_board.specs.declared.looks.LookAll.{LookAll}
@@ -10,8 +9,8 @@ use Rattle.map_board.specs.Seats.{Entries}
 use Rattle.map_board.specs.Showing.{accepted_by, accepted_edits}
 use Rattle.map_lock.specs.Seats.{BoardEntry}
 use Rattle.scene_book.specs.declared.edits.Edit.{Edit}
-use Rattle.noise_map.specs.Demands.{Demand, nothing, refusal, command, demand_of, journal_of}
-use Rattle.noise_map.specs.Ways.{look_in, looks_in, look_entry, Stands, Does, Way, begun, and_line, Broken}
+use Rattle.noise_map.specs.Effects.{Display, silent, refused, settled, known, contoured, Effect, journal_with_all, effect_at, point_after, journal_of}
+use Rattle.noise_map.specs.Ways.{look_in, looks_in, look_entry, edit_entries, Stands, Settles, DoesLook, Does, Way, begun, and_line, Broken}
 use Rattle.noise_map.specs.Histories.{IsWay}
 use Rattle.noise_map.specs.declared.status.Status.{Status}
 use Rattle.noise_map.specs.declared.status.Status.TheVariants as status
@@ -29,12 +28,8 @@ stands-grown history more own look s b = record {
   shown = s.shown;
 }
 
-pub does-grown : (history more own : Entries) (journal : List Edit) (demand : Demand) (added : Entries) → Does history own journal demand added → Begins history more
-    → Does more own journal demand added
-does-grown history more own journal nothing added does b = does
-does-grown history more own journal (refusal fault) added does b = does
-does-grown history more own journal (command (commands.Edit edit)) added does b = does
-does-grown history more own journal (command commands.Settle) added does b = record {
+settles-grown : (history more own : Entries) (journal : List Edit) (added : Entries) → Settles history own journal added → Begins history more → Settles more own journal added
+settles-grown history more own journal added does b = record {
   work = does.work;
   look = does.look;
   is = does.is;
@@ -45,17 +40,32 @@ does-grown history more own journal (command commands.Settle) added does b = rec
   version = does.version;
   rows = does.rows;
 }
-does-grown history more own journal (command commands.Look) added does b = record {
+
+does_look-grown : (history more own : Entries) (journal : List Edit) (display : Display) (added : Entries) → DoesLook history own journal display added → Begins history more
+    → DoesLook more own journal display added
+does_look-grown history more own journal silent added does b = does
+does_look-grown history more own journal (refused fault) added does b = does
+does_look-grown history more own journal settled added does b = settles-grown history more own journal added does b
+does_look-grown history more own journal (contoured contour) added does b = settles-grown history more own journal added does b
+does_look-grown history more own journal known added does b = record {
   look = does.look;
   is = does.is;
   stands = stands-grown history more own does.look does.stands b;
   right = does.right;
 }
 
+pub does-grown : (history more own : Entries) (journal : List Edit) (effect : Effect) (added : Entries) → Does history own journal effect added → Begins history more
+    → Does more own journal effect added
+does-grown history more own journal effect added does b = record {
+  looked = does.looked;
+  is = does.is;
+  looks = does_look-grown history more (own ++ edit_entries journal effect.edits) (journal_with_all journal effect.edits) effect.display does.looked does.looks b;
+}
+
 pub way-grown : (history more : Entries) (done : List (List ℕ)) (own : Entries) → Way history done own → Begins history more → Way more done own
 way-grown history more done own begun b = begun
 way-grown history more done own (and_line before line front added way does) b =
-    and_line before line front added (way-grown history more before front way b) (does-grown history more front (journal_of before) (demand_of line) added does b)
+    and_line before line front added (way-grown history more before front way b) (does-grown history more front (journal_of before) (effect_at (point_after before) line) added does b)
 
 broken-grown : (history more : Entries) (done : List (List ℕ)) (own : Entries) → Broken history done own → Begins history more → Broken more done own
 broken-grown history more done own broken b = record {

@@ -1,4 +1,5 @@
 pub mod Demands
+pub mod Effects
 pub mod Texts
 pub mod Ways
 pub mod Histories

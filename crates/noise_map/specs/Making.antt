@@ -1,5 +1,5 @@
 -- What the lines of a generated site come to, and the one row that tells it.
-use Rattle.std.specs.Prelude.{◌≡◌, ℕ, ◌+◌, ◌<◌, ◌≤◌, pos, List, [], map, take, fold, length, Option, Some, None, unwrap_or, Result, Ok, Err}
+use Rattle.std.specs.Prelude.{◌≡◌, ℕ, ◌+◌, ◌<◌, ◌≤◌, pos, List, [], ◌∷◌, map, take, fold, length, Option, Some, None, unwrap_or, Result, Ok, Err}
 use Rattle.std.specs.Io.KnownBytes.{Appends}
 use Rattle.fix_interval.specs.Interval.{Interval}
 use Rattle.fix_interval.specs.Values.{hull_of}
@@ -7,24 +7,26 @@ use Rattle.scene_parts.specs.Views.{Receiver}
 use Rattle.scene_book.specs.Book.{Book}
 use Rattle.scene_book.specs.declared.edits.Edit.{Edit}
 use Rattle.path_calc.specs.Show.{show_of}
-use Rattle.command_lines.specs.declared.commands.Command.TheVariants as commands
 use Rattle.map_io.specs.Lines.{lines}
 use Rattle.map_board.specs.Journal.{newest_scene}
+use Rattle.map_board.specs.Showing.{accepted_edits}
 use Rattle.map_board.specs.declared.answers.Shown.{Shown}
 use Rattle.map_board.specs.declared.answers.Shown.TheVariants.{Current}
 use Rattle.map_board.specs.declared.looks.LookRow.{LookRow}
 use Rattle.map_lock.specs.Seats.{BoardSeat}
-use Rattle.map_text.specs.declared.refusals.Refusal.{Refusal}
 use Rattle.map_text.specs.Rows.{made_row}
 use Rattle.site_maker.specs.Site.{site_text}
 use Rattle.noise_map.specs.declared.making.Making.{Making}
 use Rattle.noise_map.specs.declared.answer.Answer.{Answer}
-use Rattle.noise_map.specs.declared.answer.Answer.TheVariants.{Nothing, Edited, Refused, Settled, Looked}
+use Rattle.noise_map.specs.declared.answer.Answer.TheVariants.{Nothing, Refused, Settled, Looked, Contoured}
+use Rattle.noise_map.specs.declared.stopped.Stopped.TheVariants as stops
 use Rattle.noise_map.specs.declared.status.Status.{Status}
 use Rattle.noise_map.specs.declared.status.Status.TheVariants as status
-use Rattle.noise_map.specs.Demands.{Demand, command, demand_of, journal_after, refused_for}
+use Rattle.noise_map.specs.declared.editor.Editor.{Editor}
+use Rattle.noise_map.specs.Demands.{demand_of}
+use Rattle.noise_map.specs.Effects.{Display, silent, refused, settled, known, contoured, Effect, effect_of, journal_with_all}
 use Rattle.noise_map.specs.Histories.{HasHistory}
-use Rattle.noise_map.specs.Steps.{HasMet, HasFailed}
+use Rattle.noise_map.specs.Steps.{Knows, HasMet, HasFailed}
 use Rattle.noise_map.specs.Taking.{TakesFront}
 
 -- ---- the levels of a settle
@@ -60,32 +62,31 @@ pub record Made : Type 0 where
 abbrev pub nothing_made : Made
 nothing_made = record { journal = []; refused = 0; receivers = 0; span = no_level }
 
--- one more line was refused, or none
-abbrev pub and_refused : ℕ → Option Refusal → ℕ
-and_refused refused None = refused
-and_refused refused (Some fault) = refused + 1
-
--- one more line, which had this demand
-abbrev pub made_with : Made → Demand → Made
-made_with made (command commands.Settle) =
+-- what one more line adds that is shown so
+abbrev pub made_showing : Made → Display → Made
+made_showing made silent = made
+made_showing made (refused fault) = record made { refused = made.refused + 1 }
+made_showing made settled =
     let book = newest_scene made.journal in
     record made { receivers = length book.receivers; span = span_in book }
-made_with made demand = record made {
-  journal = journal_after made.journal demand;
-  refused = and_refused made.refused (refused_for made.journal demand);
-}
+made_showing made known = made
+made_showing made (contoured contour) = made
+
+-- one more line, which comes to this
+abbrev pub made_with : Made → Effect → Made
+made_with made effect =
+    made_showing (record made { journal = journal_with_all made.journal effect.edits }) effect.display
 
 abbrev pub made_after : Made → List ℕ → Made
-made_after made line = made_with made (demand_of line)
+made_after made line = made_with made (effect_of made.journal (demand_of line))
 
 abbrev pub made_by : List (List ℕ) → Made
 made_by done = fold made_after nothing_made done
 
--- ---- the same as a run holds it, with the version in place of the edits
+-- ---- the same as a run holds it, without the edits
 
 abbrev pub making_of : Made → Making
 making_of made = record {
-  version = length made.journal;
   refused = made.refused;
   receivers = made.receivers;
   span = made.span;
@@ -103,22 +104,24 @@ span_of_rows rows = unwrap_or (fold (λ span (row : LookRow). span_with span row
 -- what one more answer adds
 abbrev pub made_with_answer : Making → Answer → Making
 made_with_answer making Nothing = making
-made_with_answer making (Edited version) = record making { version = version }
 made_with_answer making (Refused fault) = record making { refused = making.refused + 1 }
 made_with_answer making (Settled look) = record making { receivers = length look.rows; span = span_of_rows look.rows }
 made_with_answer making (Looked look) = making
+made_with_answer making (Contoured contour look) = making
 
 -- a line was done at the board and its answer added, or it lacked memory
-abbrev pub AddsLine : {X E : Type 0} → Result X E → BoardSeat → Making → List ℕ → BoardSeat → Making → Type 0
+abbrev pub AddsLine : {X E : Type 0} → Result X E → Editor → Making → List ℕ → Editor → Making → Type 0
 AddsLine (Ok done) before making line after next =
-    (answer : Answer) × HasMet before (demand_of line) answer after × (next ≡ made_with_answer making answer)
-AddsLine (Err want) before making line after next = HasFailed before (demand_of line) after
+    (answer : Answer) × HasMet before.seat (effect_of (accepted_edits before.seat.mine) (demand_of line)) answer after.seat
+    × Knows after × (next ≡ made_with_answer making answer)
+AddsLine (Err want) before making line after next =
+    HasFailed before.seat (effect_of (accepted_edits before.seat.mine) (demand_of line)) after.seat
 
 -- The row that tells it: the last version, the number of the site, how many lines were refused, and of the last settle
 -- how many receivers there are and their levels
-abbrev pub row_of_making : ℕ → Making → List ℕ
-row_of_making number making =
-    made_row making.version making.receivers number making.refused
+abbrev pub row_of_making : ℕ → ℕ → Making → List ℕ
+row_of_making number version making =
+    made_row version making.receivers number making.refused
     (unwrap_or making.span.lo (pos 0)) (unwrap_or making.span.hi (pos 0))
 
 -- ---- sites
@@ -132,7 +135,7 @@ site_made number = made_by (site_lines number)
 
 -- the row that tells it
 abbrev pub site_row : ℕ → List ℕ
-site_row number = row_of_making number (making_of (site_made number))
+site_row number = row_of_making number (length (site_made number).journal) (making_of (site_made number))
 
 -- ---- runs
 
@@ -146,7 +149,7 @@ MakesRow number status.SomeRefused count before after =
 MakesRow number status.Usage count before after = ⊥
 MakesRow number status.ReadFault count before after = ⊥
 MakesRow number status.WriteFault count before after =
-    (count ≡ length (site_lines number)) × TakesFront before after (site_row number)
+    (count ≡ length (site_lines number)) × TakesFront stops.WriteFault before after (site_row number ∷ [])
 MakesRow number status.NoMemory count before after = (count ≤ length (site_lines number)) × (after ≡ before)
 MakesRow number status.InputLimit count before after = ⊥
 

@@ -11,7 +11,10 @@ use Rattle.map_lock.specs.Seats.{BoardSeat}
 use Rattle.noise_map.specs.declared.status.Status.{Status}
 use Rattle.noise_map.specs.declared.status.Status.TheVariants.{Done, SomeRefused, Usage}
 use Rattle.noise_map.specs.declared.status.Status.TheVariants.{ReadFault, WriteFault, NoMemory, InputLimit}
-use Rattle.noise_map.specs.Demands.{point_after}
+use Rattle.noise_map.specs.declared.stopped.Stopped.{Stopped}
+use Rattle.noise_map.specs.declared.stopped.Stopped.TheVariants as stops
+use Rattle.noise_map.specs.Effects.{point_after}
+use Rattle.noise_map.specs.Taking.{joined, IsBegun}
 use Rattle.noise_map.specs.Texts.{text_of}
 use Rattle.noise_map.specs.Ways.{looks_in}
 use Rattle.noise_map.specs.Histories.{HasHistory}
@@ -62,25 +65,26 @@ Covers WriteFault before after done = CoversFront before after done
 Covers NoMemory before after done = CoversFront before after done
 Covers InputLimit before after done = CoversLimit before after done
 
--- The sink has taken a part of the text of these lines, which holds the whole text of all but the last.
-pub record TakesPartOf (words : CommandLine) (looks : List LookAll) (before after : Option (List ℕ))
+-- The sink has taken all rows of all lines but the last, some first rows of that one, and of the next row what the reason
+-- for the end allows.
+pub record TakesPartOf (stopped : Stopped) (words : CommandLine) (looks : List LookAll) (before after : Option (List ℕ))
     (done : List (List ℕ)) : Type 0 where
+  pub front : List (List ℕ)
   pub part : List ℕ
-  pub rest : List ℕ
-  pub front : text_of words looks done ≡ part ++ rest
-  pub last : List ℕ
-  pub others : part ≡ text_of words looks (all_but_last done) ++ last
-  pub taken : Appends before after part
+  pub rest : List (List ℕ)
+  pub text : text_of words looks done ≡ text_of words looks (all_but_last done) ++ (front ++ rest)
+  pub begun : IsBegun stopped part rest
+  pub taken : Appends before after (joined (text_of words looks (all_but_last done) ++ front) ++ part)
 
 -- what the sink has taken, where settles and looks were answered by these looks
 abbrev pub Writes : CommandLine → List LookAll → Status → Option (List ℕ) → Option (List ℕ) → List (List ℕ) → Type 0
-Writes words looks Done before after done = Appends before after (text_of words looks done)
-Writes words looks SomeRefused before after done = Appends before after (text_of words looks done)
+Writes words looks Done before after done = Appends before after (joined (text_of words looks done))
+Writes words looks SomeRefused before after done = Appends before after (joined (text_of words looks done))
 Writes words looks Usage before after done = ⊥
-Writes words looks ReadFault before after done = Appends before after (text_of words looks done)
-Writes words looks WriteFault before after done = TakesPartOf words looks before after done
-Writes words looks NoMemory before after done = TakesPartOf words looks before after done
-Writes words looks InputLimit before after done = Appends before after (text_of words looks done)
+Writes words looks ReadFault before after done = Appends before after (joined (text_of words looks done))
+Writes words looks WriteFault before after done = TakesPartOf stops.WriteFault words looks before after done
+Writes words looks NoMemory before after done = TakesPartOf stops.NoMemory words looks before after done
+Writes words looks InputLimit before after done = Appends before after (joined (text_of words looks done))
 
 -- whether a line was refused, where the status tells it
 abbrev pub TellsRefused : Status → Bool → Type 0

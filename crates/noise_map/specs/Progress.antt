@@ -13,17 +13,18 @@ use Rattle.map_board.specs.Showing.{accepted_edits}
 use Rattle.map_lock.specs.Seats.{BoardSeat, IsEditor}
 use Rattle.map_lock.specs.Settling.{HasNotFinished}
 use Rattle.noise_map.specs.declared.answer.Answer.{Answer}
-use Rattle.noise_map.specs.declared.lines.LineDone.{LineDone}
+use Rattle.noise_map.specs.declared.editor.Editor.{Editor}
 use Rattle.noise_map.specs.declared.status.Status.{Status}
 use Rattle.noise_map.specs.declared.status.Status.TheVariants as status
 use Rattle.noise_map.specs.declared.stopped.Stopped.{Stopped}
 use Rattle.noise_map.specs.declared.stopped.Stopped.TheVariants as stops
-use Rattle.noise_map.specs.Demands.{demand_of, point_after, journal_of}
+use Rattle.noise_map.specs.Demands.{demand_of}
+use Rattle.noise_map.specs.Effects.{effect_of, point_after, journal_of}
 use Rattle.noise_map.specs.Texts.{rows_of, text_of}
 use Rattle.noise_map.specs.Ways.{Way, looks_in}
 use Rattle.noise_map.specs.Histories.{IsWay, finish_entry}
-use Rattle.noise_map.specs.Taking.{TakesFront}
-use Rattle.noise_map.specs.Steps.{HasMet, HasFailed, is_refusal, newest_after}
+use Rattle.noise_map.specs.Taking.{joined, TakesFront}
+use Rattle.noise_map.specs.Steps.{Knows, HasMet, HasFailed, is_refusal}
 use Rattle.noise_map.specs.Outcome.{Covers, Writes, TellsRefused}
 use Rattle.noise_map.specs.Making.{MakesRow, site_lines}
 use Rattle.map_board.specs.Seats.{Entries}
@@ -105,32 +106,34 @@ pub record Did (before seat : BoardSeat) (done : List (List ℕ)) : Type 0 where
   pub unfinished : HasNotFinished seat.mine
 
 -- Their rows were written.
-pub record Told (words : CommandLine) (version : ℕ) (refused : Bool) (seat : BoardSeat)
-    (taken_before taken_now : Option (List ℕ)) (done : List (List ℕ)) : Type 0 where
-  pub version_is : version ≡ length (journal_of done)
+pub record Told (words : CommandLine) (refused : Bool) (seat : BoardSeat) (taken_before taken_now : Option (List ℕ))
+    (done : List (List ℕ)) : Type 0 where
   pub refused_is : (point_after done).refused ≡ refused
-  pub written : Appends taken_before taken_now (text_of words (looks_in seat.mine) done)
+  pub written : Appends taken_before taken_now (joined (text_of words (looks_in seat.mine) done))
 
 -- how far a run over an input has come
-pub record Progress (words : CommandLine) (reader : Reading) (count version : ℕ) (refused : Bool)
-    (before seat : BoardSeat) (left_before left_now taken_before taken_now : Option (List ℕ)) : Type 0 where
+pub record Progress (words : CommandLine) (reader : Reading) (count : ℕ) (refused : Bool) (before seat : BoardSeat)
+    (left_before left_now taken_before taken_now : Option (List ℕ)) : Type 0 where
   pub done : List (List ℕ)
   pub read : Read reader count left_before left_now done
   pub did : Did before seat done
-  pub told : Told words version refused seat taken_before taken_now done
+  pub told : Told words refused seat taken_before taken_now done
 
 -- a line of this number was done and its rows were written, or it was broken off: for want of memory before there was
 -- anything to show, or while its rows were written
-abbrev pub HasWritten : Result LineDone Stopped → CommandLine → ℕ → ℕ → BoardSeat → List ℕ → BoardSeat → Option (List ℕ)
+abbrev pub HasWritten : Result Bool Stopped → CommandLine → ℕ → Editor → List ℕ → Editor → Option (List ℕ)
     → Option (List ℕ) → Type 0
-HasWritten (Ok done) words number version before line after taken_before taken_after =
-    (answer : Answer) × HasMet before (demand_of line) answer after
-    × Appends taken_before taken_after (rows_of words number version answer)
-    × (done.version ≡ newest_after version answer) × (done.refused ≡ is_refusal answer)
-HasWritten (Err stopped) words number version before line after taken_before taken_after =
-    (HasFailed before (demand_of line) after × (stopped ≡ stops.NoMemory) × Appends taken_before taken_after [])
-    ⊎ ((answer : Answer) × HasMet before (demand_of line) answer after
-    × TakesFront taken_before taken_after (rows_of words number version answer))
+HasWritten (Ok refused) words number before line after taken_before taken_after =
+    let journal = accepted_edits before.seat.mine in
+    (answer : Answer) × HasMet before.seat (effect_of journal (demand_of line)) answer after.seat × Knows after
+    × Appends taken_before taken_after (joined (rows_of words number (length journal) answer))
+    × (refused ≡ is_refusal answer)
+HasWritten (Err stopped) words number before line after taken_before taken_after =
+    let journal = accepted_edits before.seat.mine in
+    (HasFailed before.seat (effect_of journal (demand_of line)) after.seat × (stopped ≡ stops.NoMemory)
+    × Appends taken_before taken_after [])
+    ⊎ ((answer : Answer) × HasMet before.seat (effect_of journal (demand_of line)) answer after.seat
+    × TakesFront stopped taken_before taken_after (rows_of words number (length journal) answer))
 
 -- ---- how it ended
 

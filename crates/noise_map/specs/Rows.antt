@@ -2,7 +2,7 @@
 use Rattle.std.specs.Prelude.{◌≡◌, ◌≤◌, length}
 use Rattle.scene_book.specs.Limits.{most_receivers}
 use Rattle.noise_map.specs.declared.answer.Answer.{Answer}
-use Rattle.noise_map.specs.declared.answer.Answer.TheVariants.{Settled, Looked}
+use Rattle.noise_map.specs.declared.answer.Answer.TheVariants.{Settled, Looked, Contoured}
 use Rattle.noise_map.specs.declared.rows.Rows.{Rows}
 
 -- rows that go to the same sink, of which the same are asked for
@@ -14,4 +14,5 @@ IsSameSink old new =
 abbrev pub ShowsFew : Answer → Type 0
 ShowsFew (Settled look) = length look.rows ≤ most_receivers
 ShowsFew (Looked look) = length look.rows ≤ most_receivers
+ShowsFew (Contoured contour look) = length look.rows ≤ most_receivers
 ShowsFew answer = Unit {0}

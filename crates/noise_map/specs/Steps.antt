@@ -1,16 +1,28 @@
 -- What one line does at the board, as the run's own functions see it.
-use Rattle.std.specs.Prelude.{◌≡◌, ℕ, Bool, true, false, [], ◌++◌, length, slice_get, Result, Ok, Err}
+use Rattle.std.specs.Prelude.{◌≡◌, ◌⊎◌, ℕ, Bool, true, false, List, [], ◌∷◌, ◌++◌, length, take, slice_get, IsSomeAnd, Result, Ok, Err}
+use Rattle.scene_book.specs.Applying.{apply_of, lacks_memory}
+use Rattle.scene_book.specs.declared.edits.Edit.{Edit}
+use Rattle.scene_book.specs.declared.edits.EditFault.{EditFault}
+use Rattle.map_text.specs.declared.refusals.Refusal.TheVariants.{Edit as OfEdit}
 use Rattle.turn_lock.specs.History.{Begins}
+use Rattle.map_board.specs.Journal.{newest_scene}
 use Rattle.map_board.specs.Seats.{Entries}
 use Rattle.map_board.specs.Showing.{accepted_edits}
 use Rattle.map_lock.specs.Seats.{BoardSeat}
 use Rattle.map_lock.specs.Settling.{HasNotFinished}
 use Rattle.noise_map.specs.declared.answer.Answer.{Answer}
-use Rattle.noise_map.specs.declared.answer.Answer.TheVariants.{Edited, Refused}
-use Rattle.noise_map.specs.Demands.{Demand, journal_after, looks_asked}
+use Rattle.noise_map.specs.declared.answer.Answer.TheVariants.{Refused}
+use Rattle.noise_map.specs.declared.editor.Editor.{Editor}
+use Rattle.noise_map.specs.Demands.{Demand}
+use Rattle.noise_map.specs.Effects.{Display, silent, refused, Effect, display_of_edit, effect_of_edits, effect_of, looks_asked, journal_with, journal_with_all}
 use Rattle.noise_map.specs.Texts.{answer_to}
 use Rattle.noise_map.specs.Rows.{ShowsFew}
-use Rattle.noise_map.specs.Ways.{Does, Fails, looks_in}
+use Rattle.noise_map.specs.Ways.{edit_entry, edit_entries, lacking_edit, Does, Fails, looks_in}
+
+-- An editor knows the newest version: its number and its scene.
+pub record Knows (editor : Editor) : Type 0 where
+  pub scene : editor.scene ≡ newest_scene (accepted_edits editor.seat.mine)
+  pub version : editor.version ≡ length (accepted_edits editor.seat.mine)
 
 -- The editor's seat did these entries, and is else as before: it may have seen more.
 pub record HasGone (before : BoardSeat) (added : Entries) (after : BoardSeat) : Type 0 where
@@ -22,36 +34,85 @@ pub record HasGone (before : BoardSeat) (added : Entries) (after : BoardSeat) : 
   pub joined : after.joined ≡ before.joined
   pub unfinished : HasNotFinished before.mine → HasNotFinished after.mine
 
--- A demand was met: the editor has done what it asks for, had the looks answered that it asks for, and had the edits
--- accepted that the scene takes.
-pub record HasMet (before : BoardSeat) (demand : Demand) (answer : Answer) (after : BoardSeat) : Type 0 where
-  pub added : Entries
-  pub goes : HasGone before added after
-  pub does : Does after.seen before.mine (accepted_edits before.mine) demand added
-  pub asked : length (looks_in added) ≡ looks_asked demand
-  pub accepts : accepted_edits after.mine ≡ journal_after (accepted_edits before.mine) demand
-  pub few : ShowsFew answer
-  pub answered : answer ≡ answer_to (accepted_edits before.mine) (slice_get (looks_in added) 0) demand
+-- An edit was made: the board has answered as the scene does, and the editor knows the newest version.
+pub record HasMade (before : Editor) (edit : Edit) (after : Editor) : Type 0 where
+  pub goes : HasGone before.seat (edit_entry (accepted_edits before.seat.mine) edit ∷ []) after.seat
+  pub accepts : accepted_edits after.seat.mine ≡ journal_with (accepted_edits before.seat.mine) edit
+  pub knows : Knows after
 
--- A demand was not met for want of memory.
-pub record HasFailed (before : BoardSeat) (demand : Demand) (after : BoardSeat) : Type 0 where
+-- There was no memory for an edit.
+pub record HasLacked (before : Editor) (edit : Edit) (after : Editor) : Type 0 where
+  pub added : Entries
+  pub goes : HasGone before.seat added after.seat
+  pub is : (added ≡ []) ⊎ (added ≡ lacking_edit edit ∷ [])
+
+-- what is shown of an edit behind all that the editor has had accepted
+abbrev pub display_behind : Editor → Edit → Display
+display_behind before edit = display_of_edit (apply_of edit (newest_scene (accepted_edits before.seat.mine)))
+
+abbrev pub MakesOrLacks : Bool → Editor → Edit → EditFault → Editor → Type 0
+MakesOrLacks true before edit fault after = HasLacked before edit after
+MakesOrLacks false before edit fault after =
+    HasMade before edit after × (display_behind before edit ≡ refused (OfEdit fault))
+
+-- an edit was made, or there was no memory for it
+abbrev pub MakesUnlessMemory : {X : Type 0} → Editor → Edit → Result X EditFault → Editor → Type 0
+MakesUnlessMemory before edit (Ok done) after = HasMade before edit after × (display_behind before edit ≡ silent)
+MakesUnlessMemory before edit (Err fault) after = MakesOrLacks (lacks_memory fault) before edit fault after
+
+abbrev pub has_lacked : {X : Type 0} → Result X EditFault → Bool
+has_lacked (Ok done) = false
+has_lacked (Err fault) = lacks_memory fault
+
+-- Edits were made, one after the other.
+pub record HasMadeAll (before : Editor) (edits : List Edit) (after : Editor) : Type 0 where
+  pub goes : HasGone before.seat (edit_entries (accepted_edits before.seat.mine) edits) after.seat
+  pub accepts : accepted_edits after.seat.mine ≡ journal_with_all (accepted_edits before.seat.mine) edits
+  pub knows : Knows after
+
+-- There was no memory for one of them, and those before it were made.
+pub record HasLackedOne (before : Editor) (edits : List Edit) (after : Editor) : Type 0 where
+  pub made : ℕ
+  pub rest : Entries
+  pub goes : HasGone before.seat (take made (edit_entries (accepted_edits before.seat.mine) edits) ++ rest) after.seat
+  pub breaks : (rest ≡ []) ⊎ IsSomeAnd (slice_get edits made) (λ edit. rest ≡ lacking_edit edit ∷ [])
+
+abbrev pub MakesAllUnlessMemory : {X E : Type 0} → Editor → List Edit → Result X E → Editor → Type 0
+MakesAllUnlessMemory before edits (Ok done) after = HasMadeAll before edits after
+MakesAllUnlessMemory before edits (Err want) after = HasLackedOne before edits after
+
+-- A line's effect was carried out: the editor has made its edits, and has had the look answered that it asks for.
+pub record HasMet (before : BoardSeat) (effect : Effect) (answer : Answer) (after : BoardSeat) : Type 0 where
   pub added : Entries
   pub goes : HasGone before added after
-  pub fails : Fails demand added
+  pub does : Does after.seen before.mine (accepted_edits before.mine) effect added
+  pub asked : length (looks_in added) ≡ looks_asked effect.display
+  pub accepts : accepted_edits after.mine ≡ journal_with_all (accepted_edits before.mine) effect.edits
+  pub few : ShowsFew answer
+  pub answered : answer ≡ answer_to effect.display (slice_get (looks_in added) 0)
+
+-- It was not carried out for want of memory.
+pub record HasFailed (before : BoardSeat) (effect : Effect) (after : BoardSeat) : Type 0 where
+  pub added : Entries
+  pub goes : HasGone before added after
+  pub fails : Fails (accepted_edits before.mine) effect added
   pub unanswered : looks_in added ≡ []
 
--- a demand was met, or there was no memory for it
-abbrev pub MeetsUnlessMemory : {E : Type 0} → BoardSeat → Demand → Result Answer E → BoardSeat → Type 0
-MeetsUnlessMemory before demand (Ok answer) after = HasMet before demand answer after
-MeetsUnlessMemory before demand (Err want) after = HasFailed before demand after
+-- what is asked was carried out behind all that the editor has had accepted, or there was no memory for it
+abbrev pub MeetsUnlessMemory : {E : Type 0} → Editor → Demand → Result Answer E → Editor → Type 0
+MeetsUnlessMemory before demand (Ok answer) after =
+    HasMet before.seat (effect_of (accepted_edits before.seat.mine) demand) answer after.seat × Knows after
+MeetsUnlessMemory before demand (Err want) after =
+    HasFailed before.seat (effect_of (accepted_edits before.seat.mine) demand) after.seat
+
+-- the edits of a line source were made, or it was refused, or there was no memory
+abbrev pub MeetsEditsUnlessMemory : {E : Type 0} → Editor → Result (List Edit) EditFault → Result Answer E → Editor → Type 0
+MeetsEditsUnlessMemory before edits (Ok answer) after =
+    HasMet before.seat (effect_of_edits edits) answer after.seat × Knows after
+MeetsEditsUnlessMemory before edits (Err want) after = HasFailed before.seat (effect_of_edits edits) after.seat
 
 -- ---- answers
 
 abbrev pub is_refusal : Answer → Bool
 is_refusal (Refused fault) = true
 is_refusal answer = false
-
--- the version behind a line, where it was this before it
-abbrev pub newest_after : ℕ → Answer → ℕ
-newest_after before (Edited version) = version
-newest_after before answer = before

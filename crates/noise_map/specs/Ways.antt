@@ -1,9 +1,9 @@
 -- What the editor of a run has done: its own entries in the history, line by line.
-use Rattle.std.specs.Prelude.{◌≡◌, ℕ, suc, true, false, ◌⊎◌, ◌≤◌, List, [], ◌∷◌, ◌++◌, length, All, flat_map, Ok, Err}
+use Rattle.std.specs.Prelude.{◌≡◌, ℕ, suc, true, false, ◌⊎◌, List, [], ◌∷◌, ◌++◌, length, take, slice_get, All, flat_map, Option, IsSomeAnd, Ok, Err}
+use Rattle.scene_parts.specs.declared.memory.NoMemory.{NoMemory}
 use Rattle.scene_book.specs.Applying.{apply_of}
 use Rattle.scene_book.specs.declared.edits.Edit.{Edit}
 use Rattle.scene_book.specs.declared.edits.EditFault.TheVariants.{NoMemory as WantInEdit}
-use Rattle.command_lines.specs.declared.commands.Command.TheVariants as commands
 use Rattle.turn_lock.specs.History.{IsRun, entry, entries_of}
 use Rattle.map_board.specs.declared.calls.BoardCall.TheVariants as calls
 use Rattle.map_board.specs.declared.calls.BoardReply.{BoardReply}
@@ -16,7 +16,7 @@ use Rattle.map_board.specs.Seats.{Entries, May, editor}
 use Rattle.map_board.specs.Showing.{IsLookAt, IsSettled, settled_rows}
 use Rattle.map_lock.specs.Seats.{BoardEntry}
 use Rattle.map_lock.specs.Settling.{is_settling, is_look, IsQuiet}
-use Rattle.noise_map.specs.Demands.{Demand, nothing, refusal, command, demand_of, journal_of}
+use Rattle.noise_map.specs.Effects.{Display, silent, refused, settled, known, contoured, Effect, journal_with, journal_with_all, effect_at, point_after, journal_of}
 
 -- ---- looks
 
@@ -64,25 +64,39 @@ pub record Shows (history own : Entries) (journal : List Edit) (added : Entries)
   pub stands : Stands history own look
   pub right : IsLookAt journal look
 
+-- the entry of an edit behind these accepted ones, with the answer that the scene gives
 abbrev pub edit_entry : List Edit → Edit → BoardEntry
 edit_entry journal edit =
     entry editor (calls.Edit edit)
     (replies.Edited (numbered (suc (length journal)) (apply_of edit (newest_scene journal))))
 
--- The editor's entries for a line, behind its own entries and behind these accepted edits: one for an edit, with the
--- answer that the scene gives, and none for a line that is no command.
-abbrev pub Does : Entries → Entries → List Edit → Demand → Entries → Type 0
-Does history own journal nothing added = added ≡ []
-Does history own journal (refusal fault) added = added ≡ []
-Does history own journal (command (commands.Edit edit)) added = added ≡ edit_entry journal edit ∷ []
-Does history own journal (command commands.Settle) added = Settles history own journal added
-Does history own journal (command commands.Look) added = Shows history own journal added
+-- those of edits one after the other
+abbrev pub edit_entries : List Edit → List Edit → Entries
+edit_entries journal [] = []
+edit_entries journal (edit ∷ more) = edit_entry journal edit ∷ edit_entries (journal_with journal edit) more
+
+-- The editor's entries for what is shown of a line, behind its own entries and behind these accepted edits.
+abbrev pub DoesLook : Entries → Entries → List Edit → Display → Entries → Type 0
+DoesLook history own journal silent added = added ≡ []
+DoesLook history own journal (refused fault) added = added ≡ []
+DoesLook history own journal settled added = Settles history own journal added
+DoesLook history own journal known added = Shows history own journal added
+DoesLook history own journal (contoured contour) added = Settles history own journal added
+
+-- The editor's entries for a line, behind its own entries and behind these accepted edits: one for each edit, with the
+-- answer that the scene gives, and then those for what is shown.
+pub record Does (history own : Entries) (journal : List Edit) (effect : Effect) (added : Entries) : Type 0 where
+  pub looked : Entries
+  pub is : added ≡ edit_entries journal effect.edits ++ looked
+  pub looks :
+      DoesLook history (own ++ edit_entries journal effect.edits) (journal_with_all journal effect.edits) effect.display
+      looked
 
 -- The editor's way through its own entries: those of each line behind those of the lines before it, and no others.
 pub data Way (history : Entries) : List (List ℕ) → Entries → Type 0 where
   begun : Way history [] []
   and_line : (done : List (List ℕ)) (line : List ℕ) (own added : Entries) → Way history done own
-      → Does history own (journal_of done) (demand_of line) added → Way history (done ++ line ∷ []) (own ++ added)
+      → Does history own (journal_of done) (effect_at (point_after done) line) added → Way history (done ++ line ∷ []) (own ++ added)
 
 -- ---- a line that lacked memory
 
@@ -90,14 +104,34 @@ pub data Way (history : Entries) : List (List ℕ) → Entries → Type 0 where
 abbrev pub IsNoLook : BoardEntry → Type 0
 IsNoLook e = (is_settling e.call ≡ true) × (is_look e.reply ≡ false)
 
--- The editor's entries for a line that was not done for want of memory.
-abbrev pub Fails : Demand → Entries → Type 0
-Fails nothing added = added ≡ []
-Fails (refusal fault) added = added ≡ []
-Fails (command (commands.Edit edit)) added =
-    (added ≡ []) ⊎ (added ≡ entry editor (calls.Edit edit) (replies.Edited (Err WantInEdit)) ∷ [])
-Fails (command commands.Settle) added = All IsNoLook added
-Fails (command commands.Look) added = All IsNoLook added × (length added ≤ 1)
+-- an edit, and a look, for which there was no memory
+abbrev pub lacking_edit : Edit → BoardEntry
+lacking_edit edit = entry editor (calls.Edit edit) (replies.Edited (Err WantInEdit))
+
+abbrev pub lacking_look : NoMemory → BoardEntry
+lacking_look want = entry editor calls.Look (replies.Looked (Err want))
+
+-- A settle may have taken, offered, given back and looked; no look was answered.
+abbrev pub LacksLook : Display → Entries → Type 0
+LacksLook silent rest = ⊥
+LacksLook (refused fault) rest = ⊥
+LacksLook settled rest = All IsNoLook rest
+LacksLook known rest = (want : NoMemory) × (rest ≡ lacking_look want ∷ [])
+LacksLook (contoured contour) rest = All IsNoLook rest
+
+-- What broke a line off, behind some of its edits: there was no memory before anything more was done, for the next edit,
+-- or for the look.
+abbrev pub BreaksOff : Display → Option Edit → Entries → Type 0
+BreaksOff display next rest =
+    (rest ≡ []) ⊎ (IsSomeAnd next (λ edit. rest ≡ lacking_edit edit ∷ []) ⊎ LacksLook display rest)
+
+-- The editor's entries for a line that was not done for want of memory: those of some first edits of its list, and what
+-- broke it off.
+pub record Fails (journal : List Edit) (effect : Effect) (added : Entries) : Type 0 where
+  pub made : ℕ
+  pub rest : Entries
+  pub is : added ≡ take made (edit_entries journal effect.edits) ++ rest
+  pub breaks : BreaksOff effect.display (slice_get effect.edits made) rest
 
 -- all lines but the last were done
 pub record Broken (history : Entries) (done : List (List ℕ)) (own : Entries) : Type 0 where
@@ -107,5 +141,5 @@ pub record Broken (history : Entries) (done : List (List ℕ)) (own : Entries) :
   pub front : Entries
   pub added : Entries
   pub way : Way history before front
-  pub fails : Fails (demand_of line) added
+  pub fails : Fails (journal_of before) (effect_at (point_after before) line) added
   pub own_is : own ≡ front ++ added

@@ -5,18 +5,18 @@ ghost use Rattle.noise_map.specs.Demands.{demand_of};
 ghost use Rattle.noise_map.specs.Texts.{rows_of};
 ghost use Rattle.noise_map.specs.Rows.{ShowsFew};
 ghost use Rattle.noise_map.specs.Taking.{Takes, CausedByWriteFault};
-ghost use Rattle.noise_map.specs.Steps.{MeetsUnlessMemory};
+ghost use Rattle.noise_map.specs.Steps.{Knows, MeetsUnlessMemory};
 ghost use Rattle.noise_map.specs.Progress.{ending_of, status_of, IsLineOf, IsTextOf, HasWritten, HasEnded, Ended};
 ghost use Rattle.noise_map.specs.Outcome.{TellsFault};
 
 use crate::answer::Answer;
+use crate::editor::Editor;
 use crate::rows::Rows;
 use crate::status::{Ending, Status};
 use crate::step::{Shared, refuse_long};
 use crate::stopped::Stopped;
 use command_words::CommandLine;
 use map_io::{Gate, LineReader, Next, Sink, Source};
-use map_lock::EditorSeat;
 use map_text::Head;
 use scene_parts::NoMemory;
 use std::alloc::Global;
@@ -44,7 +44,7 @@ fn status_when(stopped: Stopped) -> Status
     }
 }
 
-/// Writes the rows of a line of this number, before which the version was this.
+/// Writes the rows of a line of this number, before which the version was this. No row of an accepted edit tells it.
 fn show<K: Sink>(
     alloc: Global,
     words: CommandLine,
@@ -65,22 +65,24 @@ fn show<K: Sink>(
         counts: words.counts,
     };
     match answer {
-        Answer::Nothing | Answer::Edited(_) => Ok(()),
+        Answer::Nothing => Ok(()),
         Answer::Refused(fault) => rows.refuse(version, number, fault),
         Answer::Settled(look) => rows.settle(look),
         Answer::Looked(look) => rows.look(Head::Look, look),
+        Answer::Contoured(contour, look) => rows.contours(contour, look),
     }
 }
 
 /// Does the line that the reader has handed out, or refuses the long one that it has passed over.
 fn do_next<R: Wait, G: Gate>(
     shared: &Shared<R, G>,
-    editor: &mut EditorSeat,
+    editor: &mut Editor,
     next: Next,
     line: &[u8],
 ) -> Result<Answer, NoMemory>
-    requires own { editor.old.table ≡ shared.now.lock.now }
-    requires unfinished { HasNotFinished editor.old.mine }
+    requires own { editor.old.seat.table ≡ shared.now.lock.now }
+    requires unfinished { HasNotFinished editor.old.seat.mine }
+    requires knows { Knows editor.old }
     requires line { IsLineOf next line.now }
     ensures done { (text : List ℕ) → IsTextOf next line.now text
         → MeetsUnlessMemory editor.old (demand_of text) result editor.new }
@@ -93,52 +95,43 @@ fn do_next<R: Wait, G: Gate>(
     }
 }
 
-/// What the lines behind one that was done go on with: the version, and whether it was refused.
-#[derive(Clone, Copy, Debug, PartialEq, Eq)]
-pub struct LineDone {
-    pub version: u64,
-    pub refused: bool,
-}
-
-/// Does that line, of this number, and writes its rows.
+/// Does that line, of this number, writes its rows, and tells whether it was refused.
 fn do_and_show<R: Wait, G: Gate, K: Sink>(
     shared: &Shared<R, G>,
     words: CommandLine,
-    editor: &mut EditorSeat,
+    editor: &mut Editor,
     number: u64,
-    version: u64,
     next: Next,
     line: &[u8],
     out: &mut K,
-) -> Result<LineDone, Stopped>
-    requires own { editor.old.table ≡ shared.now.lock.now }
-    requires unfinished { HasNotFinished editor.old.mine }
+) -> Result<bool, Stopped>
+    requires own { editor.old.seat.table ≡ shared.now.lock.now }
+    requires unfinished { HasNotFinished editor.old.seat.mine }
+    requires knows { Knows editor.old }
     requires line { IsLineOf next line.now }
     ensures done { (text : List ℕ) → IsTextOf next line.now text
-        → HasWritten result words number version editor.old text editor.new
-        (K.taken out.old) (K.taken out.new) }
+        → HasWritten result words number editor.old text editor.new (K.taken out.old) (K.taken out.new) }
     ensures cause { CausedByWriteFault result (K.faults out.old) (K.faults out.new) }
 {
+    let version = editor.version;
     let answer = do_next(shared, editor, next, line)?;
     show(shared.alloc, words, number, version, &answer, out)?;
-    Ok(LineDone {
-        version: answer.newest(version),
-        refused: answer.is_refusal(),
-    })
+    Ok(answer.is_refusal())
 }
 
 /// Reads line after line of the input and does each, until the input ends or something stops it.
 pub fn do_lines<R: Wait, G: Gate, S: Source, K: Sink>(
     shared: &Shared<R, G>,
     words: CommandLine,
-    editor: &mut EditorSeat,
+    editor: &mut Editor,
     input: &mut S,
     out: &mut K,
 ) -> Ending
-    requires own { editor.old.table ≡ shared.now.lock.now }
-    requires nothing { editor.old.mine ≡ [] }
+    requires own { editor.old.seat.table ≡ shared.now.lock.now }
+    requires nothing { editor.old.seat.mine ≡ [] }
+    requires knows { Knows editor.old }
     ensures ended { Ended words result.status result.lines
-        (λ done. HasEnded result.status done editor.old editor.new) editor.new
+        (λ done. HasEnded result.status done editor.old.seat editor.new.seat) editor.new.seat
         (S.left input.old) (S.left input.new) (K.taken out.old) (K.taken out.new) }
     ensures read_fault { TellsFault Status.ReadFault result.status (S.faults input.old) (S.faults input.new) }
     ensures write_fault { TellsFault Status.WriteFault result.status (K.faults out.old) (K.faults out.new) }
@@ -147,7 +140,6 @@ pub fn do_lines<R: Wait, G: Gate, S: Source, K: Sink>(
         return Ending::without_memory(0);
     };
     let mut lines = 0;
-    let mut version = 0;
     let mut refused = false;
     loop {
         let next = reader.next(input);
@@ -155,20 +147,8 @@ pub fn do_lines<R: Wait, G: Gate, S: Source, K: Sink>(
             return Ending { status, lines };
         }
         lines += 1;
-        match do_and_show(
-            shared,
-            words,
-            editor,
-            lines,
-            version,
-            next,
-            reader.line(),
-            out,
-        ) {
-            Ok(done) => {
-                version = done.version;
-                refused |= done.refused;
-            }
+        match do_and_show(shared, words, editor, lines, next, reader.line(), out) {
+            Ok(is_refused) => refused |= is_refused,
             Err(stopped) => {
                 return Ending {
                     status: status_when(stopped),

@@ -3,6 +3,7 @@
 
 mod answer;
 mod crew;
+mod editor;
 mod lines;
 mod make;
 mod making;
@@ -13,6 +14,8 @@ mod step;
 mod stopped;
 #[cfg(test)]
 mod test_gate;
+#[cfg(test)]
+mod test_lines;
 #[cfg(test)]
 mod test_looks;
 #[cfg(test)]

@@ -6,14 +6,15 @@ ghost use Rattle.map_lock.specs.Settling.{HasNotFinished};
 ghost use Rattle.noise_map.specs.FirstLine.{IsFirstLine};
 ghost use Rattle.noise_map.specs.Making.{AddsLine};
 ghost use Rattle.noise_map.specs.Outcome.{TellsFault};
+ghost use Rattle.noise_map.specs.Steps.{Knows};
 ghost use Rattle.noise_map.specs.Progress.{HasEnded, SiteEnded};
 ghost use Rattle.noise_map.specs.Progress as progress;
 
+use crate::editor::Editor;
 use crate::making::Making;
 use crate::status::{Ending, Status};
 use crate::step::Shared;
 use map_io::{Gate, Sink, put_all};
-use map_lock::EditorSeat;
 use scene_parts::NoMemory;
 use site_maker::site;
 use std::sync::Wait;
@@ -52,12 +53,13 @@ fn status_at_end(refused: bool) -> Status
 /// Does one line of a site, and adds what it has done.
 fn make_line<R: Wait, G: Gate>(
     shared: &Shared<R, G>,
-    editor: &mut EditorSeat,
+    editor: &mut Editor,
     line: &[u8],
     making: &mut Making,
 ) -> Result<(), NoMemory>
-    requires own { editor.old.table ≡ shared.now.lock.now }
-    requires unfinished { HasNotFinished editor.old.mine }
+    requires own { editor.old.seat.table ≡ shared.now.lock.now }
+    requires unfinished { HasNotFinished editor.old.seat.mine }
+    requires knows { Knows editor.old }
     requires refused { making.old.refused < 2 ^ 64 - 1 }
     requires level { IsLevel making.old.span }
     ensures adds { AddsLine result editor.old making.old line.now editor.new making.new }
@@ -72,13 +74,14 @@ fn make_line<R: Wait, G: Gate>(
 pub fn do_site<R: Wait, G: Gate, K: Sink>(
     shared: &Shared<R, G>,
     number: u32,
-    editor: &mut EditorSeat,
+    editor: &mut Editor,
     out: &mut K,
 ) -> Ending
-    requires own { editor.old.table ≡ shared.now.lock.now }
-    requires nothing { editor.old.mine ≡ [] }
+    requires own { editor.old.seat.table ≡ shared.now.lock.now }
+    requires nothing { editor.old.seat.mine ≡ [] }
+    requires knows { Knows editor.old }
     ensures ended { SiteEnded number result.status result.lines
-        (λ done. HasEnded result.status done editor.old editor.new)
+        (λ done. HasEnded result.status done editor.old.seat editor.new.seat)
         (K.taken out.old) (K.taken out.new) }
     ensures write_fault { TellsFault Status.WriteFault result.status (K.faults out.old) (K.faults out.new) }
 {
@@ -95,7 +98,7 @@ pub fn do_site<R: Wait, G: Gate, K: Sink>(
         };
         rest = after;
     }
-    let Ok(row) = making.row(shared.alloc, number) else {
+    let Ok(row) = making.row(shared.alloc, number, editor.version) else {
         return Ending::without_memory(lines);
     };
     let status = match put_all(out, row.as_slice()) {

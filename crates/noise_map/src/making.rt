@@ -16,7 +16,6 @@ use std::alloc::Global;
 /// What the lines so far have come to.
 #[derive(Drop)]
 pub struct Making {
-    pub version: u64,
     /// How many of them were refused.
     pub refused: u64,
     /// How many receivers there were at the last settle.
@@ -32,7 +31,6 @@ impl Making {
         ensures level { IsLevel result.span }
     {
         Making {
-            version: 0,
             refused: 0,
             receivers: 0,
             span: exact(0),
@@ -48,8 +46,7 @@ impl Making {
         ensures level { IsLevel self.new.span }
     {
         match answer {
-            Answer::Nothing | Answer::Looked(_) => {}
-            Answer::Edited(version) => self.version = *version,
+            Answer::Nothing | Answer::Looked(_) | Answer::Contoured(_, _) => {}
             Answer::Refused(_) => self.refused += 1,
             Answer::Settled(look) => {
                 self.receivers = count_of(look);
@@ -58,16 +55,16 @@ impl Making {
         }
     }
 
-    /// The row that tells what the lines of the site of this number have come to.
-    pub fn row(&self, alloc: Global, number: u32) -> Result<Vec<u8>, NoMemory>
+    /// The row that tells what the lines of the site of this number have come to, and the version.
+    pub fn row(&self, alloc: Global, number: u32, version: u64) -> Result<Vec<u8>, NoMemory>
         requires { IsLevel self.now.span }
-        ensures { IfOk result (λ text. text.items ≡ row_of_making number self.now) }
+        ensures { IfOk result (λ text. text.items ≡ row_of_making number version self.now) }
     {
         let low = self.span.low().unwrap_or(0);
         let high = self.span.high().unwrap_or(0);
         made_text(
             alloc,
-            self.version,
+            version,
             self.receivers,
             number,
             self.refused,

@@ -1,16 +1,19 @@
 //! The rows of a line on their way to the sink.
-ghost use Rattle.std.specs.Prelude.{◌≡◌, ◌++◌, ◌≤◌, flat_map, length, map, slice_index};
+ghost use Rattle.std.specs.Prelude.{◌≡◌, [], ◌∷◌, ◌++◌, ◌≤◌, flat_map, length, map, slice_index, IfOk};
 ghost use Rattle.scene_book.specs.Limits.{most_receivers};
 ghost use Rattle.map_text.specs.Rows.{head_row, refused_row, counts_row};
 ghost use Rattle.map_text.specs.Looks.{receiver_rows};
-ghost use Rattle.noise_map.specs.Texts.{joined, row_of_look, look_rows, counts_rows};
+ghost use Rattle.noise_map.specs.Texts.{look_rows, counts_rows, contour_rows_in};
 ghost use Rattle.noise_map.specs.Taking.{Takes, CausedByWriteFault};
 ghost use Rattle.noise_map.specs.Rows.{IsSameSink};
 
 use crate::stopped::Stopped;
+use command_lines::ContourSpec;
+use level_contours::{Family, cells, loops, row_texts};
 use map_board::{LookAll, LookRow};
 use map_io::{Sink, put_all};
-use map_text::{Head, Refusal, RowText, counts_text, head_text, refused_text, row_text};
+use map_text::{Head, Refusal, RowText, RowTexts, counts_text, head_text, refused_text, row_text};
+use scene_parts::NoMemory;
 use std::alloc::Global;
 
 /// How many receivers a look shows.
@@ -34,7 +37,7 @@ impl<'a, K: Sink> Rows<'a, K> {
     /// Writes one row.
     fn put(&mut self, row: &[u8]) -> Result<(), Stopped>
         ensures taken { Takes result (K.taken self.old.out.now) (K.taken self.new.out.now)
-            (row.now) }
+            (row.now ∷ []) }
         ensures cause { CausedByWriteFault result (K.faults self.old.out.now) (K.faults self.new.out.now) }
         ensures same { IsSameSink self.old self.new }
     {
@@ -45,7 +48,7 @@ impl<'a, K: Sink> Rows<'a, K> {
     /// Writes the row of a refused line, by its number from 1 and the version then.
     pub fn refuse(&mut self, version: u64, number: u64, fault: &Refusal) -> Result<(), Stopped>
         ensures taken { Takes result (K.taken self.old.out.now) (K.taken self.new.out.now)
-            (refused_row version number fault.now) }
+            (refused_row version number fault.now ∷ []) }
         ensures cause { CausedByWriteFault result (K.faults self.old.out.now) (K.faults self.new.out.now) }
         ensures same { IsSameSink self.old self.new }
     {
@@ -80,9 +83,20 @@ impl<'a, K: Sink> Rows<'a, K> {
         self.receivers(look.version, look.rows.items())
     }
 
+    /// Writes the rows of contours, by what a look shows of the receivers of their grid.
+    pub fn contours(&mut self, contour: &ContourSpec, look: &LookAll) -> Result<(), Stopped>
+        ensures taken { Takes result (K.taken self.old.out.now) (K.taken self.new.out.now)
+            (contour_rows_in contour.now look.now) }
+        ensures cause { CausedByWriteFault result (K.faults self.old.out.now) (K.faults self.new.out.now) }
+        ensures same { IsSameSink self.old self.new }
+    {
+        let texts = contour_texts(self.alloc, contour, look)?;
+        self.put_each(texts.items())
+    }
+
     fn receivers(&mut self, version: u64, rows: &[LookRow]) -> Result<(), Stopped>
         ensures taken { Takes result (K.taken self.old.out.now) (K.taken self.new.out.now)
-            (flat_map (row_of_look self.old.bands version) rows.now) }
+            (flat_map (receiver_rows self.old.bands version) rows.now) }
         ensures cause { CausedByWriteFault result (K.faults self.old.out.now) (K.faults self.new.out.now) }
         ensures same { IsSameSink self.old self.new }
     {
@@ -95,7 +109,7 @@ impl<'a, K: Sink> Rows<'a, K> {
     /// Writes the row of a receiver, and those of its bands where they are asked for.
     fn receiver(&mut self, version: u64, row: &LookRow) -> Result<(), Stopped>
         ensures taken { Takes result (K.taken self.old.out.now) (K.taken self.new.out.now)
-            (row_of_look self.old.bands version row.now) }
+            (receiver_rows self.old.bands version row.now) }
         ensures cause { CausedByWriteFault result (K.faults self.old.out.now) (K.faults self.new.out.now) }
         ensures same { IsSameSink self.old self.new }
     {
@@ -105,7 +119,7 @@ impl<'a, K: Sink> Rows<'a, K> {
 
     fn put_each(&mut self, texts: &[RowText]) -> Result<(), Stopped>
         ensures taken { Takes result (K.taken self.old.out.now) (K.taken self.new.out.now)
-            (joined texts.now) }
+            texts.now }
         ensures cause { CausedByWriteFault result (K.faults self.old.out.now) (K.faults self.new.out.now) }
         ensures same { IsSameSink self.old self.new }
     {
@@ -134,7 +148,7 @@ impl<'a, K: Sink> Rows<'a, K> {
         requires { length look.now.rows ≤ most_receivers }
         ensures taken { Takes result (K.taken self.old.out.now) (K.taken self.new.out.now)
             (counts_row look.now.version (length look.now.rows) (slice_index look.now.counts 0)
-            (slice_index look.now.counts 1) (slice_index look.now.counts 2) (slice_index look.now.counts 3)) }
+            (slice_index look.now.counts 1) (slice_index look.now.counts 2) (slice_index look.now.counts 3) ∷ []) }
         ensures cause { CausedByWriteFault result (K.faults self.old.out.now) (K.faults self.new.out.now) }
         ensures same { IsSameSink self.old self.new }
     {
@@ -143,4 +157,14 @@ impl<'a, K: Sink> Rows<'a, K> {
         let row = counts_text(self.alloc, look.version, count, taken, kept, gone, back)?;
         self.put(row.as_slice())
     }
+}
+
+/// The rows of contours.
+fn contour_texts(alloc: Global, contour: &ContourSpec, look: &LookAll) -> Result<RowTexts, NoMemory>
+    ensures { IfOk result (λ texts. texts ≡ contour_rows_in contour.now look.now) }
+{
+    let cells = cells(alloc, look, contour)?;
+    let inner = loops(alloc, contour.columns, contour.rows, &cells, Family::Inner)?;
+    let outer = loops(alloc, contour.columns, contour.rows, &cells, Family::Outer)?;
+    row_texts(alloc, look.version, contour, &inner, &outer)
 }

@@ -5,16 +5,18 @@ ghost use Rattle.map_io.specs.Causes.{Rose};
 ghost use Rattle.command_words.specs.Words.{command_line_of};
 ghost use Rattle.noise_map.specs.Crews.{IsFresh, IsBack};
 ghost use Rattle.noise_map.specs.Progress.{HasEnded, HasFinished, AskedEnded};
+ghost use Rattle.noise_map.specs.Steps.{Knows};
 ghost use Rattle.noise_map.specs.Outcome.{RunOutcome, TellsFault, RunsToTheEnd};
 
 use crate::crew::{Crew, join_all};
+use crate::editor::Editor;
 use crate::lines::do_lines;
 use crate::make::do_site;
 use crate::status::{Ending, Report, Status};
 use crate::step::Shared;
 use command_words::{CommandLine, WordsFault, command_line};
 use map_io::{Gate, Sink, Source};
-use map_lock::{EditorSeat, WorkerSeat};
+use map_lock::WorkerSeat;
 use receiver_workers::with_workers;
 use std::alloc::Global;
 use std::sync::Wait;
@@ -35,14 +37,15 @@ fn not_begun(status: Status) -> Report
 fn do_asked<R: Wait, G: Gate, S: Source, K: Sink>(
     shared: &Shared<R, G>,
     words: CommandLine,
-    editor: &mut EditorSeat,
+    editor: &mut Editor,
     input: &mut S,
     out: &mut K,
 ) -> Ending
-    requires own { editor.old.table ≡ shared.now.lock.now }
-    requires nothing { editor.old.mine ≡ [] }
+    requires own { editor.old.seat.table ≡ shared.now.lock.now }
+    requires nothing { editor.old.seat.mine ≡ [] }
+    requires knows { Knows editor.old }
     ensures ended { AskedEnded words.make words result.status result.lines
-        (λ done. HasEnded result.status done editor.old editor.new) editor.new
+        (λ done. HasEnded result.status done editor.old.seat editor.new.seat) editor.new.seat
         (S.left input.old) (S.left input.new) (K.taken out.old) (K.taken out.new) }
     ensures read_fault { TellsFault Status.ReadFault result.status (S.faults input.old) (S.faults input.new) }
     ensures write_fault { TellsFault Status.WriteFault result.status (K.faults out.old) (K.faults out.new) }
@@ -60,16 +63,17 @@ fn edit_beside<R: Threads + Wait + Sync, G: Gate + Sync, S: Source + Send, K: Si
     shared: &Shared<R, G>,
     words: CommandLine,
     workers: &mut [WorkerSeat],
-    editor: &mut EditorSeat,
+    editor: &mut Editor,
     input: &mut S,
     out: &mut K,
 ) -> Ending
-    requires own { editor.old.table ≡ shared.now.lock.now }
+    requires own { editor.old.seat.table ≡ shared.now.lock.now }
     requires theirs { All (IsFresh shared.now.lock.now) workers.old }
     requires few { length workers.old < 2 ^ 32 }
-    requires nothing { editor.old.mine ≡ [] }
+    requires nothing { editor.old.seat.mine ≡ [] }
+    requires knows { Knows editor.old }
     ensures finished { AskedEnded words.make words result.status result.lines
-        (λ done. HasFinished result.status done editor.old editor.new) editor.new
+        (λ done. HasFinished result.status done editor.old.seat editor.new.seat) editor.new.seat
         (S.left input.old) (S.left input.new) (K.taken out.old) (K.taken out.new) }
     ensures read_fault { TellsFault Status.ReadFault result.status (S.faults input.old) (S.faults input.new) }
     ensures write_fault { TellsFault Status.WriteFault result.status (K.faults out.old) (K.faults out.new) }
@@ -82,16 +86,17 @@ fn edit_beside<R: Threads + Wait + Sync, G: Gate + Sync, S: Source + Send, K: Si
         shared.gate,
         workers,
         &mut || -> Ending
-            requires { (editor.now.table ≡ shared.now.lock.now) × (editor.now.mine ≡ []) }
+            requires { (editor.now.seat.table ≡ shared.now.lock.now) × (editor.now.seat.mine ≡ [])
+                × Knows editor.now }
             ensures { AskedEnded words.make words result.status result.lines
-                (λ done. HasFinished result.status done editor.entry.now editor.exit.now) editor.exit.now
+                (λ done. HasFinished result.status done editor.entry.now.seat editor.exit.now.seat) editor.exit.now.seat
                 (S.left input.entry.now) (S.left input.exit.now) (K.taken out.entry.now) (K.taken out.exit.now)
                 × TellsFault Status.ReadFault result.status (S.faults input.entry.now) (S.faults input.exit.now)
                 × TellsFault Status.WriteFault result.status (K.faults out.entry.now) (K.faults out.exit.now)
                 × (IsSome words.make → input.exit.now ≡ input.entry.now) }
         {
             let ending = do_asked(shared, words, editor, input, out);
-            shared.lock.finish(shared.rt, editor);
+            shared.lock.finish(shared.rt, &mut editor.seat);
             ending
         },
     )
@@ -118,9 +123,12 @@ fn run_asked<R: Threads + Wait + Sync, S: Source + Send, K: Sink + Send, G: Gate
     };
     let Crew {
         lock,
-        mut editor,
+        editor,
         mut workers,
     } = crew;
+    let Ok(mut editor) = Editor::new(alloc, editor) else {
+        return not_begun(Status::NoMemory);
+    };
     let shared = Shared {
         rt,
         alloc,
@@ -135,11 +143,11 @@ fn run_asked<R: Threads + Wait + Sync, S: Source + Send, K: Sink + Send, G: Gate
         input,
         out,
     );
-    join_all(&lock, &mut editor, workers);
+    join_all(&lock, &mut editor.seat, workers);
     Report {
         status: ending.status,
         lines: ending.lines,
-        seat: Some(editor),
+        seat: Some(editor.seat),
     }
 }
 

@@ -1,7 +1,6 @@
 //! One line after another: what each does at the board.
-ghost use Rattle.std.specs.Prelude.{◌≡◌, ◌≤◌, ◌<◌, ℕ, List, length};
+ghost use Rattle.std.specs.Prelude.{◌≡◌, ◌≤◌, ◌<◌, ℕ, List, length, Result};
 ghost use Rattle.scene_parts.specs.Answers.{MatchesUnlessMemory};
-ghost use Rattle.scene_book.specs.Applying as applying;
 ghost use Rattle.command_lines.specs.declared.commands.Command.{Command as CommandSaid};
 ghost use Rattle.command_lines.specs.declared.commands.Command.TheVariants as commands;
 ghost use Rattle.command_lines.specs.Answers as answers;
@@ -11,16 +10,23 @@ ghost use Rattle.map_lock.specs.Settling.{HasNotFinished};
 ghost use Rattle.map_lock.specs.Seats.{BoardSeat};
 ghost use Rattle.noise_map.specs.Demands.{command as asks, demand_read, demand_of, is_blank, is_blank_byte};
 ghost use Rattle.noise_map.specs.Rows.{ShowsFew};
-ghost use Rattle.noise_map.specs.Steps.{MeetsUnlessMemory, HasMet};
+ghost use Rattle.noise_map.specs.Effects.{effect_of};
+ghost use Rattle.noise_map.specs.Steps.{Knows, has_lacked, MakesUnlessMemory, MakesAllUnlessMemory, MeetsEditsUnlessMemory, MeetsUnlessMemory, HasMet};
+ghost use Rattle.scene_book.specs.Applying.{lacks_memory};
+ghost use Rattle.scene_book.specs.declared.edits.Edit.{Edit as EditSaid};
+ghost use Rattle.scene_book.specs.declared.edits.EditFault.{EditFault as FaultSaid};
 
 use crate::answer::Answer;
-use command_lines::{Command, LineFault, command};
+use crate::editor::{Editor, edit_lacks_memory, follow};
+use command_lines::{Command, ContourSpec, LineFault, LineSpec, command};
+use level_contours::first_missing;
+use line_sources::{LineEdits, pieces, unline};
 use map_board::laws::runs_show_right;
 use map_io::Gate;
-use map_lock::{EditorSeat, MapLock};
+use map_lock::MapLock;
 use map_text::Refusal;
 use scene_book::{Edit, EditFault};
-use scene_parts::NoMemory;
+use scene_parts::{Name, NoMemory};
 use std::alloc::Global;
 use std::sync::Wait;
 
@@ -36,10 +42,11 @@ pub struct Shared<'a, R, G> {
     pub gate: &'a G,
 }
 
-fn edit_lacks_memory(fault: &EditFault) -> bool
-    ensures { result ≡ applying.lacks_memory fault.now }
+/// Whether there was no memory for an edit.
+fn lacked(made: &Result<(), EditFault>) -> bool
+    ensures { result ≡ has_lacked made.now }
 {
-    matches!(fault, EditFault::NoMemory)
+    matches!(made, Err(EditFault::NoMemory))
 }
 
 fn is_blank_text(line: &[u8]) -> bool
@@ -61,53 +68,153 @@ fn line_lacks_memory(fault: &LineFault) -> bool
 }
 
 impl<'a, R: Wait, G: Gate> Shared<'a, R, G> {
-    /// Has an edit made: where the scene takes it, this is the next version.
-    fn edit(&self, editor: &mut EditorSeat, edit: Edit) -> Result<Answer, NoMemory>
-        requires { editor.old.table ≡ self.now.lock.now }
-        ensures { MeetsUnlessMemory editor.old (asks (commands.Edit edit)) result editor.new }
+    /// Has an edit made, at the board and in the scene that the editor knows.
+    fn make(&self, editor: &mut Editor, edit: Edit) -> Result<(), EditFault>
+        requires own { editor.old.seat.table ≡ self.now.lock.now }
+        requires knows { Knows editor.old }
+        ensures { MakesUnlessMemory editor.old edit result editor.new }
     {
         runs_show_right();
-        match self.lock.edit(self.rt, self.alloc, editor, edit) {
-            Ok(version) => Ok(Answer::Edited(version)),
+        follow(&mut editor.scene, self.alloc, &edit)?;
+        let version = self.lock.edit(self.rt, self.alloc, &mut editor.seat, edit)?;
+        editor.version = version;
+        Ok(())
+    }
+
+    /// Has edits made one after the other. The scene takes each of them, since they were tried on it.
+    fn make_all(&self, editor: &mut Editor, mut edits: Vec<Edit>) -> Result<(), NoMemory>
+        requires own { editor.old.seat.table ≡ self.now.lock.now }
+        requires knows { Knows editor.old }
+        ensures { MakesAllUnlessMemory editor.old edits.items result editor.new }
+    {
+        // The first is taken off the end.
+        edits.reverse();
+        while let Some(edit) = edits.pop() {
+            let made = self.make(editor, edit);
+            if lacked(&made) {
+                return Err(NoMemory);
+            }
+        }
+        Ok(())
+    }
+
+    /// Has an edit made: where the scene takes it, this is the next version.
+    fn edit(&self, editor: &mut Editor, edit: Edit) -> Result<Answer, NoMemory>
+        requires own { editor.old.seat.table ≡ self.now.lock.now }
+        requires knows { Knows editor.old }
+        ensures { MeetsUnlessMemory editor.old (asks (commands.Edit edit)) result editor.new }
+    {
+        match self.make(editor, edit) {
+            Ok(()) => Ok(Answer::Nothing),
             Err(fault) if edit_lacks_memory(&fault) => Err(NoMemory),
             Err(fault) => Ok(Answer::Refused(Refusal::Edit(fault))),
         }
     }
 
-    fn settle(&self, editor: &mut EditorSeat) -> Result<Answer, NoMemory>
-        requires own { editor.old.table ≡ self.now.lock.now }
-        requires unfinished { HasNotFinished editor.old.mine }
+    /// Has the edits of a line source made, or none where one of them would be refused.
+    fn make_or_refuse(
+        &self,
+        editor: &mut Editor,
+        edits: Result<LineEdits, EditFault>,
+    ) -> Result<Answer, NoMemory>
+        requires own { editor.old.seat.table ≡ self.now.lock.now }
+        requires knows { Knows editor.old }
+        ensures { (expected : Result (List EditSaid) FaultSaid)
+            → MatchesUnlessMemory lacks_memory edits expected
+            → MeetsEditsUnlessMemory editor.old expected result editor.new }
+    {
+        match edits {
+            Ok(edits) => {
+                self.make_all(editor, edits.into_vec())?;
+                Ok(Answer::Nothing)
+            }
+            Err(fault) if edit_lacks_memory(&fault) => Err(NoMemory),
+            Err(fault) => Ok(Answer::Refused(Refusal::Edit(fault))),
+        }
+    }
+
+    /// Puts a line source as point sources.
+    fn line_source(&self, editor: &mut Editor, line: &LineSpec) -> Result<Answer, NoMemory>
+        requires own { editor.old.seat.table ≡ self.now.lock.now }
+        requires knows { Knows editor.old }
+        ensures { MeetsUnlessMemory editor.old (asks (commands.Line line.now)) result editor.new }
+    {
+        let edits = pieces(self.alloc, line, &editor.scene);
+        self.make_or_refuse(editor, edits)
+    }
+
+    /// Takes the point sources of a line source out.
+    fn unline(&self, editor: &mut Editor, name: &Name) -> Result<Answer, NoMemory>
+        requires own { editor.old.seat.table ≡ self.now.lock.now }
+        requires knows { Knows editor.old }
+        ensures { MeetsUnlessMemory editor.old (asks (commands.Unline name.now)) result editor.new }
+    {
+        let edits = unline(self.alloc, name, &editor.scene);
+        self.make_or_refuse(editor, edits)
+    }
+
+    /// Settles the board for contours, unless a receiver of their grid is missing.
+    fn contours(&self, editor: &mut Editor, contour: ContourSpec) -> Result<Answer, NoMemory>
+        requires own { editor.old.seat.table ≡ self.now.lock.now }
+        requires unfinished { HasNotFinished editor.old.seat.mine }
+        requires knows { Knows editor.old }
+        ensures { MeetsUnlessMemory editor.old (asks (commands.Contour contour)) result editor.new }
+    {
+        if let Some(name) = first_missing(self.alloc, &contour, &editor.scene)? {
+            return Ok(Answer::Refused(Refusal::Edit(EditFault::NoSuchName { name })));
+        }
+        runs_show_right();
+        let shown = self
+            .lock
+            .settle(self.rt, self.alloc, &mut editor.seat, self.gate)?;
+        Ok(Answer::Contoured(contour, shown))
+    }
+
+    fn settle(&self, editor: &mut Editor) -> Result<Answer, NoMemory>
+        requires own { editor.old.seat.table ≡ self.now.lock.now }
+        requires unfinished { HasNotFinished editor.old.seat.mine }
+        requires knows { Knows editor.old }
         ensures { MeetsUnlessMemory editor.old (asks commands.Settle) result editor.new }
     {
         runs_show_right();
-        let look = self.lock.settle(self.rt, self.alloc, editor, self.gate)?;
+        let look = self
+            .lock
+            .settle(self.rt, self.alloc, &mut editor.seat, self.gate)?;
         Ok(Answer::Settled(look))
     }
 
-    fn look(&self, editor: &mut EditorSeat) -> Result<Answer, NoMemory>
-        requires { editor.old.table ≡ self.now.lock.now }
+    fn look(&self, editor: &mut Editor) -> Result<Answer, NoMemory>
+        requires own { editor.old.seat.table ≡ self.now.lock.now }
+        requires knows { Knows editor.old }
         ensures { MeetsUnlessMemory editor.old (asks commands.Look) result editor.new }
     {
         runs_show_right();
-        let look = self.lock.look_as_editor(self.rt, self.alloc, editor)?;
+        let look = self
+            .lock
+            .look_as_editor(self.rt, self.alloc, &mut editor.seat)?;
         Ok(Answer::Looked(look))
     }
 
-    fn execute(&self, editor: &mut EditorSeat, command: Command) -> Result<Answer, NoMemory>
-        requires own { editor.old.table ≡ self.now.lock.now }
-        requires unfinished { HasNotFinished editor.old.mine }
+    fn execute(&self, editor: &mut Editor, command: Command) -> Result<Answer, NoMemory>
+        requires own { editor.old.seat.table ≡ self.now.lock.now }
+        requires unfinished { HasNotFinished editor.old.seat.mine }
+        requires knows { Knows editor.old }
         ensures { MeetsUnlessMemory editor.old (asks command) result editor.new }
     {
         match command {
             Command::Edit(edit) => self.edit(editor, edit),
+            Command::Line(line) => self.line_source(editor, &line),
+            Command::Unline(name) => self.unline(editor, &name),
+            Command::Contour(contour) => self.contours(editor, contour),
             Command::Settle => self.settle(editor),
             Command::Look => self.look(editor),
         }
     }
 
-    fn read_and_execute(&self, editor: &mut EditorSeat, line: &[u8]) -> Result<Answer, NoMemory>
-        requires own { editor.old.table ≡ self.now.lock.now }
-        requires unfinished { HasNotFinished editor.old.mine }
+    fn read_and_execute(&self, editor: &mut Editor, line: &[u8]) -> Result<Answer, NoMemory>
+        requires own { editor.old.seat.table ≡ self.now.lock.now }
+        requires unfinished { HasNotFinished editor.old.seat.mine }
+        requires knows { Knows editor.old }
         ensures { MeetsUnlessMemory editor.old (demand_read (command_of line.now)) result editor.new }
     {
         match command(self.alloc, line) {
@@ -119,9 +226,10 @@ impl<'a, R: Wait, G: Gate> Shared<'a, R, G> {
 
     /// Does a line of at most 65,536 bytes.
     #[tactic(auto, unfolding(crate::specs::Demands::demand_of))]
-    pub fn line(&self, editor: &mut EditorSeat, line: &[u8]) -> Result<Answer, NoMemory>
-        requires own { editor.old.table ≡ self.now.lock.now }
-        requires unfinished { HasNotFinished editor.old.mine }
+    pub fn line(&self, editor: &mut Editor, line: &[u8]) -> Result<Answer, NoMemory>
+        requires own { editor.old.seat.table ≡ self.now.lock.now }
+        requires unfinished { HasNotFinished editor.old.seat.mine }
+        requires knows { Knows editor.old }
         requires length { length line.now ≤ line_limit }
         ensures { MeetsUnlessMemory editor.old (demand_of line.now) result editor.new }
     {
@@ -133,9 +241,10 @@ impl<'a, R: Wait, G: Gate> Shared<'a, R, G> {
     }
 
     /// Does a line of any length.
-    pub fn any_line(&self, editor: &mut EditorSeat, line: &[u8]) -> Result<Answer, NoMemory>
-        requires own { editor.old.table ≡ self.now.lock.now }
-        requires unfinished { HasNotFinished editor.old.mine }
+    pub fn any_line(&self, editor: &mut Editor, line: &[u8]) -> Result<Answer, NoMemory>
+        requires own { editor.old.seat.table ≡ self.now.lock.now }
+        requires unfinished { HasNotFinished editor.old.seat.mine }
+        requires knows { Knows editor.old }
         ensures { MeetsUnlessMemory editor.old (demand_of line.now) result editor.new }
     {
         if line.len() > LONGEST {
@@ -149,8 +258,8 @@ impl<'a, R: Wait, G: Gate> Shared<'a, R, G> {
 /// The refusal of a line of more than 65,536 bytes, for which nothing is asked of the board.
 #[tactic(auto, unfolding(crate::specs::Demands::demand_of))]
 pub fn refuse_long() -> Answer
-    ensures met { (seat : BoardSeat) (line : List ℕ) → line_limit < length line
-        → HasMet seat (demand_of line) result seat }
+    ensures met { (seat : BoardSeat) (journal : List EditSaid) (line : List ℕ) → line_limit < length line
+        → HasMet seat (effect_of journal (demand_of line)) result seat }
     ensures few { ShowsFew result }
 {
     Answer::Refused(Refusal::LongLine)

@@ -3,9 +3,14 @@ ghost use Rattle.std.specs.Prelude.{None};
 
 use crate::status::Status;
 use crate::tests::taken_of;
-use map_io::{Failed, Gate, Source};
+use map_io::{Failed, FreeSource, Gate, Source};
 use std::sync::atomic::{AtomicU64, Ordering};
 use std::test::Fail;
+
+const SOURCE: &str =
+    "{\"do\":\"source\",\"name\":\"s\",\"kind\":\"industry\",\"x\":0,\"y\":0,\"h\":2000,\"lw\":[null,null,null,null,10000,null,null,null]}\n";
+
+const RECEIVER: &str = "{\"do\":\"receiver\",\"name\":\"r\",\"x\":100000,\"y\":0,\"h\":2000}\n";
 
 const SCENE: &str =
     r#"{"do":"source","name":"s","kind":"industry","x":0,"y":0,"h":2000,"lw":[null,null,null,null,10000,null,null,null]}
@@ -22,22 +27,22 @@ const SETTLED: &str =
 // How often one looks whether another has come.
 const TURNS: u32 = 500_000_000;
 
-// Whether it comes, within many turns.
-fn comes(other: &AtomicU64) -> bool {
+// Waits for another, and notes where it hasn't come within many turns.
+fn wait_for(other: &AtomicU64, missed: &AtomicU64) {
     for _ in 0..TURNS {
         if other.load(Ordering::SeqCst) > 0 {
-            return true;
+            return;
         }
     }
-    false
+    missed.store(1, Ordering::SeqCst);
 }
 
-// A source that gives a scene, and then a settle. Where it waits for a worker, it reads the settle once one has come, or
-// many turns later.
+// A source that gives a source, a receiver and a settle, one a read. Before the settle it waits until a worker has come.
 #[derive(Drop)]
 struct SlowSource<'a> {
     reads: u64,
-    worker: Option<&'a AtomicU64>,
+    worker: &'a AtomicU64,
+    missed: &'a AtomicU64,
 }
 
 impl Source for SlowSource<'_> {
@@ -46,84 +51,142 @@ impl Source for SlowSource<'_> {
     ghost faults = { λ _. 0 };
 
     fn read(&mut self, buf: &mut [u8]) -> Result<usize, Failed> {
-        if self.reads >= 2 {
-            return Ok(0);
-        }
-        let lines = if self.reads == 0 { SCENE } else { SETTLE };
-        if self.reads == 1 {
-            let _ = self.worker.is_some_and(|worker| comes(worker));
+        let line = match self.reads {
+            0 => SOURCE,
+            1 => RECEIVER,
+            2 => SETTLE,
+            _ => return Ok(0),
+        };
+        if self.reads == 2 {
+            wait_for(self.worker, self.missed);
         }
         self.reads += 1;
-        let count = lines.len().min(buf.len());
-        buf[..count].copy_from_slice(&lines.as_bytes()[..count]);
+        let count = line.len().min(buf.len());
+        buf[..count].copy_from_slice(&line.as_bytes()[..count]);
         Ok(count)
     }
 }
 
-// A gate at which two workers meet: each says that it has come, and the editor and both of them wait until both have, or for
-// many turns. There is a job for each of the three.
+// A gate that notes who has arrived. Two workers wait there for one another, and the editor for both.
 #[derive(Drop)]
 struct Meeting<'a> {
     first: &'a AtomicU64,
     second: &'a AtomicU64,
+    missed: &'a AtomicU64,
 }
 
 impl Gate for Meeting<'_> {
-    fn pass(&self, worker: u32, _row: u32) {
-        if worker == 1 {
+    fn pass(&self, number: u32, _place: u32) {
+        if number == 1 {
             self.first.store(1, Ordering::SeqCst);
         }
-        if worker == 2 {
+        if number == 2 {
             self.second.store(1, Ordering::SeqCst);
         }
-        let _ = comes(self.first) && comes(self.second);
+        if number != 1 {
+            wait_for(self.first, self.missed);
+        }
+        if number != 2 {
+            wait_for(self.second, self.missed);
+        }
     }
 }
 
-// A gate that notes the first worker.
+// A gate that notes when the first worker has passed.
 #[derive(Drop)]
 struct Noting<'a> {
     first: &'a AtomicU64,
 }
 
 impl Gate for Noting<'_> {
-    fn pass(&self, worker: u32, _row: u32) {
-        if worker == 1 {
+    fn pass(&self, number: u32, _place: u32) {
+        if number == 1 {
             self.first.store(1, Ordering::SeqCst);
         }
     }
 }
 
+// A gate that counts those who pass it, by number and by place: each has a digit of its own.
+#[derive(Drop)]
+struct Counting<'a> {
+    numbers: &'a AtomicU64,
+    places: &'a AtomicU64,
+}
+
+impl Gate for Counting<'_> {
+    fn pass(&self, number: u32, place: u32) {
+        self.numbers.fetch_add(digit(number), Ordering::SeqCst);
+        self.places.fetch_add(digit(place), Ordering::SeqCst);
+    }
+}
+
+// One, in the hexadecimal digit of this number.
+fn digit(number: u32) -> u64 {
+    match number {
+        0 => 0x1,
+        1 => 0x10,
+        2 => 0x100,
+        _ => 0x1000,
+    }
+}
+
 #[test]
 fn two_workers_meet_at_the_gate(rt: HostRuntime) -> Result<(), Fail> {
-    let (first, second) = (AtomicU64::new(0), AtomicU64::new(0));
-    let mut source = SlowSource {
-        reads: 0,
-        worker: None,
-    };
+    let alloc = rt.alloc();
+    let (first, second, missed) = (AtomicU64::new(0), AtomicU64::new(0), AtomicU64::new(0));
+    let input = format!(in alloc; "{SCENE}{SETTLE}")?;
+    let mut source = FreeSource::new(input.as_bytes().to_vec(alloc)?);
     let gate = Meeting {
         first: &first,
         second: &second,
+        missed: &missed,
     };
-    let (report, rows) = taken_of(&rt, rt.alloc(), &["--workers=2"], &mut source, 0, &gate)?;
+    let (report, rows) = taken_of(&rt, alloc, &["--workers=2"], &mut source, 0, &gate)?;
     assert_eq!(rt; report.status, Status::Done);
     assert_eq!(rt; rows.as_slice(), SETTLED.as_bytes());
     let came = (first.load(Ordering::SeqCst), second.load(Ordering::SeqCst));
-    assert_eq!(rt; came, (1, 1));
+    assert_eq!(rt; (came, missed.load(Ordering::SeqCst)), ((1, 1), 0));
     Ok(())
 }
 
 #[test]
 fn a_worker_solves_before_the_settle_is_read(rt: HostRuntime) -> Result<(), Fail> {
-    let first = AtomicU64::new(0);
+    let (first, missed) = (AtomicU64::new(0), AtomicU64::new(0));
     let mut source = SlowSource {
         reads: 0,
-        worker: Some(&first),
+        worker: &first,
+        missed: &missed,
     };
     let gate = Noting { first: &first };
     let (report, rows) = taken_of(&rt, rt.alloc(), &["--workers=1"], &mut source, 0, &gate)?;
     assert_eq!(rt; report.status, Status::Done);
+    assert_eq!(rt;
+        rows.as_slice(),
+        b"settle,2,1,,,,\nrow,2,r,current,,51.62,51.64\n".as_slice()
+    );
+    assert_eq!(rt;
+        (first.load(Ordering::SeqCst), missed.load(Ordering::SeqCst)),
+        (1, 0)
+    );
+    Ok(())
+}
+
+#[test]
+fn the_gate_is_told_who_passes_with_which_row(rt: HostRuntime) -> Result<(), Fail> {
+    let alloc = rt.alloc();
+    let (numbers, places) = (AtomicU64::new(0), AtomicU64::new(0));
+    let input = format!(in alloc; "{SCENE}{SETTLE}")?;
+    let mut source = FreeSource::new(input.as_bytes().to_vec(alloc)?);
+    let gate = Counting {
+        numbers: &numbers,
+        places: &places,
+    };
+    let (_, rows) = taken_of(&rt, alloc, &[], &mut source, 0, &gate)?;
     assert_eq!(rt; rows.as_slice(), SETTLED.as_bytes());
-    assert_eq!(rt; first.load(Ordering::SeqCst), 1);
+    let passed = (
+        numbers.load(Ordering::SeqCst),
+        places.load(Ordering::SeqCst),
+    );
+    assert_eq!(rt; passed, (0x3, 0x111));
     Ok(())
 }

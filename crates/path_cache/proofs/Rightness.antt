@@ -21,6 +21,7 @@ kept-or (Some b) other same = same b refl
 
 pub refreshed-is : (book : Book) (r : Receiver) (kept : List Bundle) (marks : List Bool) → Stand book r kept marks
     → refreshed book r kept marks ≡ bundles_of book r
+unfolding refreshed_bundle
 refreshed-is book r kept marks stand =
     map-on (refreshed_bundle book r kept marks) (λ s. bundle_of book s r) (sources_within book r)
     (λ s c. kept-or (unmarked s.name kept marks) (bundle_of book s r) (λ b found. stand s b c found))

@@ -17,7 +17,7 @@ abbrev pub unmarked : List ℕ → List Bundle → List Bool → Option Bundle
 unmarked name kept marks = option_map (λ pair. pair.0) (find (is_unmarked_of name) (zip kept marks))
 
 -- the unmarked kept bundle of a source exactly as it stands, where there is one, and else the scene's
-abbrev pub refreshed_bundle : Book → Receiver → List Bundle → List Bool → Source → Bundle
+unfoldable pub refreshed_bundle : Book → Receiver → List Bundle → List Bool → Source → Bundle
 refreshed_bundle book r kept marks s = unwrap_or (unmarked s.name kept marks) (bundle_of book s r)
 
 -- that of each source within reach, in the order of sources

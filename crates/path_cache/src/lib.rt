@@ -6,8 +6,6 @@ mod keeping;
 pub mod laws;
 mod preparing;
 mod refreshing;
-#[cfg(test)]
-mod tests;
 
 pub use path_calc::{Bundle, NoMemory, PreparedSource, Steps};
 pub use preparing::prepare;

@@ -1,7 +1,7 @@
 //! A refresh of the bundles of one receiver.
-ghost use Rattle.std.specs.Prelude.{◌≡◌, ◌≤◌, ◌+◌, ◌++◌, IfOk, OnOk, length, map};
+ghost use Rattle.std.specs.Prelude.{◌≡◌, ◌≤◌, ◌+◌, ◌++◌, IfOk, OnOk, length, map, if◌then◌else◌};
 ghost use Rattle.path_calc.specs.Prepared.{prepared_of};
-ghost use Rattle.path_cache.specs.Refreshed.{CanRefresh, refreshed, count_wanted};
+ghost use Rattle.path_cache.specs.Refreshed.{CanRefresh, refreshed, refreshed_bundle, is_wanted, count_wanted};
 ghost use Rattle.path_cache.specs.OfOneSource.{refreshed_of_one, steps_of_one};
 
 use crate::keeping::find_unmarked;
@@ -100,10 +100,38 @@ impl<'a> Renewal<'a> {
         if !within(self.scene.globals().reach, source.at, receiver.at) {
             return Ok(());
         }
-        let bundle = match find_unmarked(self.kept, self.marks, &source.name, bundles.len()) {
-            Some(unmarked) => unmarked.clone()?,
-            None => bundle_between(alloc, self.scene, source, from, receiver, &self.to, steps)?,
-        };
+        let bundle = self.bundle(alloc, source, from, bundles.len(), steps)?;
         Ok(bundles.push(bundle)?)
+    }
+
+    /// The unmarked kept bundle of a source, which may stand at a place, and else the scene's.
+    #[tactic(auto, unfolding(crate::specs::Refreshed::refreshed_bundle))]
+    fn bundle<L: Ledger>(
+        &self,
+        alloc: Global,
+        source: &PointSource,
+        from: &PreparedSource,
+        place: usize,
+        steps: &mut Steps<L>,
+    ) -> Result<Bundle, NoMemory>
+        requires kept { CanRefresh self.now.kept.now self.now.marks.now }
+        requires prepared { from.now ≡ prepared_of source.now }
+        ensures bundle { IfOk result (λ bundle. bundle ≡ refreshed_bundle self.now.scene.now
+            self.now.receiver.now self.now.kept.now self.now.marks.now source.now) }
+        ensures steps { OnOk result (steps.new ≡ steps.old
+            + (if is_wanted self.now.kept.now self.now.marks.now source.now then 1 else 0)) }
+    {
+        match find_unmarked(self.kept, self.marks, &source.name, place) {
+            Some(unmarked) => Ok(unmarked.clone()?),
+            None => bundle_between(
+                alloc,
+                self.scene,
+                source,
+                from,
+                self.receiver,
+                &self.to,
+                steps,
+            ),
+        }
     }
 }

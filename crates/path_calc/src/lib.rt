@@ -24,8 +24,6 @@ mod segments;
 mod small_sums;
 mod steps;
 mod strings;
-#[cfg(test)]
-mod tests;
 mod weights;
 
 pub use addition::{levels, total_level};

@@ -4,8 +4,6 @@
 pub mod laws;
 mod legs;
 mod path;
-#[cfg(test)]
-mod tests;
 
 pub use legs::Legs;
 pub use path::Path;

@@ -16,6 +16,3 @@ pub use desk::Desk;
 pub use ended::Ended;
 pub use worker::work;
 pub use workers::with_workers;
-
-#[cfg(test)]
-mod tests;

@@ -11,8 +11,6 @@ mod named;
 mod register;
 mod scene;
 mod shared;
-#[cfg(test)]
-mod tests;
 
 pub use edits::{Edit, EditFault, Logged};
 pub use scene::Scene;

@@ -16,8 +16,6 @@ mod places;
 mod plan;
 mod reflection;
 mod step;
-#[cfg(test)]
-mod tests;
 mod turns;
 
 pub use aims::dir_of;

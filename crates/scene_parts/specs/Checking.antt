@@ -55,9 +55,13 @@ corners_of points = do
 unfoldable pub height_of : ℤ → Result ℕ PartFault
 height_of h = in_range fields.H 1 greatest_height h
 
+-- a level in 0.01 dB in a range, where there is power
+unfoldable pub power_within : ℤ → ℤ → Option ℤ → Result (Option ℤ) PartFault
+power_within low high level = optional (within fields.Lw low high) level
+
 -- a sound power level in 0.01 dB, where there is power
-unfoldable pub power_of : Option ℤ → Result (Option ℤ) PartFault
-power_of level = optional (within fields.Lw (neg_ℤ (pos 2000)) (pos 16000)) level
+abbrev pub power_of : Option ℤ → Result (Option ℤ) PartFault
+power_of = power_within (neg_ℤ (pos 2000)) (pos 16000)
 
 -- a directivity correction in 0.01 dB
 unfoldable pub directivity_of : ℤ → Result ℤ PartFault
@@ -102,7 +106,7 @@ check_outline shape corners =
     if nat_lt (length corners) (least_corners shape) then Err (FewCorners (length corners))
     else (if is_flat shape corners then Err FlatShape else Ok tt)
 
--- SideTooLong: the first side that is longer than 262,143 mm, in_range from a number
+-- SideTooLong: the first side that is longer than 262,143 mm, counted from a number
 abbrev pub check_sides_from : ℕ → List Side → Result (Unit {0}) PartFault
 check_sides_from i [] = Ok tt
 check_sides_from i (side ∷ sides) =

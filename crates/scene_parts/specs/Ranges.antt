@@ -16,10 +16,14 @@ pub record IsHeight (h : ℕ) : Type 0 where
   pub low : 1 ≤ h
   pub high : h ≤ greatest_height
 
+-- a level in a range, where there is power
+abbrev pub is_power_within : ℤ → ℤ → Option ℤ → Bool
+is_power_within low high None = true
+is_power_within low high (Some level) = int_le low level && int_le level high
+
 -- a sound power level, from -20 dB to 160 dB, where there is power
 abbrev pub is_power : Option ℤ → Bool
-is_power None = true
-is_power (Some level) = int_le (neg_ℤ (pos 2000)) level && int_le level (pos 16000)
+is_power = is_power_within (neg_ℤ (pos 2000)) (pos 16000)
 
 -- two points in one place
 abbrev pub is_same : Pt → Pt → Bool

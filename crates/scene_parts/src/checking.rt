@@ -83,7 +83,7 @@ fn source(
 {
     let at = plan_point(Field::X, Field::Y, x, y)?;
     let h = height(h)?;
-    let lw = powers(lw)?;
+    let lw = powers(-2000, 16000, lw)?;
     let dc = directivity(dc)?;
     let kind = kind_named(kind)?;
     let name = name.into_name();

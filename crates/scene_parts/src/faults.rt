@@ -21,7 +21,7 @@ pub enum PartFault {
     FewCorners { count: u32 },
     /// A building or a zone has no area, or all points of a barrier are in one place.
     FlatShape,
-    /// This side, in_range from 0, is longer than 262,143 mm; its length is rounded down.
+    /// This side, counted from 0, is longer than 262,143 mm; its length is rounded down.
     SideTooLong { side: u32, mm: u32 },
     /// A surface that reflects at most 200 per mille is no mirror (ISO 9613-2, 7.5). 0 means that nothing is reflected.
     WeakMirror { rho: u16 },

@@ -11,6 +11,7 @@ mod edge;
 mod edges;
 mod ends;
 mod faults;
+pub mod fields;
 mod kinds;
 pub mod limits;
 mod memory;
@@ -22,8 +23,6 @@ mod raw;
 mod settings;
 mod shapes;
 mod size_test;
-#[cfg(test)]
-mod tests;
 mod texts;
 mod words;
 

@@ -5,7 +5,5 @@
 
 mod cutting;
 pub mod laws;
-#[cfg(test)]
-mod tests;
 
 pub use cutting::{crossings, cuts};

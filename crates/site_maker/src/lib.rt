@@ -12,6 +12,3 @@ mod sites;
 
 pub use memory::NoMemory;
 pub use sites::site;
-
-#[cfg(test)]
-mod tests;

@@ -16,8 +16,6 @@ mod pair;
 mod screens;
 mod sides;
 mod single;
-#[cfg(test)]
-mod tests;
 mod top;
 
 pub use screens::Screens;

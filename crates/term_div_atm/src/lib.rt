@@ -37,6 +37,3 @@ fn one_metre_at_least(d: Iv) -> Iv
 {
     max(exact(1), d)
 }
-
-#[cfg(test)]
-mod tests;

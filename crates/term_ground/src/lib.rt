@@ -16,8 +16,6 @@ mod region;
 mod route;
 mod share;
 mod stretch;
-#[cfg(test)]
-mod tests;
 
 pub use attenuation::{a_gr, a_gr_between};
 pub use decays::{Decays, decays_at};

@@ -5,8 +5,6 @@ mod crossings;
 mod grids;
 pub mod laws;
 mod parts;
-#[cfg(test)]
-mod tests;
 mod touching;
 
 pub use grids::puts;

@@ -19,6 +19,3 @@ pub use laws::{Fact, between_none, kept_where, last_step, run_through};
 pub use machine::Machine;
 pub use seat::Seat;
 pub use turn::{NoMemory, Turn};
-
-#[cfg(test)]
-mod tests;

@@ -6,8 +6,9 @@ use Rattle.noise_map.proofs.lines.do_lines.Goals as goal
 
 pub loop-status-init : goal.loop-status-init
 loop-status-init g c = record {
-  progress = started c.args.words c.in-Ok.reader c.args.editor.now _ _ c.in-Ok.ensures c.requires.nothing;
+  progress = started c.args.words c.in-Ok.reader c.args.editor.now.seat _ _ c.in-Ok.ensures c.requires.nothing;
   own = c.requires.own;
+  knows = c.requires.knows;
   within = within_at_start _ c.in-Ok.ensures;
   reads = refl;
   writes = refl;
@@ -15,12 +16,12 @@ loop-status-init g c = record {
 
 pub returns-in_default-clause-ended : goal.returns-in_default-clause-ended
 returns-in_default-clause-ended g c =
-    unread c.args.words c.args.editor.now (g.S.Source.left c.args.input.now) (g.K.Sink.taken c.args.out.now) c.requires.nothing c.without_memory.result.status c.without_memory.result.lines
+    unread c.args.words c.args.editor.now.seat (g.S.Source.left c.args.input.now) (g.K.Sink.taken c.args.out.now) c.requires.nothing c.without_memory.result.status c.without_memory.result.lines
     c.without_memory.ensures.status c.without_memory.ensures.lines
 
 pub returns-in-Some-clause-ended : goal.returns-in-Some-clause-ended
 returns-in-Some-clause-ended g c =
-    ended-reading c.args.words c.next-next.result c.in-Some.status c.loop-status.reader c.next-next.new.self c.loop-status.lines c.loop-status.version c.loop-status.refused c.args.editor.now c.loop-status.editor _ _ _ _ _
+    ended-reading c.args.words c.next-next.result c.in-Some.status c.loop-status.reader c.next-next.new.self c.loop-status.lines c.loop-status.refused c.args.editor.now.seat c.loop-status.editor.seat _ _ _ _ _
     c.loop-status.invariant.progress c.next-next.ensures.within.1
     (sym c.ending.ensures ∙ c.in-Some.is) c.next-next.ensures.going
     (λ h. let kept = c.next-next.ensures.stopped h in (kept.0, kept.1, ap g.S.Source.left kept.2))
@@ -34,7 +35,7 @@ loop-status-smaller g c =
 pub returns-in-Err-clause-ended : goal.returns-in-Err-clause-ended
 returns-in-Err-clause-ended g c =
     rw c.status_when.ensures
-    (turned-off c.args.words c.next-next.result c.line.result.now c.loop-status.reader c.next-next.new.self c.loop-status.lines c.loop-status.version c.loop-status.refused c.args.editor.now c.loop-status.editor c.do_and_show.new.editor
+    (turned-off c.args.words c.next-next.result c.line.result.now c.loop-status.reader c.next-next.new.self c.loop-status.lines c.loop-status.refused c.args.editor.now.seat c.loop-status.editor c.do_and_show.new.editor
     _ _ _ _ _ _ c.loop-status.invariant.progress
     (sym c.ending.ensures ∙ c.in_default-ending.is) c.next-next.ensures.going
     (λ h. let kept = c.next-next.ensures.stopped h in (kept.0, kept.1, ap g.S.Source.left kept.2)) c.next-next.ensures.within.1 c.line.ensures c.in-Err.stopped c.in-Err.ensures.done c.next-next.ensures.few.1)
@@ -58,13 +59,14 @@ returns-in-Err-clause-write_fault g c = rw c.status_when.ensures (write_told c.i
 pub loop-status-preserved : goal.loop-status-preserved
 loop-status-preserved g c =
     let on =
-    turned c.args.words c.next-next.result c.line.result.now c.loop-status.reader c.next-next.new.self c.loop-status.lines c.loop-status.version c.loop-status.refused c.args.editor.now c.loop-status.editor c.do_and_show.new.editor
+    turned c.args.words c.next-next.result c.line.result.now c.loop-status.reader c.next-next.new.self c.loop-status.lines c.loop-status.refused c.args.editor.now.seat c.loop-status.editor c.do_and_show.new.editor
     (g.S.Source.left c.args.input.now) (g.S.Source.left c.loop-status.input) (g.S.Source.left c.next-next.new.source) (g.K.Sink.taken c.args.out.now) (g.K.Sink.taken c.loop-status.out) (g.K.Sink.taken c.do_and_show.new.out) c.loop-status.invariant.progress
     (sym c.ending.ensures ∙ c.in_default-ending.is) c.next-next.ensures.going
-    (λ h. let kept = c.next-next.ensures.stopped h in (kept.0, kept.1, ap g.S.Source.left kept.2)) c.next-next.ensures.within.1 c.line.ensures c.in-Ok-do_and_show.done c.in-Ok-do_and_show.ensures.done in
+    (λ h. let kept = c.next-next.ensures.stopped h in (kept.0, kept.1, ap g.S.Source.left kept.2)) c.next-next.ensures.within.1 c.line.ensures c.in-Ok-do_and_show.is_refused c.in-Ok-do_and_show.ensures.done in
     record {
-      progress = on;
-      own = on.did.same.table ∙ c.requires.own;
+      progress = on.0;
+      knows = on.1;
+      own = on.0.did.same.table ∙ c.requires.own;
       within = c.next-next.ensures.within.1;
       reads = c.next-next.ensures.well (line_is_no_fault _ _ (sym c.ending.ensures ∙ c.in_default-ending.is)) ∙ c.loop-status.invariant.reads;
       writes = c.in-Ok-do_and_show.ensures.cause.done ∙ c.loop-status.invariant.writes;

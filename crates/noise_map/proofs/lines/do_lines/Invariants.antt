@@ -2,12 +2,14 @@
 use Rattle.std.proofs.Common.{◌≡◌, ◌≤◌, ◌-◌}
 use Rattle.map_io.specs.Reading.{bytes_read, input_limit}
 use Rattle.noise_map.specs.Progress.{Progress}
+use Rattle.noise_map.specs.Steps.{Knows}
 use Rattle.noise_map.proofs.lines.do_lines.Given as goal
 
 abbrev pub invariant-loop-status : goal.invariant-loop-status
 invariant-loop-status g l = record {
-  progress : Progress l.words l.reader l.lines l.version l.refused l.initial.editor l.editor (g.S.Source.left l.initial.input) (g.S.Source.left l.input) (g.K.Sink.taken l.initial.out) (g.K.Sink.taken l.out);
-  own : l.editor.table ≡ l.shared.lock.now;
+  progress : Progress l.words l.reader l.lines l.refused l.initial.editor.seat l.editor.seat (g.S.Source.left l.initial.input) (g.S.Source.left l.input) (g.K.Sink.taken l.initial.out) (g.K.Sink.taken l.out);
+  own : l.editor.seat.table ≡ l.shared.lock.now;
+  knows : Knows l.editor;
   within : bytes_read l.reader ≤ input_limit;
   reads : g.S.Source.faults l.input ≡ g.S.Source.faults l.initial.input;
   writes : g.K.Sink.faults l.out ≡ g.K.Sink.faults l.initial.out;

@@ -4,18 +4,20 @@ use Rattle.map_io.specs.Lines.{lines}
 use Rattle.path_calc.specs.Levels.{IsLevel}
 use Rattle.noise_map.specs.Making.{making_of, made_by, site_lines}
 use Rattle.noise_map.specs.Progress.{Did}
+use Rattle.noise_map.specs.Steps.{Knows}
 use Rattle.noise_map.proofs.make.do_site.Given as goal
 
 abbrev pub invariant-loop-line : goal.invariant-loop-line
 invariant-loop-line g l = record {
   whole : take l.lines (site_lines l.number) ++ lines l.rest ≡ site_lines l.number;
   counted : l.lines + length (lines l.rest) ≡ length (site_lines l.number);
-  did : Did l.initial.editor l.editor (take l.lines (site_lines l.number));
+  did : Did l.initial.editor.seat l.editor.seat (take l.lines (site_lines l.number));
   made : l.making ≡ making_of (made_by (take l.lines (site_lines l.number)));
   few : l.lines + length l.rest ≤ 65536;
   refused : l.making.refused ≤ l.lines;
   level : IsLevel l.making.span;
-  own : l.editor.table ≡ l.shared.lock.now;
+  own : l.editor.seat.table ≡ l.shared.lock.now;
+  knows : Knows l.editor;
 }
 
 abbrev pub decreases-loop-line : goal.decreases-loop-line

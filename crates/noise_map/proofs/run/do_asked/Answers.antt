@@ -15,7 +15,7 @@ pub returns-in-None-clause-ended : goal.returns-in-None-clause-ended
 returns-in-None-clause-ended g c =
     let ending = c.do_lines.result in
     let editor = c.do_lines.new.editor in
-    subst (λ (make : Option ℕ). AskedEnded make c.args.words ending.status ending.lines (λ (done : List (List ℕ)). HasEnded ending.status done c.args.editor.now editor) editor
+    subst (λ (make : Option ℕ). AskedEnded make c.args.words ending.status ending.lines (λ (done : List (List ℕ)). HasEnded ending.status done c.args.editor.now.seat editor.seat) editor.seat
     (g.S.Source.left c.args.input.now) (g.S.Source.left c.do_lines.new.input) (g.K.Sink.taken c.args.out.now) (g.K.Sink.taken c.do_lines.new.out))
     (sym c.in-None.is) c.do_lines.ensures.ended
 

@@ -4,7 +4,7 @@ use denote.Param.{param}
 use denote.Param.Send.{arg_send, mut_send, param_send, sendable, shr_send}
 use Rattle.std.proofs.Common.{[], ◌∷◌}
 use Rattle.command_words.specs.contracts.line.CommandLine as CommandLine
-use Rattle.map_lock.specs.contracts.seats.EditorSeat as EditorSeat
+use Rattle.noise_map.specs.contracts.editor.Editor as Editor
 use Rattle.noise_map.specs.contracts.step.Shared as Shared
 use Rattle.noise_map.proofs.Crossing.{MapLock-sync, WorkerSeat-send, closure_crosses, editor_crosses, shared_by_threads}
 use Rattle.noise_map.proofs.Crews.{all-back}
@@ -15,7 +15,7 @@ returns-clause-back g c = all-back (λ back. back.job) c.args.shared.now.lock.no
 
 pub with_workers-requires-send-F : goal.with_workers-requires-send-F
 with_workers-requires-send-F g c κs within =
-    param_send 3 _ (arg_send _ no _ (closure_crosses _ (ShrRef _ _ (Shared.the_row _ (param 0 g.row.R) (param 1 g.row.G)) ∷ ShrRef _ _ CommandLine.the_row ∷ MutRef _ _ EditorSeat.the_row ∷ MutRef _ _ (param 2 g.row.S) ∷ MutRef _ _ (param 3 g.row.K) ∷ [])
+    param_send 3 _ (arg_send _ no _ (closure_crosses _ (ShrRef _ _ (Shared.the_row _ (param 0 g.row.R) (param 1 g.row.G)) ∷ ShrRef _ _ CommandLine.the_row ∷ MutRef _ _ Editor.the_row ∷ MutRef _ _ (param 2 g.row.S) ∷ MutRef _ _ (param 3 g.row.K) ∷ [])
     (shr_send _ _ _ (shared_by_threads _ (param 0 g.row.R) (param 1 g.row.G) c.type_bounds.sync-R c.type_bounds.sync-G), (shr_send _ _ CommandLine.the_row (search sendable depth 20), (mut_send _ _ _ editor_crosses, (mut_send _ _ _ c.type_bounds.send-S, (mut_send _ _ _ c.type_bounds.send-K, tt)))))))
 
 pub with_workers-requires-send-D-Seat : goal.with_workers-requires-send-D-Seat

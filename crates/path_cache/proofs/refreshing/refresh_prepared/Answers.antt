@@ -1,11 +1,15 @@
 use Rattle.std.proofs.Common.{◌+◌, ap, ◌∙◌, arith, length, flat_map}
 use Rattle.std.specs.Prelude.{sum_by}
+use Rattle.std.proofs.lemmas.Grind.{common_steps}
 use Rattle.std.proofs.lemmas.List.{take_all}
 use Rattle.path_calc.specs.Lengths.{is_within}
 use Rattle.path_cache.specs.Refreshed.{refreshed_bundle, is_wanted}
 use Rattle.path_cache.specs.OfOneSource.{refreshed_of_one, steps_of_one}
 use Rattle.path_cache.proofs.WithinReach.{flat-within, count-within, few-within}
 use Rattle.path_cache.proofs.refreshing.refresh_prepared.Goals as goal
+
+pub add-requires-clause-prepared : goal.add-requires-clause-prepared
+add-requires-clause-prepared g c = grind (arith, common_steps)
 
 pub returns-clause-value : goal.returns-clause-value
 returns-clause-value g c =

@@ -4,7 +4,7 @@ use Rattle.noise_map.proofs.Sites.{nothing-level, nothing-is_level}
 use Rattle.noise_map.proofs.making.Making.empty.Goals as goal
 
 pub returns-clause-made : goal.returns-clause-made
-returns-clause-made c = ap (λ (i : Interval). record { version = 0; refused = 0; receivers = 0; span = i }) (c.exact.ensures ∙ nothing-level)
+returns-clause-made c = ap (λ (i : Interval). record { refused = 0; receivers = 0; span = i }) (c.exact.ensures ∙ nothing-level)
 
 pub returns-clause-level : goal.returns-clause-level
 returns-clause-level c = rw (c.exact.ensures ∙ nothing-level) nothing-is_level

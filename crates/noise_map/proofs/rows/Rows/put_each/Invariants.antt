@@ -1,7 +1,7 @@
 -- The texts so far have been written to the same sink, and its count of faults has not risen.
 use Rattle.std.proofs.Common.{◌≡◌, take}
 use Rattle.std.specs.Io.KnownBytes.{Appends}
-use Rattle.noise_map.specs.Texts.{joined}
+use Rattle.noise_map.specs.Taking.{joined}
 use Rattle.noise_map.proofs.rows.Rows.put_each.Given as goal
 
 abbrev pub invariant-loop-text : goal.invariant-loop-text

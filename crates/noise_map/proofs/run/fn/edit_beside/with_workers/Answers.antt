@@ -5,7 +5,7 @@ pub returns : goal.returns
 returns g c =
     let words = c.captures.words in
     let ending = c.do_asked-ending in (
-      finished-asked words.make words ending.result.status ending.result.lines c.captures.editor.now ending.new.editor c.finish.new.seat _ _ _ _ ending.ensures.ended c.finish.ensures.turn c.finish.ensures.sound,
+      finished-asked words.make words ending.result.status ending.result.lines c.captures.editor.now.seat ending.new.editor.seat c.finish.new.seat _ _ _ _ ending.ensures.ended c.finish.ensures.turn c.finish.ensures.sound,
       ending.ensures.read_fault,
       ending.ensures.write_fault,
       ending.ensures.unread,

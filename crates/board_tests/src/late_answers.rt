@@ -1,0 +1,289 @@
+//! Two courses of a shared board in one thread, with ample memory: answers that land after later edits. The levels are from
+//! outside.
+ghost use Rattle.std.specs.Prelude.{◌≡◌, []};
+ghost use Rattle.map_board.specs.Seats.{owed};
+
+use crate::one_course::{source, take_job, work_once};
+use crate::solving::solve;
+use map_board::{Board, Landed, Shown, Took};
+use map_lock::{EditorSeat, MapLock, WorkerSeat};
+use scene_book::Edit;
+use scene_geom::Pt;
+use scene_parts::{Name, Part, PlainName, RawPart, RawPoints, RawPt, Receiver, check};
+use std::alloc::Global;
+use std::sync::Wait;
+use std::test::Fail;
+
+fn receiver(alloc: Global, x: i64) -> Option<Edit> {
+    Some(Edit::Put(Part::Receiver(Receiver {
+        name: Name::from_vec(b"r".to_vec(alloc).ok()?),
+        at: Pt::new(x.clamp(0, 200_000), 0),
+        h: 2000,
+    })))
+}
+
+fn corners(alloc: Global, places: &[(i64, i64)]) -> Option<RawPoints> {
+    let mut points = Vec::new(alloc);
+    for (x, y) in places {
+        points.push(RawPt { x: *x, y: *y }).ok()?;
+    }
+    Some(RawPoints::from_vec(points))
+}
+
+fn put(alloc: Global, raw: RawPart) -> Option<Edit> {
+    match check(alloc, raw) {
+        Ok(checked) => Some(Edit::from(checked)),
+        Err(_) => None,
+    }
+}
+
+/// A building with these corners.
+fn building(alloc: Global, name: PlainName, places: &[(i64, i64)], h: i64) -> Option<Edit> {
+    let points = corners(alloc, places)?;
+    put(
+        alloc,
+        RawPart::Building {
+            name,
+            points,
+            h,
+            rho: 0,
+        },
+    )
+}
+
+/// A house far from the way, between these in the east.
+fn house(alloc: Global, west: i64, east: i64) -> Option<Edit> {
+    let places = [
+        (west, 200_000),
+        (east, 200_000),
+        (east, 210_000),
+        (west, 210_000),
+    ];
+    let name = PlainName::from_vec(b"house".to_vec(alloc).ok()?);
+    building(alloc, name, &places, 5000)
+}
+
+/// A shed beside the way, in the way of a string round the barrier.
+fn shed(alloc: Global) -> Option<Edit> {
+    let places = [
+        (72_000, 3000),
+        (78_000, 3000),
+        (78_000, 9000),
+        (72_000, 9000),
+    ];
+    let name = PlainName::from_vec(b"shed".to_vec(alloc).ok()?);
+    building(alloc, name, &places, 6000)
+}
+
+/// A barrier across the way from the source to the receiver.
+fn barrier(alloc: Global) -> Option<Edit> {
+    let points = corners(alloc, &[(50_000, -10_000), (50_000, 10_000)])?;
+    let name = PlainName::from_vec(b"barrier".to_vec(alloc).ok()?);
+    put(
+        alloc,
+        RawPart::Barrier {
+            name,
+            points,
+            h: 12_000,
+            density: 20,
+            rho: 0,
+        },
+    )
+}
+
+fn without_house(alloc: Global) -> Option<Edit> {
+    Some(Edit::Remove(Name::from_vec(b"house".to_vec(alloc).ok()?)))
+}
+
+// An edit that is accepted.
+fn edit<R: Wait>(
+    rt: &R,
+    alloc: Global,
+    lock: &MapLock,
+    editor: &mut EditorSeat,
+    edit: Option<Edit>,
+) -> Option<()>
+    requires own { editor.old.table ≡ lock.now }
+    ensures own { editor.new.table ≡ lock.now }
+    ensures parts { editor.new.parts ≡ editor.old.parts }
+{
+    let edit = edit?;
+    if lock.edit(rt, alloc, editor, edit).is_ok() {
+        Some(())
+    } else {
+        None
+    }
+}
+
+// A source, a receiver and a house.
+fn put_three<R: Wait>(rt: &R, alloc: Global, lock: &MapLock, editor: &mut EditorSeat) -> Option<()>
+    requires own { editor.old.table ≡ lock.now }
+    ensures own { editor.new.table ≡ lock.now }
+    ensures parts { editor.new.parts ≡ editor.old.parts }
+{
+    edit(rt, alloc, lock, editor, source(alloc))?;
+    edit(rt, alloc, lock, editor, receiver(alloc, 100_000))?;
+    edit(rt, alloc, lock, editor, house(alloc, 200_000, 210_000))
+}
+
+// The house moved, and the barrier put.
+fn put_barrier<R: Wait>(
+    rt: &R,
+    alloc: Global,
+    lock: &MapLock,
+    editor: &mut EditorSeat,
+) -> Option<()>
+    requires own { editor.old.table ≡ lock.now }
+    ensures own { editor.new.table ≡ lock.now }
+    ensures parts { editor.new.parts ≡ editor.old.parts }
+{
+    edit(rt, alloc, lock, editor, house(alloc, -300_000, -290_000))?;
+    edit(rt, alloc, lock, editor, barrier(alloc))
+}
+
+// The shed put, and the house removed.
+fn put_shed<R: Wait>(rt: &R, alloc: Global, lock: &MapLock, editor: &mut EditorSeat) -> Option<()>
+    requires own { editor.old.table ≡ lock.now }
+    ensures own { editor.new.table ≡ lock.now }
+    ensures parts { editor.new.parts ≡ editor.old.parts }
+{
+    edit(rt, alloc, lock, editor, shed(alloc))?;
+    edit(rt, alloc, lock, editor, without_house(alloc))
+}
+
+// Takes a job, which is solved and offered after the shed was put and the house removed.
+fn work_late<R: Wait>(
+    rt: &R,
+    alloc: Global,
+    lock: &MapLock,
+    editor: &mut EditorSeat,
+    worker: &mut WorkerSeat,
+) -> Option<Landed>
+    requires own { editor.old.table ≡ lock.now }
+    requires own_worker { worker.old.table ≡ lock.now }
+    requires free { owed worker.old.mine ≡ [] }
+    ensures own { editor.new.table ≡ lock.now }
+    ensures parts { editor.new.parts ≡ editor.old.parts }
+    ensures own_worker { worker.new.table ≡ lock.now }
+    ensures parts_of_worker { worker.new.parts ≡ worker.old.parts }
+{
+    let job = take_job(rt, lock, worker)?;
+    put_shed(rt, alloc, lock, editor)?;
+    match solve(alloc, job) {
+        Ok(answer) => Some(lock.offer(rt, worker, answer)),
+        Err(_) => None,
+    }
+}
+
+// A board on which an answer for version 5 landed at version 7, and what became of its two answers.
+fn landed_late<R: Wait>(rt: &R, alloc: Global) -> Option<(Board, Landed, Landed)> {
+    let (lock, mut editor) = MapLock::start(alloc).ok()?;
+    let mut first = lock.worker(rt, &mut editor);
+    let mut second = lock.worker(rt, &mut editor);
+    put_three(rt, alloc, &lock, &mut editor)?;
+    let early = work_once(rt, alloc, &lock, &mut first)?;
+    put_barrier(rt, alloc, &lock, &mut editor)?;
+    let late = work_late(rt, alloc, &lock, &mut editor, &mut second)?;
+    lock.join_worker(&mut editor, first);
+    lock.join_worker(&mut editor, second);
+    Some((lock.close(editor), early, late))
+}
+
+/// Whether it is stale by edit 6 with the level of version 5, from 35.61 to 35.62 dB, rounded outwards.
+fn is_stale_by_the_sixth(shown: &Shown) -> bool {
+    let Shown::Stale {
+        version: 5,
+        by: 6,
+        levels,
+    } = shown
+    else {
+        return false;
+    };
+    let (Some(low), Some(high)) = (levels.total.low(), levels.total.high()) else {
+        return false;
+    };
+    low >> 16 >= 3561 * 65_536 / 100 && high >> 16 <= 3562 * 65_536 / 100
+}
+
+fn first_shown(board: &Board) -> Option<Shown> {
+    if board.rows() == 0 {
+        None
+    } else {
+        Some(board.shown(0))
+    }
+}
+
+/// Whether the first row of a look is stale by edit 6.
+fn looks_stale(alloc: Global, board: &Board) -> Option<bool> {
+    let look = board.look(alloc).ok()?;
+    let row = look.rows.items().first()?;
+    Some(is_stale_by_the_sixth(&row.shown))
+}
+
+#[test]
+fn an_answer_that_lands_late_is_stale_by_the_first_later_edit(rt: HostRuntime) -> Result<(), Fail> {
+    let (board, early, late) = landed_late(&rt, rt.alloc()).ok_or("there is memory")?;
+    assert!(rt; matches!(early, Landed::Kept));
+    assert!(rt; matches!(late, Landed::Kept));
+    assert_eq!(rt; (board.version(), board.counts()), (7, [2, 2, 0, 0]));
+    let shown = first_shown(&board).ok_or("there is a receiver")?;
+    assert!(rt; is_stale_by_the_sixth(&shown));
+    assert!(rt; looks_stale(rt.alloc(), &board).ok_or("there is memory")?);
+    Ok(())
+}
+
+// Takes a job, which is solved and offered after its receiver was put at another place. Whether the other worker finds one
+// row out meanwhile, and what becomes of the answer.
+fn work_moved<R: Wait>(
+    rt: &R,
+    alloc: Global,
+    lock: &MapLock,
+    editor: &mut EditorSeat,
+    worker: &mut WorkerSeat,
+    other: &mut WorkerSeat,
+) -> Option<(bool, Landed)>
+    requires own { editor.old.table ≡ lock.now }
+    requires own_worker { worker.old.table ≡ lock.now }
+    requires own_other { other.old.table ≡ lock.now }
+    requires free { owed worker.old.mine ≡ [] }
+    ensures own { editor.new.table ≡ lock.now }
+    ensures parts { editor.new.parts ≡ editor.old.parts }
+    ensures own_worker { worker.new.table ≡ lock.now }
+    ensures parts_of_worker { worker.new.parts ≡ worker.old.parts }
+    ensures own_other { other.new.table ≡ lock.now }
+    ensures parts_of_other { other.new.parts ≡ other.old.parts }
+{
+    let job = take_job(rt, lock, worker)?;
+    let is_out = matches!(lock.take(rt, other), Took::Idle { taken: 1 });
+    edit(rt, alloc, lock, editor, receiver(alloc, 120_000))?;
+    match solve(alloc, job) {
+        Ok(answer) => Some((is_out, lock.offer(rt, worker, answer))),
+        Err(_) => None,
+    }
+}
+
+// A board whose receiver was put at another place while its job was out.
+fn moved_meanwhile<R: Wait>(rt: &R, alloc: Global) -> Option<(Board, bool, Landed)> {
+    let (lock, mut editor) = MapLock::start(alloc).ok()?;
+    let mut first = lock.worker(rt, &mut editor);
+    let mut second = lock.worker(rt, &mut editor);
+    edit(rt, alloc, &lock, &mut editor, source(alloc))?;
+    edit(rt, alloc, &lock, &mut editor, receiver(alloc, 100_000))?;
+    let (is_out, landed) = work_moved(rt, alloc, &lock, &mut editor, &mut first, &mut second)?;
+    lock.join_worker(&mut editor, first);
+    lock.join_worker(&mut editor, second);
+    Some((lock.close(editor), is_out, landed))
+}
+
+#[test]
+fn an_answer_for_a_receiver_that_was_moved_is_gone(rt: HostRuntime) -> Result<(), Fail> {
+    let (mut board, is_out, landed) = moved_meanwhile(&rt, rt.alloc()).ok_or("there is memory")?;
+    assert!(rt; is_out);
+    assert!(rt; matches!(landed, Landed::Gone { by: 3 }));
+    let shown = first_shown(&board).ok_or("there is a receiver")?;
+    assert!(rt; matches!(shown, Shown::New { since: 3 }));
+    assert!(rt; matches!(board.take(), Took::Job(_)));
+    board.finish();
+    assert!(rt; matches!(board.take(), Took::Finished));
+    Ok(())
+}

@@ -1,0 +1,127 @@
+//! One course on a shared board: an editor, a worker and a looker in one thread, with ample memory.
+ghost use Rattle.std.specs.Prelude.{◌≡◌, [], ◌∷◌, IsSome, IfSome};
+ghost use Rattle.map_board.specs.Seats.{owed};
+
+use crate::solving::solve;
+use map_board::{Job, Landed, Shown, Took};
+use map_lock::{EditorSeat, LookSeat, MapLock, WorkerSeat};
+use scene_book::Edit;
+use scene_geom::Pt;
+use scene_parts::{Kind, Name, Part, PointSource, Receiver};
+use std::alloc::Global;
+use std::sync::Wait;
+use std::test::Fail;
+
+pub(crate) fn source(alloc: Global) -> Option<Edit> {
+    Some(Edit::Put(Part::Source(PointSource {
+        name: Name::from_vec(b"s".to_vec(alloc).ok()?),
+        kind: Kind::Industry,
+        at: Pt::new(0, 0),
+        h: 2000,
+        lw: [None, None, None, None, Some(10_000), None, None, None],
+        dc: 0,
+    })))
+}
+
+fn receiver(alloc: Global) -> Option<Edit> {
+    Some(Edit::Put(Part::Receiver(Receiver {
+        name: Name::from_vec(b"r".to_vec(alloc).ok()?),
+        at: Pt::new(100_000, 0),
+        h: 2000,
+    })))
+}
+
+// Takes a job, which the seat alone owes then.
+pub(crate) fn take_job<R: Wait>(rt: &R, lock: &MapLock, worker: &mut WorkerSeat) -> Option<Job>
+    requires own { worker.old.table ≡ lock.now }
+    requires free { owed worker.old.mine ≡ [] }
+    ensures own { worker.new.table ≡ lock.now }
+    ensures parts { worker.new.parts ≡ worker.old.parts }
+    ensures owed { IfSome result (λ job. owed worker.new.mine ≡ job ∷ []) }
+{
+    match lock.take(rt, worker) {
+        Took::Job(job) => Some(job),
+        _ => None,
+    }
+}
+
+// Takes a job and gives it back.
+fn give_up<R: Wait>(rt: &R, lock: &MapLock, worker: &mut WorkerSeat) -> Option<()>
+    requires own { worker.old.table ≡ lock.now }
+    requires free { owed worker.old.mine ≡ [] }
+    ensures own { worker.new.table ≡ lock.now }
+    ensures parts { worker.new.parts ≡ worker.old.parts }
+    ensures free { IsSome result → owed worker.new.mine ≡ [] }
+{
+    let job = take_job(rt, lock, worker)?;
+    lock.give_back(rt, worker, job);
+    Some(())
+}
+
+// Takes a job, solves it and offers the answer.
+pub(crate) fn work_once<R: Wait>(
+    rt: &R,
+    alloc: Global,
+    lock: &MapLock,
+    worker: &mut WorkerSeat,
+) -> Option<Landed>
+    requires own { worker.old.table ≡ lock.now }
+    requires free { owed worker.old.mine ≡ [] }
+    ensures own { worker.new.table ≡ lock.now }
+    ensures parts { worker.new.parts ≡ worker.old.parts }
+{
+    let job = take_job(rt, lock, worker)?;
+    match solve(alloc, job) {
+        Ok(answer) => Some(lock.offer(rt, worker, answer)),
+        Err(_) => None,
+    }
+}
+
+// A look at one row, which is current.
+fn sees_one_current<R: Wait>(rt: &R, alloc: Global, lock: &MapLock, looker: &mut LookSeat) -> bool
+    requires own { looker.old.table ≡ lock.now }
+    ensures own { looker.new.table ≡ lock.now }
+    ensures parts { looker.new.parts ≡ looker.old.parts }
+{
+    match lock.look(rt, alloc, looker) {
+        Ok(look) => match look.rows.items() {
+            [row] => matches!(row.shown, Shown::Current(_)),
+            _ => false,
+        },
+        Err(_) => false,
+    }
+}
+
+// The two edits.
+fn edit_both<R: Wait>(rt: &R, alloc: Global, lock: &MapLock, editor: &mut EditorSeat) -> Option<()>
+    requires own { editor.old.table ≡ lock.now }
+    ensures own { editor.new.table ≡ lock.now }
+    ensures parts { editor.new.parts ≡ editor.old.parts }
+{
+    lock.edit(rt, alloc, editor, source(alloc)?).ok()?;
+    lock.edit(rt, alloc, editor, receiver(alloc)?).ok()?;
+    Some(())
+}
+
+// What became of the answer, whether the look shows the receiver as current, and the version of the board that is closed.
+fn course<R: Wait>(rt: &R, alloc: Global) -> Option<(Landed, bool, u64)> {
+    let (lock, mut editor) = MapLock::start(alloc).ok()?;
+    let mut worker = lock.worker(rt, &mut editor);
+    edit_both(rt, alloc, &lock, &mut editor)?;
+    give_up(rt, &lock, &mut worker)?;
+    let landed = work_once(rt, alloc, &lock, &mut worker)?;
+    let mut looker = lock.looker(rt, &mut editor);
+    let current = sees_one_current(rt, alloc, &lock, &mut looker);
+    lock.join_worker(&mut editor, worker);
+    lock.join_looker(&mut editor, looker);
+    let board = lock.close(editor);
+    Some((landed, current, board.version()))
+}
+
+#[test]
+fn a_worker_and_a_looker_share_a_board(rt: HostRuntime) -> Result<(), Fail> {
+    let (landed, current, version) = course(&rt, rt.alloc()).ok_or("there is memory")?;
+    assert!(rt; matches!(landed, Landed::Kept));
+    assert_eq!(rt; (current, version), (true, 2));
+    Ok(())
+}

@@ -1,0 +1,15 @@
+pub mod Turns
+pub mod Edges
+pub mod Outside
+pub mod Runs
+pub mod Places
+pub mod Cycles
+pub mod Pieces
+pub mod Walks
+pub mod Order
+pub mod Scans
+pub mod Counts
+pub mod Least
+pub mod Once
+pub mod Ordered
+pub mod Sides

@@ -1,0 +1,5 @@
+pub mod Turning
+pub mod Plane
+pub mod Boundary
+pub mod Steps
+pub mod Separation

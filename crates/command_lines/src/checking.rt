@@ -1,0 +1,70 @@
+//! The checks of what a line asks for beside edits.
+ghost use Rattle.std.specs.Prelude.{◌≡◌, IfOk, pos, ◌≤ℤ◌};
+ghost use Rattle.scene_parts.specs.Answers.{MatchesUnlessMemory, lacks_memory};
+ghost use Rattle.command_lines.specs.Limits.{highest_level};
+ghost use Rattle.command_lines.specs.Checking.{level_of, checked_contour as checked_contour_of, checked_line_source as checked_line_source_of};
+
+use super::contours::{ContourSpec, RawContour};
+use super::limits::{
+    GREATEST_LINE_POWER, HIGHEST_LEVEL, LEAST_LINE_POWER, LONGEST_PIECE, SHORTEST_PIECE,
+};
+use super::line_sources::{LineSpec, RawLineSource};
+use scene_parts::fields::{
+    check_outline, corners, directivity, height, in_range, kind_named, powers, within,
+};
+use scene_parts::limits::MOST_COLUMNS;
+use scene_parts::{Field, PartFault, Shape};
+use std::alloc::Global;
+
+/// The contours that a line gives, or `OutOfRange` of the first field outside its range.
+#[tactic(auto, unfolding(crate::specs::Checking::checked_contour))]
+pub fn checked_contour(raw: RawContour) -> Result<ContourSpec, PartFault>
+    ensures { result ≡ checked_contour_of raw }
+{
+    let level = level(raw.level)?;
+    let columns = in_range(Field::Columns, 1, MOST_COLUMNS, raw.columns)?;
+    let rows = in_range(Field::Rows, 1, MOST_COLUMNS, raw.rows)?;
+    let name = raw.name.into_name();
+    Ok(ContourSpec {
+        name,
+        level,
+        columns,
+        rows,
+    })
+}
+
+/// The level of a contour in 0.01 dB, or `OutOfRange`.
+#[tactic(auto, unfolding(crate::specs::Checking::level_of))]
+fn level(level: i64) -> Result<i32, PartFault>
+    ensures value { result ≡ level_of level }
+    ensures low { IfOk result (λ level. pos 0 ≤ℤ level) }
+    ensures high { IfOk result (λ level. level ≤ℤ pos highest_level) }
+{
+    Ok(within(Field::Level, 0, HIGHEST_LEVEL, level)? as i32)
+}
+
+/// The line source that a line gives, or the first fault in the order of their numbers: `OutOfRange` of the points, the
+/// height, the powers, the directivity correction and the piece, then `OutsideMethod`, `UnknownKind`, `FewCorners` and
+/// `FlatShape`. Memory is taken for the points.
+#[tactic(auto, unfolding(crate::specs::Checking::checked_line_source))]
+pub fn checked_line_source(alloc: Global, raw: RawLineSource) -> Result<LineSpec, PartFault>
+    ensures { MatchesUnlessMemory lacks_memory result (checked_line_source_of raw) }
+{
+    let points = corners(alloc, raw.points.items())?;
+    let h = height(raw.h)?;
+    let lw = powers(LEAST_LINE_POWER, GREATEST_LINE_POWER, raw.lw)?;
+    let dc = directivity(raw.dc)?;
+    let piece = in_range(Field::Piece, SHORTEST_PIECE, LONGEST_PIECE, raw.piece)?;
+    let kind = kind_named(raw.kind)?;
+    check_outline(Shape::Barrier, points.items())?;
+    let name = raw.name.into_name();
+    Ok(LineSpec {
+        name,
+        kind,
+        points,
+        h,
+        lw,
+        dc,
+        piece,
+    })
+}

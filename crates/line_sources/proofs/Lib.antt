@@ -1,0 +1,9 @@
+pub mod CountLemmas
+pub mod Middles
+pub mod Tiling
+pub mod LegLemmas
+pub mod NameLemmas
+pub mod SourceLemmas
+pub mod Numbering
+pub mod Applied
+pub mod Removing

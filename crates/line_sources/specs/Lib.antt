@@ -1,0 +1,4 @@
+pub mod Legs
+pub mod Gains
+pub mod Tiles
+pub mod Pieces

@@ -1,0 +1,5 @@
+//! Tests of line sources from outside.
+#![tactic(auto)]
+
+#[cfg(test)]
+mod lines;

@@ -1,5 +1,0 @@
--- The ledger of the steps.
-use Rattle.path_cache.proofs.tests.count.Given as goal
-
-abbrev pub ghosts-counted : goal.ghosts-counted
-ghosts-counted a = record { name = a.blank.name; parts = a.blank.parts }

@@ -1,0 +1,41 @@
+//! Obstacles, checked.
+use scene_parts::{Checked, Obstacle, Part, PlainName, RawPart, RawPoints, RawPt, Shape, check};
+use std::alloc::{AllocError, Global};
+
+/// A shape, its corners, its height in mm, and what it reflects per mille.
+pub(crate) type Wall = (Shape, &'static [(i64, i64)], i64, i64);
+
+/// The obstacles that are accepted of these.
+pub(crate) fn obstacles(alloc: Global, walls: &[Wall]) -> Result<Vec<Obstacle>, AllocError> {
+    let mut obstacles = Vec::new(alloc);
+    for (shape, corners, h, rho) in walls {
+        let mut points = Vec::new(alloc);
+        for (x, y) in *corners {
+            points.push(RawPt { x: *x, y: *y })?;
+        }
+        let name = PlainName::from_vec(b"a".to_vec(alloc)?);
+        let raw = raw(*shape, name, RawPoints::from_vec(points), *h, *rho);
+        if let Ok(Checked::Part(Part::Obstacle(obstacle))) = check(alloc, raw) {
+            obstacles.push(obstacle)?;
+        }
+    }
+    Ok(obstacles)
+}
+
+fn raw(shape: Shape, name: PlainName, points: RawPoints, h: i64, rho: i64) -> RawPart {
+    match shape {
+        Shape::Barrier => RawPart::Barrier {
+            name,
+            points,
+            h,
+            density: 10,
+            rho,
+        },
+        Shape::Building => RawPart::Building {
+            name,
+            points,
+            h,
+            rho,
+        },
+    }
+}

@@ -1,0 +1,379 @@
+//! Values from outside, calculated by an independent program over fractions without rounding.
+
+use scene_geom::{
+    Dir, Frac, Pt, Reflection, Side, area2, blocks, crosses, dir_of, extent, hits, is_short,
+    lies_inside, meets, on_one_side, orient, passes, unfold,
+};
+use std::alloc::{AllocError, Global};
+use std::process::Abort;
+use std::test::Fail;
+
+/// The greatest coordinate.
+const M: i64 = 4_000_000;
+
+fn at((x, y): (i64, i64)) -> Pt {
+    Pt::new(x.clamp(-M, M), y.clamp(-M, M))
+}
+
+fn side((from, to): ((i64, i64), (i64, i64))) -> Side {
+    Side {
+        from: at(from),
+        to: at(to),
+    }
+}
+
+fn corners(alloc: Global, places: &[(i64, i64)]) -> Result<Vec<Pt>, AllocError> {
+    let mut points = Vec::new(alloc);
+    for place in places {
+        points.push(at(*place))?;
+    }
+    Ok(points)
+}
+
+fn parts(place: Frac) -> (i128, i128) {
+    (place.n, place.d)
+}
+
+/// Two places.
+type Pair = ((i64, i64), (i64, i64));
+
+/// A fraction by its two numbers.
+type Parts = (i128, i128);
+
+const AHEAD: Pair = ((0, 0), (1000, 0));
+
+const ACROSS: Pair = ((-M, -M), (M, M));
+
+const ASKEW: Pair = ((-M, -M + 1), (M, M - 1));
+
+/// The side, the way, the crossing, whether the side blocks, and the hit with the whole line.
+const SIDES: [(Pair, Pair, Option<Parts>, bool, Option<Parts>); 14] = [
+    (
+        ((500, -100), (500, 300)),
+        AHEAD,
+        Some((200_000, 400_000)),
+        true,
+        Some((200_000, 400_000)),
+    ),
+    (
+        ((500, 300), (500, -100)),
+        AHEAD,
+        Some((200_000, 400_000)),
+        true,
+        Some((200_000, 400_000)),
+    ),
+    // A corner on the line: with the side on the left it crosses, on the right it doesn't.
+    (
+        ((500, 0), (500, 300)),
+        AHEAD,
+        Some((150_000, 300_000)),
+        false,
+        Some((150_000, 300_000)),
+    ),
+    (((500, 0), (500, -300)), AHEAD, None, false, None),
+    // At the start, at the end, behind and beyond.
+    (
+        ((0, -300), (0, 300)),
+        AHEAD,
+        None,
+        false,
+        Some((0, 600_000)),
+    ),
+    (
+        ((1000, -300), (1000, 300)),
+        AHEAD,
+        None,
+        false,
+        Some((600_000, 600_000)),
+    ),
+    (
+        ((-1, -300), (-1, 300)),
+        AHEAD,
+        None,
+        false,
+        Some((-600, 600_000)),
+    ),
+    (
+        ((1001, -300), (1001, 300)),
+        AHEAD,
+        None,
+        false,
+        Some((600_600, 600_000)),
+    ),
+    // Along the line, beside it, and a way of no length.
+    (((100, 0), (900, 0)), AHEAD, None, false, None),
+    (((100, 5), (900, 5)), AHEAD, None, false, None),
+    (((-5, -5), (5, 5)), ((0, 0), (0, 0)), None, false, None),
+    // A fraction that isn't reduced, and the greatest coordinates.
+    (
+        ((3, -7), (11, 13)),
+        ((-20, -2), (30, 9)),
+        Some((500, 912)),
+        true,
+        Some((500, 912)),
+    ),
+    (
+        ((-M, M), (M, -M)),
+        ACROSS,
+        Some((64_000_000_000_000, 128_000_000_000_000)),
+        true,
+        Some((64_000_000_000_000, 128_000_000_000_000)),
+    ),
+    (
+        ((M, -M), (-M, M)),
+        ASKEW,
+        Some((63_999_992_000_000, 127_999_984_000_000)),
+        true,
+        Some((63_999_992_000_000, 127_999_984_000_000)),
+    ),
+];
+
+/// Asserts where a side crosses a way, whether it blocks it, and where the whole line hits it.
+fn is_crossed(
+    rt: &impl Abort,
+    wall: Side,
+    line: Side,
+    crossing: Option<Parts>,
+    blocked: bool,
+    hit: Option<Parts>,
+) {
+    let found = crosses(wall, line.from, line.to).map(parts);
+    assert!(rt;
+        found == crossing && blocks(wall, line.from, line.to) == blocked,
+        "{wall:?}"
+    );
+    let met = hits(wall, line.from, dir_of(line.from, line.to)).map(parts);
+    assert!(rt; met == hit, "{wall:?}");
+}
+
+#[test]
+fn sides_cross_and_block(rt: HostRuntime) {
+    for (wall, way, crossing, blocked, hit) in &SIDES {
+        is_crossed(&rt, side(*wall), side(*way), *crossing, *blocked, *hit);
+    }
+    assert_eq!(rt;
+        orient(at((-M, M)), at((M, M)), at((M, -M))),
+        -64_000_000_000_000
+    );
+}
+
+/// The corners of an outline, in mm.
+type Corners = &'static [(i64, i64)];
+
+const SQUARE: Corners = &[(100, -50), (300, -50), (300, 50), (100, 50)];
+
+const TURNED: Corners = &[(100, 50), (300, 50), (300, -50), (100, -50)];
+
+const BELOW: Corners = &[(100, 0), (300, 0), (300, -50), (100, -50)];
+
+const ABOVE: Corners = &[(100, 0), (300, 0), (300, 50), (100, 50)];
+
+const BOW: Corners = &[(100, -50), (300, 50), (300, -50), (100, 50)];
+
+const REPEATED: Corners = &[(100, -50), (300, -50), (300, 50), (100, 50), (100, -50)];
+
+const THERE_AND_BACK: Corners = &[
+    (100, -50),
+    (300, -50),
+    (300, 50),
+    (100, 50),
+    (100, -50),
+    (100, 50),
+    (300, 50),
+    (300, -50),
+];
+
+const ALL: Corners = &[(-M, -M), (M, -M), (M, M), (-M, M)];
+
+/// The outline, the way, twice the area, the extent, and whether the outline meets the way.
+const OUTLINES: [(Corners, Pair, i128, i128, bool); 19] = [
+    (SQUARE, ((0, 0), (1000, 0)), 40_000, 100_000, true),
+    (TURNED, ((0, 0), (1000, 0)), -40_000, 100_000, true),
+    (SQUARE, ((400, 0), (1000, 0)), 40_000, 60_000, false),
+    (SQUARE, ((0, 0), (50, 0)), 40_000, 5_000, false),
+    (SQUARE, ((0, 0), (200, 0)), 40_000, 20_000, true),
+    (SQUARE, ((200, 0), (1000, 0)), 40_000, 80_000, true),
+    (SQUARE, ((200, 0), (250, 0)), 40_000, 5_000, true),
+    (TURNED, ((200, 0), (250, 0)), -40_000, 5_000, true),
+    (SQUARE, ((200, 0), (200, 0)), 40_000, 0, false),
+    // A side on the line, seen from both hands.
+    (BELOW, ((0, 0), (1000, 0)), -20_000, 50_000, false),
+    (ABOVE, ((0, 0), (1000, 0)), 20_000, 50_000, true),
+    // Outlines that cross themselves, repeat their first corner, or wind there and back.
+    (BOW, ((0, 0), (1000, 0)), 0, 100_000, true),
+    (BOW, ((150, 0), (180, 0)), 0, 3_000, true),
+    (REPEATED, ((200, 0), (250, 0)), 40_000, 5_000, true),
+    (THERE_AND_BACK, ((200, 0), (250, 0)), 0, 5_000, false),
+    (
+        ALL,
+        ((-M, -M), (M, M)),
+        128_000_000_000_000,
+        128_000_000_000_000,
+        true,
+    ),
+    (ALL, ((0, 0), (1, 0)), 128_000_000_000_000, 8_000_000, true),
+    (&[], ((0, 0), (1, 0)), 0, 0, false),
+    (&[(5, 5)], ((0, 0), (10, 0)), 0, 0, false),
+];
+
+/// Asserts twice the area of an outline, its extent along a way, and whether it meets it.
+fn is_met(rt: &impl Abort, outline: &[Pt], line: Side, area: i128, across: i128, met: bool) {
+    assert_eq!(rt;
+        (area2(outline), extent(outline, line.from, line.to)),
+        (area, across)
+    );
+    let ahead = dir_of(line.from, line.to);
+    assert!(rt;
+        meets(outline, line.from, ahead, Frac { n: 1, d: 1 }) == met,
+        "{line:?}"
+    );
+}
+
+#[test]
+fn outlines_have_areas_extents_and_meet(rt: HostRuntime) -> Result<(), Fail> {
+    for (places, way, area, across, met) in &OUTLINES {
+        let outline = corners(rt.alloc(), places)?;
+        is_met(&rt, &outline, side(*way), *area, *across, *met);
+    }
+    Ok(())
+}
+
+#[test]
+fn legs_are_hit(rt: HostRuntime) -> Result<(), Fail> {
+    // The legs of a reflection from (0, 0) to (100000, 0) in a wall at y = 60000.
+    let end = Frac {
+        n: 9_600_000_000,
+        d: 19_200_000_000,
+    };
+    let first = Dir {
+        x: 2_560_000_000_000_000,
+        y: 3_072_000_000_000_000,
+        w: 25_600_000_000,
+    };
+    let second = Dir {
+        x: -2_560_000_000_000_000,
+        y: 3_072_000_000_000_000,
+        w: 25_600_000_000,
+    };
+    let source = at((0, 0));
+    let receiver = at((100_000, 0));
+    let wall = side(((20_000, 30_000), (20_000, 10_000)));
+    let hit = Frac {
+        n: 10_240_000_000_000_000_000,
+        d: 51_200_000_000_000_000_000,
+    };
+    assert_eq!(rt; hits(wall, source, first), Some(hit));
+    assert_eq!(rt;
+        passes(wall, source, first).map(|passage| passage.to_left),
+        Some(false)
+    );
+    assert_eq!(rt; hits(wall, receiver, second), None);
+    assert!(rt; lies_inside(hit, end));
+    assert!(rt; !lies_inside(hit, Frac { n: 1, d: 5 }));
+    let house = corners(
+        rt.alloc(),
+        &[
+            (20_000, 20_000),
+            (40_000, 20_000),
+            (40_000, 40_000),
+            (20_000, 40_000),
+        ],
+    )?;
+    assert!(rt; meets(&house, source, first, end));
+    assert!(rt; !meets(&house, receiver, second, end));
+    // The greatest direction, place and end.
+    let greatest = Dir {
+        x: 2_110_000_000_000_000_000,
+        y: -2_110_000_000_000_000_000,
+        w: 68_718_952_449,
+    };
+    let diagonal = side(((-M, -M), (M, M)));
+    let far = Frac {
+        n: 4_398_012_956_736_000_000_000_000,
+        d: 33_760_000_000_000_000_000_000_000,
+    };
+    assert_eq!(rt; hits(diagonal, at((-M, M)), greatest), Some(far));
+    assert_eq!(rt;
+        hits(diagonal, at((M, -M)), greatest).map(parts),
+        Some((-far.n, far.d))
+    );
+    assert!(rt;
+        lies_inside(
+            far,
+            Frac {
+                n: 2_970_000_000_000,
+                d: 5_940_000_000_000
+            }
+        )
+    );
+    Ok(())
+}
+
+/// The path by way of a side, where it can reflect.
+fn reflection(side: Side, s: Pt, r: Pt) -> Option<Reflection> {
+    if !is_short(side) {
+        None
+    } else if on_one_side(side, s, r) {
+        Some(unfold(side, s, r))
+    } else {
+        None
+    }
+}
+
+#[test]
+fn walls_reflect(rt: HostRuntime) {
+    // The side, source and receiver, the two directions with their divisor, the fraction before the
+    // specular point, and the numerator of the squared length.
+    let rows = [
+        // The specular point is (50000, 30000), and the path the square root of 100² + 60² m long.
+        (
+            ((49_999, 30_000), (149_999, 30_000)),
+            ((0, 0), (100_000, 0)),
+            (1_000_000_000_000_000, 600_000_000_000_000),
+            (-1_000_000_000_000_000, 600_000_000_000_000),
+            10_000_000_000,
+            (3_000_000_000, 6_000_000_000),
+            136_000_000_000_000_000_000,
+        ),
+        (
+            ((60_000, -20_000), (-10_000, 45_000)),
+            ((-30_000, -1_000), (5_000, -7)),
+            (602_188_700_000_000, 313_629_725_000_000),
+            (268_225_000_000_000, 623_738_875_000_000),
+            9_125_000_000,
+            (4_520_000_000, 6_695_490_000),
+            50_519_981_897_125_000_000,
+        ),
+        // The longest wall.
+        (
+            ((0, 0), (0, 262_143)),
+            ((1, 131_071), (2, 131_072)),
+            (-206_156_857_347, 68_718_952_449),
+            (-206_156_857_347, -68_718_952_449),
+            68_718_952_449,
+            (262_143, 786_429),
+            687_189_524_490,
+        ),
+    ];
+    for (wall, ends, (first_x, first_y), (second_x, second_y), w, p, squared) in rows {
+        let line = side(ends);
+        let Some(path) = reflection(side(wall), line.from, line.to) else {
+            assert!(rt; false, "{wall:?}");
+            return;
+        };
+        assert_eq!(rt;
+            (path.first.x, path.first.y, path.first.w),
+            (first_x, first_y, w)
+        );
+        assert_eq!(rt;
+            (path.second.x, path.second.y, path.second.w),
+            (second_x, second_y, w)
+        );
+        assert_eq!(rt; parts(path.p), p);
+        assert_eq!(rt; parts(path.square), (squared, w));
+    }
+    let wall = side(((0, 0), (262_144, 0)));
+    assert!(rt; !is_short(wall));
+    assert!(rt; !on_one_side(wall, at((0, 1)), at((0, -1))));
+    assert!(rt; !on_one_side(wall, at((0, 1)), at((5, 0))));
+}

@@ -1,0 +1,8 @@
+//! Tests of the attenuations by the ground and by screening, from outside: each expected value was calculated by an
+//! independent exact program.
+#![tactic(auto)]
+
+#[cfg(test)]
+mod ground_terms;
+#[cfg(test)]
+mod screening_terms;

@@ -1,0 +1,9 @@
+//! Tests of what comes in and goes out as text, from outside: words, rows and generated sites.
+#![tactic(auto)]
+
+#[cfg(test)]
+mod rows;
+#[cfg(test)]
+mod sites;
+#[cfg(test)]
+mod words;
