@@ -15,24 +15,43 @@ const BROKEN: [&[u8]; 3] = [
     b"\xff",
 ];
 
+/// The word of a command.
+fn command_word(command: &Command) -> &'static str {
+    match command {
+        Command::Settle => "settle",
+        Command::Look => "look",
+        Command::Contour(_) => "contour",
+        Command::Line(_) => "line",
+        Command::Unline(_) => "unline",
+        Command::Edit(edit) => edit_word(edit),
+    }
+}
+
+fn edit_word(edit: &Edit) -> &'static str {
+    match edit {
+        Edit::Put(_) => "put",
+        Edit::Remove(_) => "remove",
+        Edit::Grid(_) => "grid",
+        Edit::Set(_) => "set",
+    }
+}
+
 fn told(alloc: Global, line: &[u8]) -> Result<String, AllocError> {
     match command(alloc, line) {
-        Ok(Command::Settle) => String::from_str(alloc, "settle"),
-        Ok(Command::Look) => String::from_str(alloc, "look"),
-        Ok(Command::Contour(_)) => String::from_str(alloc, "contour"),
-        Ok(Command::Line(_)) => String::from_str(alloc, "line"),
-        Ok(Command::Unline(_)) => String::from_str(alloc, "unline"),
-        Ok(Command::Edit(Edit::Put(_))) => String::from_str(alloc, "put"),
-        Ok(Command::Edit(Edit::Remove(_))) => String::from_str(alloc, "remove"),
-        Ok(Command::Edit(Edit::Grid(_))) => String::from_str(alloc, "grid"),
-        Ok(Command::Edit(Edit::Set(_))) => String::from_str(alloc, "set"),
-        Err(LineFault::NoMemory) => Err(AllocError),
-        Err(LineFault::NotJson) => String::from_str(alloc, "NotJson"),
-        Err(LineFault::NotObject) => String::from_str(alloc, "NotObject"),
-        Err(LineFault::UnknownDo { word }) => with_word(alloc, "UnknownDo", &word),
-        Err(LineFault::Missing { field }) => format!(in alloc; "Missing,{}", field_text(field)),
-        Err(LineFault::WrongType { field }) => format!(in alloc; "WrongType,{}", field_text(field)),
-        Err(LineFault::Part(fault)) => part_told(alloc, &fault),
+        Ok(command) => String::from_str(alloc, command_word(&command)),
+        Err(fault) => fault_told(alloc, &fault),
+    }
+}
+
+fn fault_told(alloc: Global, fault: &LineFault) -> Result<String, AllocError> {
+    match fault {
+        LineFault::NoMemory => Err(AllocError),
+        LineFault::NotJson => String::from_str(alloc, "NotJson"),
+        LineFault::NotObject => String::from_str(alloc, "NotObject"),
+        LineFault::UnknownDo { word } => with_word(alloc, "UnknownDo", word),
+        LineFault::Missing { field } => format!(in alloc; "Missing,{}", field_text(*field)),
+        LineFault::WrongType { field } => format!(in alloc; "WrongType,{}", field_text(*field)),
+        LineFault::Part(fault) => part_told(alloc, fault),
     }
 }
 
