@@ -14,8 +14,8 @@ use Rattle.command_lines.specs.declared.faults.LineFault.TheVariants.{NoMemory, 
 use Rattle.command_lines.specs.Fields.{Entry, made_unless, with_fields, is_missing, is_wrong, first}
 use Rattle.scene_parts.specs.Answers.{◌>>=◌, MatchesUnlessMemory}
 use Rattle.command_lines.specs.Answers.{lacks_memory, IsPlain, line_fault_of, of_part, found_or}
-use Rattle.command_lines.specs.Words.{source_of, barrier_of, building_of, zone_of, receiver_of, grid_of, set_of, part_of, removal_of, checked_edit, raw_contour_of, contour_of, raw_line_source_of, line_source_of, unline_of, asked}
-use Rattle.command_lines.specs.Checking.{checked_contour, checked_line_source}
+use Rattle.command_lines.specs.Words.{source_of, barrier_of, building_of, zone_of, receiver_of, grid_of, set_of, part_of, removal_of, checked_edit, raw_contour_of, contour_of, raw_line_source_of, line_source_of, unline_of, raw_version_of, undo_of, asked}
+use Rattle.command_lines.specs.Checking.{checked_contour, checked_line_source, version_of}
 use Rattle.command_lines.specs.Lines.{word_of, command_from, json_of, command_in}
 
 pub plain-matches : {A : Type 0} (answer expected : Result A LineFault) → MatchesUnlessMemory lacks_memory answer expected
@@ -90,6 +90,11 @@ unfolding line_source_of raw_line_source_of
 plain-line_source_of line =
     plain-bind (raw_line_source_of line) _ (plain-with_fields _ line _) (λ raw. plain-bind (of_part (checked_line_source raw)) _ (plain-of_part (checked_line_source raw)) (λ spec. tt))
 
+plain-undo_of : (line : Data) → IfErr (undo_of line) IsPlain
+unfolding undo_of raw_version_of
+plain-undo_of line =
+    plain-bind (raw_version_of line) _ (plain-with_fields _ line _) (λ raw. plain-bind (of_part (version_of raw)) _ (plain-of_part (version_of raw)) (λ version. tt))
+
 plain-asked : (word : List ℕ) (line : Data) → IfErr (asked word line) IsPlain
 unfolding asked removal_of unline_of
 plain-asked word line =
@@ -99,7 +104,8 @@ plain-asked word line =
     (plain-if (bytes_eq word (codes "contour")) _ _ (plain-contour_of line)
     (plain-if (bytes_eq word (codes "line")) _ _ (plain-line_source_of line)
     (plain-if (bytes_eq word (codes "unline")) _ _ (plain-with_fields _ line _)
-    (plain-bind (part_of word line) checked_edit (plain-part_of word line) plain-checked_edit))))))
+    (plain-if (bytes_eq word (codes "undo")) _ _ (plain-undo_of line)
+    (plain-bind (part_of word line) checked_edit (plain-part_of word line) plain-checked_edit)))))))
 
 plain-command_from : (line : Data) → IfErr (command_from line) IsPlain
 unfolding command_from word_of

@@ -18,3 +18,7 @@ shortest_piece = 1000
 
 abbrev pub longest_piece : ℕ
 longest_piece = 1000000
+
+-- the version that an undo names
+abbrev pub greatest_version : ℕ
+greatest_version = 9223372036854775807

@@ -1,7 +1,7 @@
 -- The words of `do`, the fields of each in their order, and what each asks for.
-use Rattle.std.specs.Prelude.{ℕ, List, [], ◌∷◌, Result, Ok, Err, if◌then◌else◌, codes, bytes_eq}
+use Rattle.std.specs.Prelude.{ℕ, ℤ, List, [], ◌∷◌, Result, Ok, Err, if◌then◌else◌, codes, bytes_eq}
 use Rattle.serde_json.specs.Data.{Data}
-use Rattle.scene_parts.specs.declared.kinds.Field.TheVariants.{Name, Kind, X, Y, H, Lw, Dc, Points, Density, Rho, G, Step, Columns, Rows, Reach, Air, C0, Level, Piece}
+use Rattle.scene_parts.specs.declared.kinds.Field.TheVariants.{Name, Kind, X, Y, H, Lw, Dc, Points, Density, Rho, G, Step, Columns, Rows, Reach, Air, C0, Level, Piece, To}
 use Rattle.scene_parts.specs.declared.raw.RawPart.{RawPart}
 use Rattle.scene_parts.specs.declared.raw.RawPart.TheVariants as raw
 use Rattle.scene_parts.specs.Checking.{check_of}
@@ -16,7 +16,7 @@ use Rattle.command_lines.specs.declared.faults.LineFault.TheVariants.{UnknownDo}
 use Rattle.command_lines.specs.Fields.{Entry, text, name, any_name, whole, points, powers, needed, optional, with_fields, text_at, name_at, any_name_at, whole_at, points_at, powers_at, optional_whole_at, optional_text_at}
 use Rattle.scene_parts.specs.Answers.{◌>>=◌}
 use Rattle.command_lines.specs.Answers.{of_part}
-use Rattle.command_lines.specs.Checking.{checked_contour, checked_line_source}
+use Rattle.command_lines.specs.Checking.{checked_contour, checked_line_source, version_of}
 
 -- The fields of each word
 
@@ -59,6 +59,9 @@ line_source_fields =
 
 abbrev pub unline_fields : List Entry
 unline_fields = needed Name name ∷ []
+
+abbrev pub undo_fields : List Entry
+undo_fields = needed To whole ∷ []
 
 -- What a line gives with the fields of its word: a directivity correction and a reflection are 0 where they are absent,
 -- and an absent setting keeps its value
@@ -179,6 +182,16 @@ line_source_of line = do
 unfoldable pub unline_of : Data → Result Command LineFault
 unline_of line = with_fields unline_fields line (commands.Unline (name_at Name line))
 
+unfoldable pub raw_version_of : Data → Result ℤ LineFault
+raw_version_of line = with_fields undo_fields line (whole_at To line)
+
+-- the undo to the version that a line gives, where it is in its range
+unfoldable pub undo_of : Data → Result Command LineFault
+undo_of line = do
+  raw ← raw_version_of line
+  version ← of_part (version_of raw)
+  Ok (commands.Undo version)
+
 -- what the word of a line asks for
 unfoldable pub asked : List ℕ → Data → Result Command LineFault
 asked word line =
@@ -188,4 +201,5 @@ asked word line =
     else (if bytes_eq word (codes "contour") then contour_of line
     else (if bytes_eq word (codes "line") then line_source_of line
     else (if bytes_eq word (codes "unline") then unline_of line
-    else (part_of word line >>= checked_edit))))))
+    else (if bytes_eq word (codes "undo") then undo_of line
+    else (part_of word line >>= checked_edit)))))))

@@ -2,11 +2,12 @@
 ghost use Rattle.std.specs.Prelude.{◌≡◌, IfOk, pos, ◌≤ℤ◌};
 ghost use Rattle.scene_parts.specs.Answers.{MatchesUnlessMemory, lacks_memory};
 ghost use Rattle.command_lines.specs.Limits.{highest_level};
-ghost use Rattle.command_lines.specs.Checking.{level_of, checked_contour as checked_contour_of, checked_line_source as checked_line_source_of};
+ghost use Rattle.command_lines.specs.Checking.{level_of, checked_contour as checked_contour_of, checked_line_source as checked_line_source_of, version_of};
 
 use super::contours::{ContourSpec, RawContour};
 use super::limits::{
-    GREATEST_LINE_POWER, HIGHEST_LEVEL, LEAST_LINE_POWER, LONGEST_PIECE, SHORTEST_PIECE,
+    GREATEST_LINE_POWER, GREATEST_VERSION, HIGHEST_LEVEL, LEAST_LINE_POWER, LONGEST_PIECE,
+    SHORTEST_PIECE,
 };
 use super::line_sources::{LineSpec, RawLineSource};
 use scene_parts::fields::{
@@ -41,6 +42,14 @@ fn level(level: i64) -> Result<i32, PartFault>
     ensures high { IfOk result (λ level. level ≤ℤ pos highest_level) }
 {
     Ok(within(Field::Level, 0, HIGHEST_LEVEL, level)? as i32)
+}
+
+/// The version that an undo names, or `OutOfRange`.
+#[tactic(auto, unfolding(crate::specs::Checking::version_of))]
+pub fn version(version: i64) -> Result<u64, PartFault>
+    ensures { result ≡ version_of version }
+{
+    Ok(within(Field::To, 0, GREATEST_VERSION, version)? as u64)
 }
 
 /// The line source that a line gives, or the first fault in the order of their numbers: `OutOfRange` of the points, the

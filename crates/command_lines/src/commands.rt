@@ -13,6 +13,8 @@ pub enum Command {
     Line(LineSpec),
     /// To take the point sources of the line source of this name out.
     Unline(Name),
+    /// To make the scene what it was at this version.
+    Undo(u64),
     /// To calculate all levels and to show them.
     Settle,
     /// To show what is known.

@@ -14,3 +14,6 @@ pub const SHORTEST_PIECE: u32 = 1000;
 
 /// The length of a piece of a line source, in mm, at the most.
 pub const LONGEST_PIECE: u32 = 1_000_000;
+
+/// The version that an undo names, at the most.
+pub const GREATEST_VERSION: i64 = 9_223_372_036_854_775_807;

@@ -1,7 +1,7 @@
-//! Lines that ask for contours and line sources, and what an independent program says of each.
+//! Lines that ask for contours, line sources and earlier versions, and what an independent program says of each.
 
 /// Fields that are missing, of a wrong type, least outside and greatest inside their ranges, and the first of two faults.
-pub(crate) const REQUESTS: [(&str, &str); 17] = [
+pub(crate) const REQUESTS: [(&str, &str); 23] = [
     (
         r#"{"do":"contour","name":"g","level":20001,"columns":0,"rows":0}"#,
         "OutOfRange,level,20001",
@@ -67,4 +67,10 @@ pub(crate) const REQUESTS: [(&str, &str); 17] = [
         r#"{"do":"line","name":"l","kind":"rail","points":[],"h":1,"lw":[null,null,null,null,null,null,null,null],"dc":null,"piece":"1"}"#,
         "WrongType,dc",
     ),
+    (r#"{"do":"undo"}"#, "Missing,to"),
+    (r#"{"do":"undo","to":"1"}"#, "WrongType,to"),
+    (r#"{"do":"undo","to":-1}"#, "OutOfRange,to,-1"),
+    (r#"{"do":"undo","to":0}"#, "undo"),
+    (r#"{"do":"undo","to":9223372036854775807}"#, "undo"),
+    (r#"{"do":"undo","to":9223372036854775808}"#, "WrongType,to"),
 ];

@@ -23,6 +23,7 @@ fn command_word(command: &Command) -> &'static str {
         Command::Contour(_) => "contour",
         Command::Line(_) => "line",
         Command::Unline(_) => "unline",
+        Command::Undo(_) => "undo",
         Command::Edit(edit) => edit_word(edit),
     }
 }

@@ -3,8 +3,9 @@ ghost use Rattle.std.specs.Prelude.{Err};
 ghost use Rattle.serde_json.specs.View.{view};
 ghost use Rattle.scene_parts.specs.Answers.{MatchesUnlessMemory};
 ghost use Rattle.command_lines.specs.Answers.{lacks_memory};
-ghost use Rattle.command_lines.specs.Words.{source_of, barrier_of, building_of, zone_of, receiver_of, grid_of, set_of, removal_of, unline_of, part_of, checked_edit, asked as asked_of};
+ghost use Rattle.command_lines.specs.Words.{source_of, barrier_of, building_of, zone_of, receiver_of, grid_of, set_of, removal_of, unline_of, undo_of, raw_version_of, part_of, checked_edit, asked as asked_of};
 
+use super::checking::version;
 use super::commands::Command;
 use super::contour_words::contour;
 use super::faults::LineFault;
@@ -28,6 +29,7 @@ pub fn asked(alloc: Global, word: &str, line: &Value) -> Result<Command, LineFau
         "contour" => contour(alloc, line),
         "line" => line_source(alloc, line),
         "unline" => unline(alloc, line),
+        "undo" => undo(line),
         other => checked(alloc, part(alloc, other, line)?),
     }
 }
@@ -83,4 +85,22 @@ fn unline(alloc: Global, line: &Value) -> Result<Command, LineFault>
     let name = needed(line, Field::Name)?;
     let name = plain_name(alloc, Field::Name, name)?;
     Ok(Command::Unline(name.into_name()))
+}
+
+/// The undo to the version that a line gives.
+#[tactic(auto, unfolding(crate::specs::Words::undo_of))]
+fn undo(line: &Value) -> Result<Command, LineFault>
+    ensures { MatchesUnlessMemory lacks_memory result (undo_of (view line.now)) }
+{
+    let raw = raw_version(line)?;
+    Ok(Command::Undo(version(raw)?))
+}
+
+/// The version that a line gives, whatever it is.
+#[tactic(auto, unfolding(crate::specs::Fields::with_fields, crate::specs::Words::raw_version_of))]
+fn raw_version(line: &Value) -> Result<i64, LineFault>
+    ensures { MatchesUnlessMemory lacks_memory result (raw_version_of (view line.now)) }
+{
+    let to = needed(line, Field::To)?;
+    whole(Field::To, to)
 }

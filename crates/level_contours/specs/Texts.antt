@@ -24,7 +24,8 @@ loop_row version number family points =
 -- a point of a loop by both numbers
 unfoldable pub point_row : ℕ → ℕ → ℕ → Corner → List ℕ
 point_row version number place corner =
-    row (codes "point" ∷ decimal version ∷ decimal number ∷ decimal place ∷ [] ∷ decimal corner.x ∷ decimal corner.y ∷ [])
+    row (codes "point" ∷ decimal version ∷ decimal number ∷ decimal place ∷ [] ∷ decimal corner.x ∷ decimal corner.y
+    ∷ [])
 
 -- the points of a loop, from one with a number on
 abbrev pub points_from : ℕ → ℕ → ℕ → List Corner → List (List ℕ)

@@ -7,8 +7,8 @@ use Rattle.scene_parts.specs.declared.parts.Part.TheVariants as parts
 use Rattle.scene_book.specs.declared.edits.Edit.TheVariants as edits
 use Rattle.scene_book.specs.Book.{Book}
 use Rattle.scene_book.specs.Lists.{named, take_out, NoneNamed, AreApart}
-use Rattle.scene_book.specs.Applying.{apply_of, remove_of}
-use Rattle.line_sources.specs.Pieces.{is_piece, is_put, beyond, removes, applied}
+use Rattle.scene_book.specs.Applying.{apply_of, remove_of, applied}
+use Rattle.line_sources.specs.Pieces.{is_piece, is_put, beyond, removes}
 
 -- ---- names in a list of sources
 

@@ -7,14 +7,14 @@ use Rattle.scene_geom.specs.declared.plan.Side.{Side}
 use Rattle.scene_parts.specs.Views.{Source}
 use Rattle.scene_parts.specs.Ranges.{is_power}
 use Rattle.scene_parts.specs.Sides.{squared_length}
-use Rattle.scene_parts.specs.Answers.{◌>>=◌, ◌>>◌}
+use Rattle.scene_parts.specs.Answers.{◌>>◌}
 use Rattle.scene_parts.specs.declared.parts.Part.TheVariants as parts
 use Rattle.scene_book.specs.declared.edits.Edit.{Edit}
 use Rattle.scene_book.specs.declared.edits.Edit.TheVariants as edits
 use Rattle.scene_book.specs.declared.edits.EditFault.{EditFault}
 use Rattle.scene_book.specs.declared.edits.EditFault.TheVariants.{NoSuchName}
 use Rattle.scene_book.specs.Book.{Book}
-use Rattle.scene_book.specs.Applying.{apply_of}
+use Rattle.scene_book.specs.Applying.{applied}
 use Rattle.command_lines.specs.Views.{LineSource}
 use Rattle.line_sources.specs.Legs.{legs_of, count_of, place_of}
 use Rattle.line_sources.specs.Gains.{gain_of}
@@ -110,11 +110,6 @@ puts sources = map (λ source. edits.Put (parts.Source source)) sources
 
 abbrev pub removes : List (List ℕ) → List Edit
 removes names = map edits.Remove names
-
--- the scene after edits one after the other, or the first fault
-abbrev pub applied : List Edit → Book → Result Book EditFault
-applied [] book = Ok book
-applied (edit ∷ rest) book = apply_of edit book >>= λ after. applied rest after.0
 
 -- no edit of the list is refused
 abbrev pub all_accepted : List Edit → Book → Result (Unit {0}) EditFault

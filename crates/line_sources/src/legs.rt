@@ -1,17 +1,16 @@
 //! The legs of a line, and the power of their pieces.
-ghost use Rattle.std.specs.Prelude.{◌≡◌, ◌≤◌, ◌∷◌, [], pos, neg_ℤ, ◌≤ℤ◌, ◌*ℤ◌, unsigned_abs, IsTrue};
+ghost use Rattle.std.specs.Prelude.{◌≡◌, ◌∷◌, [], pos, neg_ℤ, ◌≤ℤ◌, IsTrue};
 ghost use Rattle.std.specs.List.{list_all};
 ghost use Rattle.scene_parts.specs.Ranges.{is_power};
-ghost use Rattle.scene_parts.specs.Sides.{squared_length};
 ghost use Rattle.line_sources.specs.Legs.{is_leg as is_leg_of};
 ghost use Rattle.line_sources.specs.Gains.{is_line_power};
 ghost use Rattle.line_sources.specs.Pieces.{cut_of, powers_with, power_with};
 
 use crate::counts::count;
 use crate::gains::gain;
-use crate::places::way;
 use command_lines::LineSpec;
 use scene_geom::Side;
+use scene_parts::squared;
 use std::marker::Model;
 
 /// A leg, into how many pieces it is cut, and their power in each band, in 0.01 dB.
@@ -50,25 +49,6 @@ pub(crate) fn is_leg(side: Side) -> bool
     ensures { result ≡ is_leg_of side }
 {
     !(side.from.x == side.to.x && side.from.y == side.to.y)
-}
-
-/// The squared length of a side, in mm².
-fn squared(side: Side) -> u64
-    ensures value { result ≡ squared_length side }
-    ensures within { result ≤ 128000000000000 }
-{
-    let across = square(way(side.from.x, side.to.x));
-    let up = square(way(side.from.y, side.to.y));
-    (across + up) as u64
-}
-
-fn square(way: i64) -> i64
-    requires { unsigned_abs way ≤ 8000000 }
-    ensures value { result ≡ way *ℤ way }
-    ensures low { pos 0 ≤ℤ result }
-    ensures high { result ≤ℤ pos 64000000000000 }
-{
-    way * way
 }
 
 /// The levels of a line with a gain.

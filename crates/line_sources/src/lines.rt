@@ -2,10 +2,10 @@
 ghost use Rattle.std.specs.Prelude.{◌≡◌, ◌++◌, IfOk, IsOk, IsTrue};
 ghost use Rattle.scene_geom.specs.declared.plan.Side.{Side};
 ghost use Rattle.scene_parts.specs.Answers.{MatchesUnlessMemory};
-ghost use Rattle.scene_book.specs.Applying.{lacks_memory};
+ghost use Rattle.scene_book.specs.Applying.{lacks_memory, applied};
 ghost use Rattle.line_sources.specs.Legs.{is_leg};
 ghost use Rattle.line_sources.specs.Tiles.{IsTiled};
-ghost use Rattle.line_sources.specs.Pieces.{line_edits_of, unline_edits_of, applied, accepted, puts, removes};
+ghost use Rattle.line_sources.specs.Pieces.{line_edits_of, unline_edits_of, accepted, puts, removes};
 
 use crate::edits::{LineEdits, add_puts, add_removes, try_all};
 use crate::removals::beyond;

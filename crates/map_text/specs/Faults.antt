@@ -64,6 +64,7 @@ abbrev pub refusal_text : Refusal → FaultText
 refusal_text refusals.LongLine = plain (codes "LongLine")
 refusal_text (refusals.Line fault) = line_fault_text fault
 refusal_text (refusals.Edit fault) = edit_fault_text fault
+refusal_text (refusals.NoSuchVersion version) = about (codes "NoSuchVersion") (decimal version)
 
 -- a fault that is want of memory
 abbrev pub lacks_memory : Refusal → Bool
@@ -71,3 +72,4 @@ lacks_memory (refusals.Line (lines.Part fault)) = part_lacks_memory fault
 lacks_memory (refusals.Line fault) = line_lacks_memory fault
 lacks_memory (refusals.Edit fault) = edit_lacks_memory fault
 lacks_memory refusals.LongLine = false
+lacks_memory (refusals.NoSuchVersion version) = false

@@ -11,4 +11,6 @@ pub enum Refusal {
     Line(LineFault),
     /// The scene can't take its edit.
     Edit(EditFault),
+    /// An undo names a version that isn't kept.
+    NoSuchVersion { version: u64 },
 }

@@ -3,7 +3,8 @@ ghost use Rattle.std.specs.Prelude.{◌≡◌, IfOk, IsErr, IsTrue, decimal};
 ghost use Rattle.scene_parts.specs.declared.faults.PartFault.TheVariants as parts;
 ghost use Rattle.scene_parts.specs.Answers as part_answers;
 ghost use Rattle.scene_book.specs.declared.edits.EditFault.TheVariants as edits;
-ghost use Rattle.map_text.specs.Faults.{about, part_fault_text, line_fault_text, edit_fault_text, lacks_memory};
+ghost use Rattle.map_text.specs.Faults.{about, part_fault_text, line_fault_text, edit_fault_text, refusal_text, lacks_memory};
+ghost use Rattle.map_text.specs.declared.refusals.Refusal.TheVariants as refusals;
 ghost use Rattle.map_text.specs.Rows.{fault_row, said_row, refused_row};
 
 use crate::refusals::Refusal;
@@ -50,6 +51,14 @@ impl RefusedLine {
     {
         let value = format!(in self.alloc; "{value}")?;
         self.row(fault, value.as_bytes(), b"")
+    }
+
+    fn no_such_version(self, version: u64) -> Result<Vec<u8>, NoMemory>
+        ensures { IfOk result (λ text. text.items
+            ≡ said_row self.version self.number (refusal_text (refusals.NoSuchVersion version))) }
+    {
+        let version = format!(in self.alloc; "{version}")?;
+        self.row(b"NoSuchVersion", version.as_bytes(), b"")
     }
 
     fn out_of_range(self, field: Field, value: i64) -> Result<Vec<u8>, NoMemory>
@@ -155,5 +164,6 @@ pub fn refused_text(
         Refusal::LongLine => refused.row(b"LongLine", b"", b""),
         Refusal::Line(fault) => refused.line_fault(fault),
         Refusal::Edit(fault) => refused.edit_fault(fault),
+        Refusal::NoSuchVersion { version } => refused.no_such_version(*version),
     }
 }

@@ -32,6 +32,7 @@ use Rattle.atomic_table.proofs.send_lease.SendLease.TheSendSync.{the_sync as Lea
 use Rattle.map_io.specs.contracts.reader.LineReader as LineReader
 use Rattle.noise_map.specs.contracts.step.Shared as Shared
 use Rattle.noise_map.specs.contracts.editor.Editor as Editor
+use Rattle.noise_map.specs.contracts.keeping.KeptVersion as KeptVersion
 use Rattle.std.proofs.Crossing.{crosses}
 
 -- a journal holds nothing but what contracts see, so one layer of it may cross whatever the layers in it are
@@ -81,8 +82,11 @@ WorkerSeat-send = search (Place-send, sendable) depth 40 fits 10000 steps 100000
 EditorSeat-send : IsSend EditorSeat.the_row
 EditorSeat-send = search (Place-send, sendable) depth 40 fits 10000 steps 100000000
 
+KeptVersion-send : IsSend KeptVersion.the_row
+KeptVersion-send = search (crosses, sendable) depth 80 fits 100000 steps 1000000
+
 pub editor_crosses : IsSend Editor.the_row
-editor_crosses = search (EditorSeat-send, Scene-send, crosses, sendable) depth 40 fits 10000 steps 100000000
+editor_crosses = search (EditorSeat-send, Scene-send, KeptVersion-send, crosses, sendable) depth 40 fits 10000 steps 100000000
 
 pub reader_crosses : IsSend LineReader.the_row
 reader_crosses = search (crosses, sendable) depth 40 fits 10000 steps 1000000

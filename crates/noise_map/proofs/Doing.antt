@@ -13,15 +13,16 @@ use Rattle.map_board.specs.Seats.{Entries}
 use Rattle.map_board.specs.Showing.{accepted_edits}
 use Rattle.map_lock.specs.Seats.{BoardSeat}
 use Rattle.noise_map.specs.declared.answer.Answer.{Answer}
+use Rattle.noise_map.specs.declared.editor.Editor.{Editor}
 use Rattle.noise_map.specs.declared.stopped.Stopped.{Stopped}
 use Rattle.noise_map.specs.declared.stopped.Stopped.TheVariants as stops
 use Rattle.noise_map.specs.declared.status.Status.TheVariants as status
 use Rattle.noise_map.specs.Demands.{demand_of}
-use Rattle.noise_map.specs.Effects.{Effect, effect_of, effect_at, looks_asked, journal_with_all, is_refused, Point, at_start, point_after, journal_of}
+use Rattle.noise_map.specs.Effects.{Past, past_with, Effect, effect_of, effect_at, looks_asked, is_refused, Point, at_start, point_after}
 use Rattle.noise_map.specs.Texts.{answer_to, rows_of, line_rows, text_of}
 use Rattle.noise_map.specs.Ways.{looks_in, Does, Way, and_line, Fails}
 use Rattle.noise_map.specs.Taking.{joined, TakesFront}
-use Rattle.noise_map.specs.Steps.{HasGone, HasMet, HasFailed, is_refusal}
+use Rattle.noise_map.specs.Steps.{past_of, HasGone, HasMet, HasFollowed, HasFailed, is_refusal}
 use Rattle.noise_map.specs.Progress.{IsSameSeat, Did, Told, HasEnded, status_of}
 use Rattle.noise_map.specs.Outcome.{TakesPartOf}
 use Rattle.noise_map.proofs.Ways.{looks_in-append, way-grown}
@@ -44,29 +45,37 @@ same-self seat = record { seen = begins_self seat.seen; table = refl; number = r
 pub looks-gone : (seat after : BoardSeat) (added : Entries) → HasGone seat added after → looks_in after.mine ≡ looks_in seat.mine ++ looks_in added
 looks-gone seat after added goes = ap looks_in goes.mine ∙ looks_in-append seat.mine added
 
-pub way-push : (seat after : BoardSeat) (done : List (List ℕ)) (line : List ℕ) (added : Entries) → Way seat.seen done seat.mine → accepted_edits seat.mine ≡ journal_of done → HasGone seat added after
-    → Does after.seen seat.mine (accepted_edits seat.mine) (effect_of (accepted_edits seat.mine) (demand_of line)) added → Way after.seen (done ++ line ∷ []) after.mine
-way-push seat after done line added way journal goes does =
+-- what the line comes to behind what the lines before have left to the editor
+abbrev pub comes_to : Editor → List ℕ → Effect
+comes_to editor line = effect_of (past_of editor) (demand_of line)
+
+pub way-push : (editor : Editor) (after : BoardSeat) (done : List (List ℕ)) (line : List ℕ) (added : Entries) → Way editor.seat.seen done editor.seat.mine → past_of editor ≡ (point_after done).past
+    → HasGone editor.seat added after → Does after.seen editor.seat.mine (accepted_edits editor.seat.mine) (comes_to editor line) added → Way after.seen (done ++ line ∷ []) after.mine
+way-push editor after done line added way past goes does =
+    let seat = editor.seat in
     subst (Way after.seen (done ++ line ∷ [])) (sym goes.mine)
     (and_line done line seat.mine added (way-grown seat.seen after.seen done seat.mine way goes.seen)
-    (subst (λ (es : List Edit). Does after.seen seat.mine es (effect_of es (demand_of line)) added) journal does))
+    (subst (λ (p : Past). Does after.seen seat.mine p.journal (effect_of p (demand_of line)) added) past does))
 
--- what the line comes to behind the edits that the editor has had accepted
-abbrev pub comes_to : BoardSeat → List ℕ → Effect
-comes_to seat line = effect_of (accepted_edits seat.mine) (demand_of line)
+module _ (before : BoardSeat) (editor after_line : Editor) (done : List (List ℕ)) (line : List ℕ) (answer : Answer) (did : Did before editor done)
+    (met : HasMet editor.seat (comes_to editor line) answer after_line.seat) (followed : HasFollowed editor (comes_to editor line) after_line) where
+  abbrev seat : BoardSeat
+  seat = editor.seat
 
-module _ (before seat after : BoardSeat) (done : List (List ℕ)) (line : List ℕ) (answer : Answer) (did : Did before seat done) (met : HasMet seat (comes_to seat line) answer after) where
-  pub did-more : Did before after (done ++ line ∷ [])
+  abbrev after : BoardSeat
+  after = after_line.seat
+
+  pub did-more : Did before after_line (done ++ line ∷ [])
   did-more = record {
     same = same-gone before seat after met.added did.same met.goes;
-    way = way-push seat after done line met.added did.way did.journal met.goes met.does;
-    journal =
-        met.accepts
-        ∙ (ap (λ (es : List Edit). journal_with_all es (effect_of es (demand_of line)).edits) did.journal ∙ ap (λ (p : Point). p.journal) (sym (point-push done line)));
+    way = way-push editor after done line met.added did.way did.past met.goes met.does;
+    past =
+        followed.past
+        ∙ (ap (λ (p : Past). past_with p (effect_of p (demand_of line))) did.past ∙ ap (λ (p : Point). p.past) (sym (point-push done line)));
     asked =
         ap (λ (p : Point). p.asked) (point-push done line)
         ∙ (ap (λ n. n + looks_asked (effect_at (point_after done) line).display) did.asked
-        ∙ (ap (λ n. length (looks_in seat.mine) + n) (ap (λ (es : List Edit). looks_asked (effect_of es (demand_of line)).display) (sym did.journal) ∙ sym met.asked)
+        ∙ (ap (λ n. length (looks_in seat.mine) + n) (ap (λ (p : Past). looks_asked (effect_of p (demand_of line)).display) (sym did.past) ∙ sym met.asked)
         ∙ (sym (length-append (looks_in seat.mine) (looks_in met.added)) ∙ ap length (sym (looks-gone seat after met.added met.goes)))));
     unfinished = met.goes.unfinished did.unfinished;
   }
@@ -79,8 +88,8 @@ module _ (before seat after : BoardSeat) (done : List (List ℕ)) (line : List �
       let there : slice_get (looks_in after.mine) (point_after done).asked ≡ slice_get (looks_in met.added) 0 =
       (λ i. slice_get (looks i) (did.asked i)) ∙ get-behind (looks_in seat.mine) (looks_in met.added) in
       let said : answer_to (effect_at (point_after done) line).display (slice_get (looks_in after.mine) (point_after done).asked) ≡ answer =
-      (λ i. answer_to (effect_of (sym did.journal i) (demand_of line)).display (there i)) ∙ sym met.answered in
-      λ i. rows_of words (count-is done i + 1) (length (sym did.journal i)) (said i)
+      (λ i. answer_to (effect_of (sym did.past i) (demand_of line)).display (there i)) ∙ sym met.answered in
+      λ i. rows_of words (count-is done i + 1) (length ((sym did.past i).journal)) (said i)
 
   text-before : (words : CommandLine) → text_of words (looks_in after.mine) done ≡ text_of words (looks_in seat.mine) done
   text-before words =
@@ -103,8 +112,8 @@ module _ (before seat after : BoardSeat) (done : List (List ℕ)) (line : List �
       record {
         refused_is =
             ap (λ (p : Point). p.refused) (point-push done line)
-            ∙ (λ i. told.refused_is i || (ap (λ (es : List Edit). is_refused (effect_of es (demand_of line)).display) (sym did.journal)
-            ∙ (sym (refusal-is (comes_to seat line).display look) ∙ ap is_refusal (sym met.answered))) i);
+            ∙ (λ i. told.refused_is i || (ap (λ (p : Past). is_refused (effect_of p (demand_of line)).display) (sym did.past)
+            ∙ (sym (refusal-is (comes_to editor line).display look) ∙ ap is_refusal (sym met.answered))) i);
         written =
             let text = text_of words (looks_in seat.mine) done in
             let rows = rows_of words (length done + 1) (length (accepted_edits seat.mine)) answer in
@@ -120,18 +129,20 @@ all_but_last-push (first ∷ second ∷ more) line = ap (λ ls. first ∷ ls) (a
 -- ---- lines that were broken off
 
 -- the rows of the last line, or some of them
-pub broken-told : (stopped : Stopped) (words : CommandLine) (refused : Bool) (before seat after : BoardSeat) (taken_before taken_now taken_after : Option (List ℕ)) (done : List (List ℕ)) (line : List ℕ) (answer : Answer)
-    → Did before seat done → HasMet seat (comes_to seat line) answer after → Told words refused seat taken_before taken_now done
-    → TakesFront stopped taken_now taken_after (rows_of words (length done + 1) (length (accepted_edits seat.mine)) answer)
-    → TakesPartOf stopped words (looks_in after.mine) taken_before taken_after (done ++ line ∷ [])
-broken-told stopped words refused before seat after taken_before taken_now taken_after done line answer did met told takes =
+pub broken-told : (stopped : Stopped) (words : CommandLine) (refused : Bool) (before : BoardSeat) (editor after_line : Editor) (taken_before taken_now taken_after : Option (List ℕ)) (done : List (List ℕ)) (line : List ℕ) (answer : Answer)
+    → Did before editor done → HasMet editor.seat (comes_to editor line) answer after_line.seat → HasFollowed editor (comes_to editor line) after_line → Told words refused editor.seat taken_before taken_now done
+    → TakesFront stopped taken_now taken_after (rows_of words (length done + 1) (length (accepted_edits editor.seat.mine)) answer)
+    → TakesPartOf stopped words (looks_in after_line.seat.mine) taken_before taken_after (done ++ line ∷ [])
+broken-told stopped words refused before editor after_line taken_before taken_now taken_after done line answer did met followed told takes =
+    let seat = editor.seat in
+    let after = after_line.seat in
     let others : text_of words (looks_in after.mine) (all_but_last (done ++ line ∷ [])) ≡ text_of words (looks_in seat.mine) done =
-    ap (text_of words (looks_in after.mine)) (all_but_last-push done line) ∙ text-before before seat after done line answer did met words in
+    ap (text_of words (looks_in after.mine)) (all_but_last-push done line) ∙ text-before before editor after_line done line answer did met followed words in
     record {
       front = takes.front;
       part = takes.part;
       rest = takes.rest;
-      text = text-then before seat after done line answer did met words ∙ (λ i. sym others i ++ takes.parts i);
+      text = text-then before editor after_line done line answer did met followed words ∙ (λ i. sym others i ++ takes.parts i);
       begun = takes.begun;
       taken =
           subst (λ (rows : List (List ℕ)). Appends taken_before taken_after (joined (rows ++ takes.front) ++ takes.part)) (sym others)
@@ -139,10 +150,11 @@ broken-told stopped words refused before seat after taken_before taken_now taken
     }
 
 -- nothing of the last line
-pub failed-told : (words : CommandLine) (refused : Bool) (before seat after : BoardSeat) (taken_before taken_now taken_after : Option (List ℕ)) (done : List (List ℕ)) (line : List ℕ)
-    → HasFailed seat (comes_to seat line) after → Told words refused seat taken_before taken_now done → Appends taken_now taken_after []
+pub failed-told : (words : CommandLine) (refused : Bool) (editor : Editor) (after : BoardSeat) (taken_before taken_now taken_after : Option (List ℕ)) (done : List (List ℕ)) (line : List ℕ)
+    → HasFailed editor.seat (comes_to editor line) after → Told words refused editor.seat taken_before taken_now done → Appends taken_now taken_after []
     → TakesPartOf stops.NoMemory words (looks_in after.mine) taken_before taken_after (done ++ line ∷ [])
-failed-told words refused before seat after taken_before taken_now taken_after done line failed told none =
+failed-told words refused editor after taken_before taken_now taken_after done line failed told none =
+    let seat = editor.seat in
     let looks : looks_in after.mine ≡ looks_in seat.mine =
     looks-gone seat after failed.added failed.goes ∙ (ap (λ (l : List LookAll). looks_in seat.mine ++ l) failed.unanswered ∙ append-nil (looks_in seat.mine)) in
     let text = text_of words (looks_in seat.mine) done in
@@ -160,25 +172,27 @@ failed-told words refused before seat after taken_before taken_now taken_after d
           (on-from taken_before taken_now taken_after text [] [] told.written none);
     }
 
-pub failed-way : (before seat after : BoardSeat) (done : List (List ℕ)) (line : List ℕ) → Did before seat done → HasFailed seat (comes_to seat line) after
+pub failed-way : (before : BoardSeat) (editor : Editor) (after : BoardSeat) (done : List (List ℕ)) (line : List ℕ) → Did before editor done → HasFailed editor.seat (comes_to editor line) after
     → HasEnded status.NoMemory (done ++ line ∷ []) before after
-failed-way before seat after done line did failed = record {
-  same = same-gone before seat after failed.added did.same failed.goes;
-  way = inr (record {
-    before = done;
-    line = line;
-    whole = refl;
-    front = seat.mine;
-    added = failed.added;
-    way = way-grown seat.seen after.seen done seat.mine did.way failed.goes.seen;
-    fails = subst (λ (es : List Edit). Fails es (effect_of es (demand_of line)) failed.added) did.journal failed.fails;
-    own_is = failed.goes.mine;
-  });
-}
+failed-way before editor after done line did failed =
+    let seat = editor.seat in
+    record {
+      same = same-gone before seat after failed.added did.same failed.goes;
+      way = inr (record {
+        before = done;
+        line = line;
+        whole = refl;
+        front = seat.mine;
+        added = failed.added;
+        way = way-grown seat.seen after.seen done seat.mine did.way failed.goes.seen;
+        fails = subst (λ (p : Past). Fails p.journal (effect_of p (demand_of line)) failed.added) did.past failed.fails;
+        own_is = failed.goes.mine;
+      });
+    }
 
-pub stopped-way : (stopped : Stopped) (before seat : BoardSeat) (done : List (List ℕ)) → Did before seat done → HasEnded (status_of stopped) done before seat
-stopped-way stops.WriteFault before seat done did = record { same = did.same; way = did.way }
-stopped-way stops.NoMemory before seat done did = record { same = did.same; way = inl did.way }
+pub stopped-way : (stopped : Stopped) (before : BoardSeat) (editor : Editor) (done : List (List ℕ)) → Did before editor done → HasEnded (status_of stopped) done before editor.seat
+stopped-way stops.WriteFault before editor done did = record { same = did.same; way = did.way }
+stopped-way stops.NoMemory before editor done did = record { same = did.same; way = inl did.way }
 
 -- of no lines nothing was written
 pub nothing-told : (words : CommandLine) (looks : List LookAll) (taken : Option (List ℕ)) → TakesPartOf stops.NoMemory words looks taken taken []

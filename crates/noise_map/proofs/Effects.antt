@@ -69,7 +69,7 @@ rows-more words looks more number version asked (contoured contour) few =
 line-more : (words : CommandLine) (looks more : List LookAll) (point : Point) (line : List ℕ) → (passed_line point line).asked ≤ length looks
     → line_rows words (looks ++ more) point line ≡ line_rows words looks point line
 unfolding line_rows
-line-more words looks more point line few = rows-more words looks more (point.count + 1) (length point.journal) point.asked (effect_at point line).display few
+line-more words looks more point line few = rows-more words looks more (point.count + 1) (length point.past.journal) point.asked (effect_at point line).display few
 
 -- looks that no line asks for change nothing
 pub text-more : (words : CommandLine) (looks more : List LookAll) (point : Point) (done : List (List ℕ)) → (fold passed_line point done).asked ≤ length looks

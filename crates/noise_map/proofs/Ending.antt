@@ -1,10 +1,10 @@
 -- How a run over an input ends, and how its seats come together.
-use Rattle.std.proofs.Common.{◌≡◌, ℕ, ◌+◌, ◌≤◌, Bool, true, false, ◌||◌, List, [], ◌∷◌, ◌++◌, length, take, Some, None, refl, sym, ap, ◌∙◌, subst, inl, inr, append_assoc}
-use Rattle.std.specs.Prelude.{Option, Ok, Err}
+use Rattle.std.proofs.Common.{◌≡◌, ℕ, ◌+◌, ◌≤◌, Bool, true, false, ◌||◌, List, [], ◌∷◌, ◌++◌, length, take, Some, None, refl, sym, ap, ◌∙◌, subst, inl, inr, append_assoc, arith}
+use Rattle.std.specs.Prelude.{Option, Ok, Err, All}
 use Rattle.std.specs.Io.KnownBytes.{Appends}
 use Rattle.std.proofs.KnownBytes.{Appends-nil}
 use Rattle.std.proofs.lemmas.List.{append-nil}
-use Rattle.std.proofs.lemmas.List.Elements.{All-nil}
+use Rattle.std.proofs.lemmas.List.Elements.{All-nil, All-head}
 use Rattle.command_words.specs.declared.line.CommandLine.{CommandLine}
 use Rattle.map_io.specs.declared.reader.Stop.TheVariants.{Going}
 use Rattle.map_io.specs.declared.reader.Next.{Next}
@@ -21,6 +21,7 @@ use Rattle.map_board.specs.Showing.{accepted_edits}
 use Rattle.map_lock.specs.Turns.{HasTurned}
 use Rattle.map_lock.specs.Settling.{HasNotFinished, is_finish}
 use Rattle.noise_map.specs.declared.editor.Editor.{Editor}
+use Rattle.noise_map.specs.declared.keeping.KeptVersion.{KeptVersion}
 use Rattle.noise_map.specs.declared.stopped.Stopped.{Stopped}
 use Rattle.noise_map.specs.declared.stopped.Stopped.TheVariants as stops
 use Rattle.noise_map.specs.declared.status.Status.{Status}
@@ -31,8 +32,8 @@ use Rattle.noise_map.specs.Texts.{text_of, rows_of}
 use Rattle.noise_map.specs.Ways.{Way, begun, looks_in}
 use Rattle.noise_map.specs.Histories.{IsWay}
 use Rattle.noise_map.specs.Taking.{joined, TakesFront}
-use Rattle.noise_map.specs.Steps.{Knows, is_refusal}
-use Rattle.noise_map.specs.Progress.{Read, Did, Progress, HasWritten, HasEnded, HasFinished, Ended, AskedEnded, IsTextOf, ending_of, status_at_end, status_of}
+use Rattle.noise_map.specs.Steps.{kept_in, IsKeptOf, Knows, is_refusal}
+use Rattle.noise_map.specs.Progress.{Read, IsSameSeat, Did, Progress, HasWritten, HasEnded, HasFinished, Ended, AskedEnded, IsTextOf, ending_of, status_at_end, status_of}
 use Rattle.noise_map.specs.Outcome.{Covers, CoversFront, Writes, TellsRefused, TakesPartOf}
 use Rattle.noise_map.proofs.Ways.{looks_in-append, looks_in-one, is_way-grown}
 use Rattle.noise_map.proofs.Doing.{same-self, did-more, told-more, broken-told, failed-told, nothing-told, failed-way, stopped-way}
@@ -40,26 +41,35 @@ use Rattle.noise_map.proofs.Reading.{StaysStopped, nothing_covered, started_as, 
 
 -- ---- the beginning
 
-did-none : (seat : BoardSeat) → seat.mine ≡ [] → Did seat seat []
-did-none seat none = record {
-  same = same-self seat;
-  way = subst (Way seat.seen []) (sym none) begun;
-  journal = ap accepted_edits none;
+-- an editor of no accepted edit keeps no version beside 0
+nothing-kept : (at_first : Editor) → at_first.seat.mine ≡ [] → Knows at_first → at_first.kept.items ≡ []
+nothing-kept at_first none knows = by at_first.kept.items (subst (λ (es : Entries). All (IsKeptOf (accepted_edits es)) at_first.kept.items) none knows.kept) where
+  by : (kept : List KeptVersion) → All (IsKeptOf []) kept → kept ≡ []
+  by [] all = refl
+  by (one ∷ kept) all = let is = All-head (IsKeptOf []) one kept all in absurd (omega (arith, is.some, is.known))
+
+-- a seat that has done nothing
+went-none : (seat : BoardSeat) → seat.mine ≡ [] → IsSameSeat seat seat × Way seat.seen [] seat.mine
+went-none seat none = (same-self seat, subst (Way seat.seen []) (sym none) begun)
+
+-- an editor who has done nothing keeps version 0 alone
+pub did-at-start : (at_first : Editor) → at_first.seat.mine ≡ [] → Knows at_first → Did at_first.seat at_first []
+did-at-start at_first none knows = record {
+  same = (went-none at_first.seat none).0;
+  way = (went-none at_first.seat none).1;
+  past = λ i. record { journal = accepted_edits (none i); kept = kept_in (nothing-kept at_first none knows i) };
   asked = ap (λ (es : Entries). length (looks_in es)) (sym none);
   unfinished = subst HasNotFinished (sym none) (All-nil (λ (e : BoardEntry). is_finish e.call ≡ false));
 }
 
-pub started : (words : CommandLine) (r : Reading) (seat : BoardSeat) (left taken : Option (List ℕ)) → r ≡ fresh → seat.mine ≡ []
-    → Progress words r 0 false seat seat left left taken taken
-started words r seat left taken is none = record {
+pub started : (words : CommandLine) (r : Reading) (at_first : Editor) (left taken : Option (List ℕ)) → r ≡ fresh → at_first.seat.mine ≡ [] → Knows at_first
+    → Progress words r 0 false at_first.seat at_first left left taken taken
+started words r at_first left taken is none knows = record {
   done = [];
   read = started_as r left is;
-  did = did-none seat none;
+  did = did-at-start at_first none knows;
   told = record { refused_is = refl; written = Appends-nil taken };
 }
-
-pub did-at-start : (seat : BoardSeat) → seat.mine ≡ [] → Did seat seat []
-did-at-start seat none = did-none seat none
 
 -- ---- the end
 
@@ -86,13 +96,13 @@ as_ended words next.ReadFault refused s seat taken_before taken_now done ends wr
 as_ended words next.InputLimit refused s seat taken_before taken_now done ends written way =
     subst (λ (x : Status). AsEnded words x seat taken_before taken_now done) (some_injective ends) (written, way)
 
-pub ended-reading : (words : CommandLine) (answer : Next) (s : Status) (r r' : Reading) (count : ℕ) (refused : Bool) (before seat : BoardSeat) (left now after taken_before taken_now : Option (List ℕ))
+pub ended-reading : (words : CommandLine) (answer : Next) (s : Status) (r r' : Reading) (count : ℕ) (refused : Bool) (before : BoardSeat) (seat : Editor) (left now after taken_before taken_now : Option (List ℕ))
     → (p : Progress words r count refused before seat left now taken_before taken_now) → bytes_read r' ≤ input_limit
     → ending_of answer refused ≡ Some s → (r.stop ≡ Going → NextGives answer r r' now after) → StaysStopped answer r r' now after
-    → Ended words s count (λ done. HasEnded s done before seat) seat left after taken_before taken_now
+    → Ended words s count (λ done. HasEnded s done before seat.seat) seat.seat left after taken_before taken_now
 ended-reading words answer s r r' count refused before seat left now after taken_before taken_now p within ends gives stays =
     let covered = read_ended answer s r r' count refused left now after p.done p.read within ends gives stays in
-    let written = as_ended words answer refused s seat taken_before taken_now p.done ends p.told.written p.did.way in
+    let written = as_ended words answer refused s seat.seat taken_before taken_now p.done ends p.told.written p.did.way in
     record {
       done = p.done;
       counted = p.read.counted;
@@ -113,14 +123,14 @@ broken-says words stops.NoMemory refused looks left later taken_before taken_aft
 pub unread : (words : CommandLine) (seat : BoardSeat) (left taken : Option (List ℕ)) → seat.mine ≡ [] → (s : Status) (n : ℕ) → s ≡ status.NoMemory → n ≡ 0
     → Ended words s n (λ done. HasEnded s done seat seat) seat left left taken taken
 unread words seat left taken none s n is count =
-    let did = did-none seat none in
+    let went = went-none seat none in
     let none_done : Ended words status.NoMemory 0 (λ done. HasEnded status.NoMemory done seat seat) seat left left taken taken = record {
       done = [];
       counted = refl;
       covers = nothing_covered left;
       refused = tt;
       writes = nothing-told words (looks_in seat.mine) taken;
-      goes = record { same = did.same; way = inl did.way };
+      goes = record { same = went.0; way = inl went.1 };
     } in
     subst (λ (x : Status). Ended words x n (λ done. HasEnded x done seat seat) seat left left taken taken) (sym is)
     (subst (λ (m : ℕ). Ended words status.NoMemory m (λ done. HasEnded status.NoMemory done seat seat) seat left left taken taken) (sym count) none_done)
@@ -128,7 +138,7 @@ unread words seat left taken none s n is count =
 -- ---- one line more
 
 module _ (words : CommandLine) (answer : Next) (held : List ℕ) (r r' : Reading) (count : ℕ) (refused : Bool) (before : BoardSeat) (seat after : Editor)
-    (left now later taken_before taken_now taken_after : Option (List ℕ)) (p : Progress words r count refused before seat.seat left now taken_before taken_now)
+    (left now later taken_before taken_now taken_after : Option (List ℕ)) (p : Progress words r count refused before seat left now taken_before taken_now)
     (goes : ending_of answer refused ≡ None) (gives : r.stop ≡ Going → NextGives answer r r' now later) (stays : StaysStopped answer r r' now later)
     (within : bytes_read r' ≤ input_limit) (is : held ≡ r'.line) where
   abbrev this_line : List ℕ
@@ -141,7 +151,7 @@ module _ (words : CommandLine) (answer : Next) (held : List ℕ) (r r' : Reading
   this-text = text_held answer r r' count refused left now later p.done p.read goes gives stays held is
 
   abbrev On : Bool → Type 0
-  On any = Progress words r' (count + 1) any before after.seat left later taken_before taken_after
+  On any = Progress words r' (count + 1) any before after left later taken_before taken_after
 
   pub turned : (one : Bool) → ((text : List ℕ) → IsTextOf answer held text → HasWritten (Ok one) words (count + 1) seat text after taken_now taken_after)
       → On (refused || one) × Knows after
@@ -150,11 +160,11 @@ module _ (words : CommandLine) (answer : Next) (held : List ℕ) (r r' : Reading
       let on : On (refused || is_refusal w.0) = record {
         done = p.done ++ this_line ∷ [];
         read = read-on;
-        did = did-more before seat.seat after.seat p.done this_line w.0 p.did w.1;
-        told = told-more before seat.seat after.seat p.done this_line w.0 p.did w.1 words refused taken_before taken_now taken_after p.told
+        did = did-more before seat after p.done this_line w.0 p.did w.1 w.2;
+        told = told-more before seat after p.done this_line w.0 p.did w.1 w.2 words refused taken_before taken_now taken_after p.told
             (subst (λ n. Appends taken_now taken_after (joined (rows_of words (n + 1) (length (accepted_edits seat.seat.mine)) w.0))) (sym p.read.counted) w.3);
       } in
-      (subst (λ (b : Bool). On (refused || b)) (sym w.4) on, w.2)
+      (subst (λ (b : Bool). On (refused || b)) (sym w.4) on, w.2.knows)
 
   abbrev Broke : Status → Type 0
   Broke s = Ended words s (count + 1) (λ done. HasEnded s done before after.seat) after.seat left later taken_before taken_after
@@ -170,13 +180,13 @@ module _ (words : CommandLine) (answer : Next) (held : List ℕ) (r r' : Reading
   broke-by stopped (inl failed) few =
       subst (λ (x : Stopped). Broke (status_of x)) (sym failed.1)
       (broke-at stops.NoMemory
-      (failed-told words refused before seat.seat after.seat taken_before taken_now taken_after p.done this_line failed.0 p.told failed.2)
-      (failed-way before seat.seat after.seat p.done this_line p.did failed.0) few)
-  broke-by stopped (inr (said, met, front)) few =
+      (failed-told words refused seat after.seat taken_before taken_now taken_after p.done this_line failed.0 p.told failed.2)
+      (failed-way before seat after.seat p.done this_line p.did failed.0) few)
+  broke-by stopped (inr (said, met, followed, front)) few =
       broke-at stopped
-      (broken-told stopped words refused before seat.seat after.seat taken_before taken_now taken_after p.done this_line said p.did met p.told
+      (broken-told stopped words refused before seat after taken_before taken_now taken_after p.done this_line said p.did met followed p.told
       (subst (λ n. TakesFront stopped taken_now taken_after (rows_of words (n + 1) (length (accepted_edits seat.seat.mine)) said)) (sym p.read.counted) front))
-      (stopped-way stopped before after.seat (p.done ++ this_line ∷ []) (did-more before seat.seat after.seat p.done this_line said p.did met)) few
+      (stopped-way stopped before after (p.done ++ this_line ∷ []) (did-more before seat after p.done this_line said p.did met followed)) few
 
   pub turned-off : (stopped : Stopped) → ((text : List ℕ) → IsTextOf answer held text → HasWritten (Err stopped) words (count + 1) seat text after taken_now taken_after)
       → length r'.pending ≤ read_size → Broke (status_of stopped)

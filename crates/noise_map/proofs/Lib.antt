@@ -1,6 +1,11 @@
 pub mod Ways
-pub mod Meeting
 pub mod Effects
+pub mod Journals
+pub mod Trails
+pub mod SoundEdits
+pub mod Undone
+pub mod KeptVersions
+pub mod Meeting
 mod EditLists
 mod Contours
 pub mod Reading

@@ -1,5 +1,5 @@
 -- What a line's demand is met by.
-use Rattle.std.proofs.Common.{◌≡◌, ◌≤◌, ℕ, suc, true, false, List, [], ◌∷◌, ◌++◌, length, refl, sym, ap, ◌∙◌, subst, arith, inl, inr, append_assoc, length-append}
+use Rattle.std.proofs.Common.{◌≡◌, ◌≤◌, ◌<◌, ℕ, suc, true, false, List, [], ◌∷◌, ◌++◌, length, refl, sym, ap, ◌∙◌, subst, arith, inl, inr, append_assoc, length-append}
 use Rattle.std.specs.Prelude.{Bool, nat_lt, Option, Some, None, ◌⊎◌, Result, Ok, Err, All, IfOk, slice_get}
 use Rattle.std.proofs.lemmas.List.{append-nil}
 use Rattle.std.proofs.lemmas.List.Elements.{All-nil, All-append, All-cons, All-head, All-tail}
@@ -13,7 +13,7 @@ use Rattle.scene_book.specs.declared.edits.EditFault.TheVariants as faults
 use Rattle.scene_book.specs.Limits.{most_receivers}
 use Rattle.command_lines.specs.Views.{Contour, LineSource}
 use Rattle.map_text.specs.declared.refusals.Refusal.{Refusal}
-use Rattle.map_text.specs.declared.refusals.Refusal.TheVariants.{Edit as OfEdit, Line as OfLine}
+use Rattle.map_text.specs.declared.refusals.Refusal.TheVariants.{Edit as OfEdit, Line as OfLine, LongLine}
 use Rattle.turn_lock.specs.History.{entries_of, entry}
 use Rattle.turn_lock.proofs.Histories.{begins_self, entries_of-own}
 use Rattle.map_board.specs.declared.calls.BoardCall.{BoardCall}
@@ -32,6 +32,7 @@ use Rattle.map_lock.specs.Settling.{is_finish, is_settling, is_look, HasNotFinis
 use Rattle.noise_map.specs.declared.answer.Answer.{Answer}
 use Rattle.noise_map.specs.declared.answer.Answer.TheVariants as answers
 use Rattle.noise_map.specs.declared.editor.Editor.{Editor}
+use Rattle.noise_map.specs.declared.keeping.KeptVersion.{KeptVersion}
 use Rattle.command_lines.specs.declared.commands.Command.{Command}
 use Rattle.command_lines.specs.declared.commands.Command.TheVariants as commands
 use Rattle.line_sources.specs.Pieces.{line_edits_of, unline_edits_of}
@@ -44,24 +45,17 @@ use Rattle.noise_map.specs.Effects.{Display, silent, refused, settled, known, co
 use Rattle.noise_map.specs.Texts.{answer_to, looked_by, settled_by, contoured_by}
 use Rattle.noise_map.specs.Ways.{look_in, looks_in, look_entry, edit_entry, lacking_edit, BreaksOff, Settles, DoesLook, Does, IsNoLook}
 use Rattle.noise_map.specs.Rows.{ShowsFew}
-use Rattle.noise_map.specs.Steps.{Knows, HasGone, HasMade, HasLacked, MakesOrLacks, MakesUnlessMemory, display_behind, HasMet, HasFailed, MeetsUnlessMemory, MeetsEditsUnlessMemory}
+use Rattle.noise_map.specs.Steps.{kept_in, past_of, IsKeptOf, Descends, Knows, HasGone, HasMade, HasLacked, MakesOrLacks, MakesUnlessMemory, display_behind, HasMet, HasFollowed, HasFailed, MeetsUnlessMemory, MeetsEditsUnlessMemory}
 use Rattle.noise_map.proofs.Effects.{newest-with}
+use Rattle.noise_map.proofs.KeptVersions.{all-each, all-front, kept-with-edit}
 use Rattle.noise_map.proofs.Ways.{looks_in-append, looks_in-one, accepted-append, accepted-one, own-front}
 
 -- ---- lists of entries
-
-pub all-front : {X : Type 0} (P : X → Type 0) (xs ys : List X) → All P (xs ++ ys) → All P xs
-all-front P [] ys all = All-nil P
-all-front P (x ∷ xs) ys all = All-cons P x xs (All-head P x (xs ++ ys) all) (all-front P xs ys (All-tail P x (xs ++ ys) all))
 
 all-both : {X : Type 0} (P Q R : X → Type 0) → ((x : X) → P x → Q x → R x) → (xs : List X) → All P xs → All Q xs → All R xs
 all-both P Q R both [] p q = All-nil R
 all-both P Q R both (x ∷ xs) p q =
     All-cons R x xs (both x (All-head P x xs p) (All-head Q x xs q)) (all-both P Q R both xs (All-tail P x xs p) (All-tail Q x xs q))
-
-pub all-each : {X : Type 0} (P Q : X → Type 0) → ((x : X) → P x → Q x) → (xs : List X) → All P xs → All Q xs
-all-each P Q each [] p = All-nil Q
-all-each P Q each (x ∷ xs) p = All-cons Q x xs (each x (All-head P x xs p)) (all-each P Q each xs (All-tail P x xs p))
 
 unlooked : (reply : BoardReply) → is_look reply ≡ false → look_in reply ≡ []
 unlooked (replies.Edited result) h = refl
@@ -100,6 +94,11 @@ unfinishing calls.Finish h = cc
 unfinishing (calls.Offer answer) h = refl
 unfinishing (calls.GiveBack job) h = refl
 unfinishing calls.Look h = refl
+
+-- ---- what is carried out, and followed
+
+abbrev pub Meets : Editor → Effect → Answer → Editor → Type 0
+Meets before effect answer after = HasMet before.seat effect answer after.seat × HasFollowed before effect after
 
 -- ---- a seat that did one thing, or nothing
 
@@ -211,36 +210,45 @@ module _ (show : RunsShowRight) (before : Editor) (edit : Edit) where
 
   -- an editor whose scene has followed the edit knows the newest version
   edit-known : (after : Editor) → Knows before → accepted_edits after.seat.mine ≡ journal_with own_journal edit → after.scene ≡ book_after edit before.scene
-      → after.version ≡ length (journal_with own_journal edit) → Knows after
-  edit-known after knows accepts followed version = record {
-    scene = followed ∙ (ap (book_after edit) knows.scene ∙ (sym (newest-with own_journal edit) ∙ ap newest_scene (sym accepts)));
-    version = version ∙ ap length (sym accepts);
-  }
+      → after.version ≡ length (journal_with own_journal edit) → after.kept ≡ before.kept → Knows after
+  edit-known after knows accepts followed version same =
+      let items : after.kept.items ≡ before.kept.items = λ i. (same i).items in
+      record {
+        scene = followed ∙ (ap (book_after edit) knows.scene ∙ (sym (newest-with own_journal edit) ∙ ap newest_scene (sym accepts)));
+        version = version ∙ ap length (sym accepts);
+        kept =
+            subst (λ (es : List Edit). All (IsKeptOf es) after.kept.items) (sym accepts)
+            (subst (λ (ks : List KeptVersion). All (IsKeptOf (journal_with own_journal edit)) ks) (sym items) (kept-with-edit own_journal edit before.kept.items knows.kept));
+        order = subst (λ (ks : List KeptVersion). Descends (kept_in ks)) (sym items) knows.order;
+      }
 
   pub edit-made : (version : ℕ) (after : Editor) → Knows before → EditTurns (Ok version) after.seat → IsEditor after.seat → after.scene ≡ book_after edit before.scene → after.version ≡ version
-      → HasMade before edit after × (display_behind before edit ≡ silent)
-  edit-made version after knows turn sound followed told =
+      → after.kept ≡ before.kept → HasMade false before edit after × (display_behind before edit ≡ silent)
+  edit-made version after knows turn sound followed told same =
       let is = said-there (Ok version) after.seat turn sound turn.step.0 in
       let parts = edit-accepted own_journal edit version scene_answers is in
       let accepts = edit-accepts (Ok version) after.seat turn parts.0 in (
         record {
           goes = edit-goes (Ok version) after.seat turn sound is;
           accepts = accepts;
-          knows = edit-known after knows accepts followed (told ∙ (sym parts.2 ∙ (omega (arith, length-append own_journal (edit ∷ [])) ∙ ap length parts.0)));
+          knows = edit-known after knows accepts followed (told ∙ (sym parts.2 ∙ (omega (arith, length-append own_journal (edit ∷ [])) ∙ ap length parts.0))) same;
+          keeps_it = λ i. kept_in ((same i).items);
         },
         parts.1,
       )
 
   pub edit-refused-made : (fault : EditFault) (after : Editor) → lacks_memory fault ≡ false → Knows before → EditTurns (Err fault) after.seat → IsEditor after.seat
-      → after.scene ≡ book_after edit before.scene → after.version ≡ before.version → HasMade before edit after × (display_behind before edit ≡ refused (OfEdit fault))
-  edit-refused-made fault after memory knows turn sound followed told =
+      → after.scene ≡ book_after edit before.scene → after.version ≡ before.version → after.kept ≡ before.kept
+      → HasMade false before edit after × (display_behind before edit ≡ refused (OfEdit fault))
+  edit-refused-made fault after memory knows turn sound followed told same =
       let is = said-there (Err fault) after.seat turn sound (rw memory at turn.step.0) in
       let parts = edit-refused own_journal edit fault scene_answers is in
       let accepts = edit-accepts (Err fault) after.seat turn (append-nil own_journal ∙ parts.0) in (
         record {
           goes = edit-goes (Err fault) after.seat turn sound is;
           accepts = accepts;
-          knows = edit-known after knows accepts followed (told ∙ (knows.version ∙ ap length parts.0));
+          knows = edit-known after knows accepts followed (told ∙ (knows.version ∙ ap length parts.0)) same;
+          keeps_it = λ i. kept_in ((same i).items);
         },
         parts.1,
       )
@@ -263,17 +271,17 @@ module _ (show : RunsShowRight) (before : Editor) (edit : Edit) where
 
   -- refused by the scene, or without memory
   pub edit-unmade : (lacks : Bool) (fault : EditFault) (after : Editor) → lacks_memory fault ≡ lacks → Knows before → EditTurns (Err fault) after.seat → IsEditor after.seat
-      → after.scene ≡ book_after edit before.scene → after.version ≡ before.version → MakesOrLacks lacks before edit fault after
-  edit-unmade true fault after memory knows turn sound followed told = edit-lacked fault after memory turn sound
-  edit-unmade false fault after memory knows turn sound followed told = edit-refused-made fault after memory knows turn sound followed told
+      → after.scene ≡ book_after edit before.scene → after.version ≡ before.version → after.kept ≡ before.kept → MakesOrLacks lacks false before edit fault after
+  edit-unmade true fault after memory knows turn sound followed told same = edit-lacked fault after memory turn sound
+  edit-unmade false fault after memory knows turn sound followed told same = edit-refused-made fault after memory knows turn sound followed told same
 
 -- what a `?` gives back of it
 pub edit-ended : {X : Type 0} (show : RunsShowRight) (before : Editor) (edit : Edit) (result : Result X EditFault) (same fault : EditFault) (after : Editor) → result ≡ Err same → same ≡ fault → Knows before
     → HasTurned before.seat (calls.Edit edit) (replies.Edited (Err fault)) after.seat → IsEditor after.seat → after.scene ≡ book_after edit before.scene → after.version ≡ before.version
-    → MakesUnlessMemory before edit result after
-edit-ended {X} show before edit result same fault after is name knows turn sound followed told =
-    subst (λ (r : Result X EditFault). MakesUnlessMemory before edit r after) (sym (is ∙ ap (λ (f : EditFault). Err f) name))
-    (edit-unmade show before edit (lacks_memory fault) fault after refl knows turn sound followed told)
+    → after.kept ≡ before.kept → MakesUnlessMemory false before edit result after
+edit-ended {X} show before edit result same fault after is name knows turn sound followed told kept =
+    subst (λ (r : Result X EditFault). MakesUnlessMemory false before edit r after) (sym (is ∙ ap (λ (f : EditFault). Err f) name))
+    (edit-unmade show before edit (lacks_memory fault) fault after refl knows turn sound followed told kept)
 
 -- an edit that was never tried
 pub edit-untried : (before after : Editor) (edit : Edit) → after.seat ≡ before.seat → HasLacked before edit after
@@ -284,8 +292,9 @@ edit-untried before after edit same = record {
 }
 
 -- an edit alone
-pub made-met : (before after : Editor) (edit : Edit) (answer : Answer) → HasMade before edit after → ShowsFew answer → ((look : Option LookAll) → answer ≡ answer_to (display_behind before edit) look)
-    → HasMet before.seat (effect_of_edit edit (apply_of edit (newest_scene (accepted_edits before.seat.mine)))) answer after.seat × Knows after
+pub made-met : (before after : Editor) (edit : Edit) (answer : Answer) → HasMade true before edit after → ShowsFew answer → ((look : Option LookAll) → answer ≡ answer_to (display_behind before edit) look)
+    → HasMet before.seat (effect_of_edit edit (apply_of edit (newest_scene (accepted_edits before.seat.mine)))) answer after.seat
+    × HasFollowed before (effect_of_edit edit (apply_of edit (newest_scene (accepted_edits before.seat.mine)))) after
 made-met before after edit answer made few answered =
     let journal = accepted_edits before.seat.mine in
     let said = apply_of edit (newest_scene journal) in
@@ -303,7 +312,7 @@ made-met before after edit answer made few answered =
         few = few;
         answered = answered (slice_get (looks_in (e ∷ [])) 0);
       },
-      made.knows,
+      record { knows = made.knows; past = λ i. record { journal = made.accepts i; kept = made.keeps_it i } },
     )
 
 pub lacked-failed : (before after : Editor) (edit : Edit) → HasLacked before edit after
@@ -542,12 +551,24 @@ refusal-met seat fault = record {
 pub never-tried : (seat : BoardSeat) (effect : Effect) → HasFailed seat effect seat
 never-tried seat effect = record { added = []; goes = still seat; fails = record { made = 0; rest = []; is = refl; breaks = inl refl }; unanswered = refl }
 
--- an editor whose board was not edited knows the newest version as before
-pub knows-still : (before after : Editor) → Knows before → after.scene ≡ before.scene → after.version ≡ before.version → accepted_edits after.seat.mine ≡ accepted_edits before.seat.mine → Knows after
-knows-still before after knows scene version same = record {
-  scene = scene ∙ (knows.scene ∙ ap newest_scene (sym same));
-  version = version ∙ (knows.version ∙ ap length (sym same));
-}
+-- an editor whose board was not edited knows the newest version as before, and keeps the same versions
+pub knows-still : (before after : Editor) (display : Display) → Knows before → after.scene ≡ before.scene → after.version ≡ before.version → after.kept ≡ before.kept
+    → accepted_edits after.seat.mine ≡ accepted_edits before.seat.mine → HasFollowed before (shows display) after
+knows-still before after display knows scene version kept same =
+    let items : after.kept.items ≡ before.kept.items = λ i. (kept i).items in
+    record {
+      knows = record {
+        scene = scene ∙ (knows.scene ∙ ap newest_scene (sym same));
+        version = version ∙ (knows.version ∙ ap length (sym same));
+        kept = subst (λ (es : List Edit). All (IsKeptOf es) after.kept.items) (sym same) (subst (λ (ks : List KeptVersion). All (IsKeptOf (accepted_edits before.seat.mine)) ks) (sym items) knows.kept);
+        order = subst (λ (ks : List KeptVersion). Descends (kept_in ks)) (sym items) knows.order;
+      };
+      past = λ i. record { journal = same i; kept = kept_in (items i) };
+    }
+
+-- an editor who did nothing
+pub followed-still : (before : Editor) (display : Display) → Knows before → HasFollowed before (shows display) before
+followed-still before display knows = record { knows = knows; past = refl }
 
 -- what is shown is little
 pub meets-few : {E : Type 0} (before after : Editor) (demand : Demand) (result : Result Answer E) → MeetsUnlessMemory before demand result after → IfOk result ShowsFew
@@ -559,42 +580,51 @@ meets-few before after demand (Err want) met = tt
 short_line : (line : List ℕ) → length line ≤ line_limit → nat_lt line_limit (length line) ≡ false
 short_line line few = grind (arith, few)
 
+long_line : (line : List ℕ) → line_limit < length line → nat_lt line_limit (length line) ≡ true
+long_line line long = grind (arith, long)
+
 -- a blank line asks for nothing
 pub blank-line : (line : List ℕ) → length line ≤ line_limit → is_blank line ≡ true → demand_of line ≡ nothing
 unfolding demand_of
 blank-line line few blank = rw (short_line line few, blank) refl
 
+-- a long line is refused
+pub long-refused : (before : Editor) (line : List ℕ) → Knows before → line_limit < length line → Meets before (effect_of (past_of before) (demand_of line)) (answers.Refused LongLine) before
+unfolding demand_of
+long-refused before line knows long = rw (long_line line long) (refusal-met before.seat LongLine, followed-still before (refused LongLine) knows)
+
 pub refused-line : (before : Editor) (line : List ℕ) (fault : LineFault) → command_of line ≡ Err fault → Knows before
-    → HasMet before.seat (effect_of (accepted_edits before.seat.mine) (demand_read (command_of line))) (answers.Refused (OfLine fault)) before.seat × Knows before
+    → Meets before (effect_of (past_of before) (demand_read (command_of line))) (answers.Refused (OfLine fault)) before
 refused-line before line fault is knows =
-    subst (λ (r : Result Command LineFault). HasMet before.seat (effect_of (accepted_edits before.seat.mine) (demand_read r)) (answers.Refused (OfLine fault)) before.seat × Knows before) (sym is)
-    (refusal-met before.seat (OfLine fault), knows)
+    subst (λ (r : Result Command LineFault). Meets before (effect_of (past_of before) (demand_read r)) (answers.Refused (OfLine fault)) before) (sym is)
+    (refusal-met before.seat (OfLine fault), followed-still before (refused (OfLine fault)) knows)
 
 -- ---- contours
 
 -- a receiver of their grid is missing
 pub missing-met : (before : Editor) (contour : Contour) (name : List ℕ) → Knows before → first_missing_of contour before.scene ≡ Some name
-    → HasMet before.seat (effect_of (accepted_edits before.seat.mine) (command (commands.Contour contour))) (answers.Refused (OfEdit (faults.NoSuchName name))) before.seat × Knows before
+    → Meets before (effect_of (past_of before) (command (commands.Contour contour))) (answers.Refused (OfEdit (faults.NoSuchName name))) before
 missing-met before contour name knows is =
-    subst (λ (o : Option (List ℕ)). HasMet before.seat (effect_of_contour contour o) (answers.Refused (OfEdit (faults.NoSuchName name))) before.seat × Knows before)
-    (sym (ap (first_missing_of contour) (sym knows.scene) ∙ is)) (refusal-met before.seat (OfEdit (faults.NoSuchName name)), knows)
+    subst (λ (o : Option (List ℕ)). Meets before (effect_of_contour contour o) (answers.Refused (OfEdit (faults.NoSuchName name))) before)
+    (sym (ap (first_missing_of contour) (sym knows.scene) ∙ is))
+    (refusal-met before.seat (OfEdit (faults.NoSuchName name)), followed-still before (refused (OfEdit (faults.NoSuchName name))) knows)
 
 -- none is
 pub none-missing : (before : Editor) (contour : Contour) → Knows before → first_missing_of contour before.scene ≡ None
-    → effect_of (accepted_edits before.seat.mine) (command (commands.Contour contour)) ≡ shows (contoured contour)
+    → effect_of (past_of before) (command (commands.Contour contour)) ≡ shows (contoured contour)
 none-missing before contour knows is = ap (effect_of_contour contour) (ap (first_missing_of contour) (sym knows.scene) ∙ is)
 
 -- ---- line sources
 
 -- the edits of a line source in the scene that the editor knows
-pub line-in : (before : Editor) (line : LineSource) → Knows before → effect_of_edits (line_edits_of line before.scene) ≡ effect_of (accepted_edits before.seat.mine) (command (commands.Line line))
+pub line-in : (before : Editor) (line : LineSource) → Knows before → effect_of_edits (line_edits_of line before.scene) ≡ effect_of (past_of before) (command (commands.Line line))
 line-in before line knows = ap (λ (book : Book). effect_of_edits (line_edits_of line book)) knows.scene
 
-pub unline-in : (before : Editor) (name : List ℕ) → Knows before → effect_of_edits (unline_edits_of name before.scene) ≡ effect_of (accepted_edits before.seat.mine) (command (commands.Unline name))
+pub unline-in : (before : Editor) (name : List ℕ) → Knows before → effect_of_edits (unline_edits_of name before.scene) ≡ effect_of (past_of before) (command (commands.Unline name))
 unline-in before name knows = ap (λ (book : Book). effect_of_edits (unline_edits_of name book)) knows.scene
 
 -- what is carried out of one effect is carried out of the same by another name
 pub meets-as : {E : Type 0} (before after : Editor) (result : Result Answer E) (edits : Result (List Edit) EditFault) (demand : Demand)
-    → effect_of_edits edits ≡ effect_of (accepted_edits before.seat.mine) demand → MeetsEditsUnlessMemory before edits result after → MeetsUnlessMemory before demand result after
-meets-as before after (Ok answer) edits demand is met = (subst (λ (e : Effect). HasMet before.seat e answer after.seat) is met.0, met.1)
+    → effect_of_edits edits ≡ effect_of (past_of before) demand → MeetsEditsUnlessMemory before edits result after → MeetsUnlessMemory before demand result after
+meets-as before after (Ok answer) edits demand is met = subst (λ (e : Effect). Meets before e answer after) is met
 meets-as before after (Err want) edits demand is failed = subst (λ (e : Effect). HasFailed before.seat e after.seat) is failed

@@ -15,6 +15,7 @@ use Rattle.map_io.specs.LineLaws.{lines-line, lines-last, lines-empty}
 use Rattle.map_io.proofs.Scanning.{plain_before_feed, split_at_feed, plain_without_feed}
 use Rattle.noise_map.specs.FirstLine.{IsFirstLine}
 use Rattle.noise_map.specs.declared.answer.Answer.{Answer}
+use Rattle.noise_map.specs.declared.editor.Editor.{Editor}
 use Rattle.scene_parts.specs.Views.{Receiver}
 use Rattle.scene_book.specs.Book.{Book}
 use Rattle.scene_book.specs.declared.edits.Edit.{Edit}
@@ -26,12 +27,13 @@ use Rattle.map_lock.specs.Seats.{BoardSeat, BoardEntry}
 use Rattle.map_lock.specs.Settling.{IsQuiet, is_look}
 use Rattle.map_board.specs.Seats.{Entries}
 use Rattle.noise_map.specs.Demands.{demand_of}
-use Rattle.noise_map.specs.Effects.{Display, silent, refused, settled, known, contoured, Effect, effect_of, journal_with, journal_with_all, Point, at_start, passed_line, journal_of}
+use Rattle.noise_map.specs.Effects.{Display, silent, refused, settled, known, contoured, Past, past_with, Effect, effect_of, journal_with, journal_with_all, Point, at_start, passed_line, point_after}
 use Rattle.noise_map.specs.Texts.{answer_to, settled_by, looked_by, contoured_by}
 use Rattle.noise_map.specs.Ways.{looks_in, look_entry, edit_entry, edit_entries, Settles, DoesLook}
 use Rattle.noise_map.specs.Steps.{HasMet}
 use Rattle.noise_map.proofs.Ways.{looks_in-append, looks_in-one}
-use Rattle.noise_map.proofs.Meeting.{all-each, no-looks}
+use Rattle.noise_map.proofs.KeptVersions.{all-each}
+use Rattle.noise_map.proofs.Meeting.{no-looks}
 use Rattle.noise_map.specs.Making.{no_level, widened, total_in, span_in, Made, made_showing, made_with, making_of, span_with, span_of_rows, made_with_answer, made_after, made_by, nothing_made, site_lines, site_made, site_row, MakesRow}
 use Rattle.noise_map.specs.declared.status.Status.{Status}
 use Rattle.noise_map.specs.Progress.{status_at_end, Did, HasEnded, SiteEnded}
@@ -135,13 +137,13 @@ edits-unlooked journal (edit ∷ more) =
     ∙ (ap (λ (ls : List LookAll). ls ++ looks_in (edit_entries (journal_with journal edit) more)) (looks_in-one (edit_entry journal edit)) ∙ edits-unlooked (journal_with journal edit) more)
 
 -- what one more line that is shown so adds, by its answer
-showing-more : (made : Made) (history own : Entries) (display : Display) (looked : Entries) → DoesLook history own made.journal display looked
+showing-more : (made : Made) (history own : Entries) (display : Display) (looked : Entries) → DoesLook history own made.past.journal display looked
     → made_with_answer (making_of made) (answer_to display (slice_get (looks_in looked) 0)) ≡ making_of (made_showing made display)
 showing-more made history own silent looked does = refl
 showing-more made history own (refused fault) looked does = refl
 showing-more made history own settled looked does =
-    let book = newest_scene made.journal in
-    let looks : looks_in looked ≡ does.look ∷ [] = settled-look history own made.journal looked does in
+    let book = newest_scene made.past.journal in
+    let looks : looks_in looked ≡ does.look ∷ [] = settled-look history own made.past.journal looked does in
     ap (λ (ls : List LookAll). made_with_answer (making_of made) (settled_by (slice_get ls 0))) looks
     ∙ (λ i. record {
       refused = made.refused;
@@ -158,7 +160,7 @@ showing-more made history own (contoured contour) looked does = contour-adds (sl
   contour-adds (Some look) = refl
 
 -- what a line that was carried out adds, by its answer
-pub made-more : (made : Made) (seat after : BoardSeat) (effect : Effect) (answer : Answer) → accepted_edits seat.mine ≡ made.journal → HasMet seat effect answer after
+pub made-more : (made : Made) (seat after : BoardSeat) (effect : Effect) (answer : Answer) → accepted_edits seat.mine ≡ made.past.journal → HasMet seat effect answer after
     → made_with_answer (making_of made) answer ≡ making_of (made_with made effect)
 made-more made seat after effect answer journal met =
     let does = met.does in
@@ -166,7 +168,7 @@ made-more made seat after effect answer journal met =
     let looks : looks_in met.added ≡ looks_in does.looked =
     ap looks_in does.is ∙ (looks_in-append edits does.looked ∙ ap (λ (ls : List LookAll). ls ++ looks_in does.looked) (edits-unlooked (accepted_edits seat.mine) effect.edits)) in
     ap (made_with_answer (making_of made)) (met.answered ∙ ap (λ (ls : List LookAll). answer_to effect.display (slice_get ls 0)) looks)
-    ∙ showing-more (record made { journal = journal_with_all made.journal effect.edits }) after.seen (seat.mine ++ edits) effect.display does.looked
+    ∙ showing-more (record made { past = past_with made.past effect }) after.seen (seat.mine ++ edits) effect.display does.looked
     (subst (λ (es : List Edit). DoesLook after.seen (seat.mine ++ edits) (journal_with_all es effect.edits) effect.display does.looked) journal does.looks)
 
 showing-refused : (made : Made) (display : Display) → (made_showing made display).refused ≤ made.refused + 1
@@ -177,17 +179,17 @@ showing-refused made known = omega arith
 showing-refused made (contoured contour) = omega arith
 
 pub with-refused : (made : Made) (effect : Effect) → (made_with made effect).refused ≤ made.refused + 1
-with-refused made effect = showing-refused (record made { journal = journal_with_all made.journal effect.edits }) effect.display
+with-refused made effect = showing-refused (record made { past = past_with made.past effect }) effect.display
 
-showing-journal : (made : Made) (display : Display) → (made_showing made display).journal ≡ made.journal
-showing-journal made silent = refl
-showing-journal made (refused fault) = refl
-showing-journal made settled = refl
-showing-journal made known = refl
-showing-journal made (contoured contour) = refl
+showing-past : (made : Made) (display : Display) → (made_showing made display).past ≡ made.past
+showing-past made silent = refl
+showing-past made (refused fault) = refl
+showing-past made settled = refl
+showing-past made known = refl
+showing-past made (contoured contour) = refl
 
-pub with-journal : (made : Made) (effect : Effect) → (made_with made effect).journal ≡ journal_with_all made.journal effect.edits
-with-journal made effect = showing-journal (record made { journal = journal_with_all made.journal effect.edits }) effect.display
+with-past : (made : Made) (effect : Effect) → (made_with made effect).past ≡ past_with made.past effect
+with-past made effect = showing-past (record made { past = past_with made.past effect }) effect.display
 
 -- ---- the end
 
@@ -203,9 +205,9 @@ pub ended : (number count refusals : ℕ) (before after : Option (List ℕ)) →
 ended number count refusals before after all is row true test = (all, subst (λ (n : ℕ). 0 < n) is (some-refused refusals test), row)
 ended number count refusals before after all is row false test = (all, sym is ∙ none-refused refusals test, row)
 
-pub way-at-end : (test : Bool) (before seat : BoardSeat) (done : List (List ℕ)) → Did before seat done → HasEnded (status_at_end test) done before seat
-way-at-end true before seat done did = record { same = did.same; way = did.way }
-way-at-end false before seat done did = record { same = did.same; way = did.way }
+pub way-at-end : (test : Bool) (before : BoardSeat) (editor : Editor) (done : List (List ℕ)) → Did before editor done → HasEnded (status_at_end test) done before editor.seat
+way-at-end true before editor done did = record { same = did.same; way = did.way }
+way-at-end false before editor done did = record { same = did.same; way = did.way }
 
 -- how a run ends that lacked memory
 pub unmade : (number k : ℕ) (before seat : BoardSeat) (taken : Option (List ℕ)) → k ≤ length (site_lines number) → HasEnded status.NoMemory (take k (site_lines number)) before seat
@@ -256,12 +258,12 @@ next-line all k rest line after parts whole counted =
 pub made-push : (done : List (List ℕ)) (line : List ℕ) → made_by (done ++ line ∷ []) ≡ made_after (made_by done) line
 made-push done line = fold-append made_after nothing_made done (line ∷ [])
 
--- the edits that they had accepted
-made-journal-from : (made : Made) (point : Point) (done : List (List ℕ)) → made.journal ≡ point.journal → (fold made_after made done).journal ≡ (fold passed_line point done).journal
-made-journal-from made point [] same = same
-made-journal-from made point (line ∷ more) same =
-    made-journal-from (made_after made line) (passed_line point line) more
-    (with-journal made (effect_of made.journal (demand_of line)) ∙ ap (λ (es : List Edit). journal_with_all es (effect_of es (demand_of line)).edits) same)
+-- what they leave
+made-past-from : (made : Made) (point : Point) (done : List (List ℕ)) → made.past ≡ point.past → (fold made_after made done).past ≡ (fold passed_line point done).past
+made-past-from made point [] same = same
+made-past-from made point (line ∷ more) same =
+    made-past-from (made_after made line) (passed_line point line) more
+    (with-past made (effect_of made.past (demand_of line)) ∙ ap (λ (p : Past). past_with p (effect_of p (demand_of line))) same)
 
-pub made-journal : (done : List (List ℕ)) → (made_by done).journal ≡ journal_of done
-made-journal done = made-journal-from nothing_made at_start done refl
+pub made-past : (done : List (List ℕ)) → (made_by done).past ≡ (point_after done).past
+made-past done = made-past-from nothing_made at_start done refl

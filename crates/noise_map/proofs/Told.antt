@@ -18,6 +18,7 @@ use Rattle.noise_map.specs.Making.{Makes, MakesRow, site_lines}
 use Rattle.command_words.specs.declared.line.CommandLine.{CommandLine}
 use Rattle.noise_map.proofs.Reading.{nothing_covered}
 use Rattle.noise_map.proofs.Doing.{nothing-told}
+use Rattle.noise_map.proofs.Undone.{leads-back}
 use Rattle.noise_map.specs.Progress.{status_of, ending_of, HandedOut, Read}
 
 same_some : {X : Type 0} {x y : X} → Some x ≡ Some y → x ≡ y
@@ -161,6 +162,7 @@ never_begun words left taken = record {
   refused = tt;
   writes = nothing-told words [] taken;
   history = (refl, refl);
+  back = leads-back [];
 }
 
 pub never_made : (number workers : ℕ) (taken : Option (List ℕ)) → Makes number workers status.NoMemory 0 None taken taken

@@ -13,6 +13,7 @@ use Rattle.noise_map.specs.Progress.{HasFinished, Ended, SiteEnded, AskedEnded}
 use Rattle.noise_map.specs.Outcome.{Outcome, OutcomeOf, Writes}
 use Rattle.noise_map.specs.Making.{Makes, site_lines}
 use Rattle.noise_map.proofs.Crews.{comes-whole}
+use Rattle.noise_map.proofs.Undone.{leads-back}
 
 -- the seats that were lent are all that come back
 pub seats-back : {X : Type 0} (seats items : List X) (len : ℕ) → len ≡ length items → length seats ≡ length items → take len (seats ++ drop (length seats) items) ≡ seats
@@ -31,6 +32,7 @@ whole-run words lock s count first seat last left later taken_before taken_after
   refused = ended.refused;
   writes = subst (λ (ls : List LookAll). Writes words ls s taken_before taken_after ended.done) (sym (ap looks_in joined.joins.mine)) ended.writes;
   history = comes-whole lock words.workers s ended.done first seat last joined.others begins ended.goes joined.back (joined.all ∙ all) joined.joins;
+  back = leads-back ended.done;
 }
 
 -- over a generated site

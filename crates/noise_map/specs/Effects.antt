@@ -1,5 +1,6 @@
--- What a line comes to behind the edits that were accepted before it: the edits that are made for it, and what is shown.
-use Rattle.std.specs.Prelude.{ℕ, ◌+◌, Bool, true, false, ◌||◌, List, [], ◌∷◌, ◌++◌, fold, Option, Some, None, Result, Ok, Err}
+-- What a line comes to behind the lines before it: the edits that are made for it, and what is shown.
+use Rattle.std.specs.Prelude.{ℕ, zero, suc, ◌+◌, Bool, true, false, ◌||◌, ◌==◌, nat_lt, nat_le, List, [], ◌∷◌, ◌++◌, length, fold, filter, flat_map, slice_get, Option, Some, None, Result, Ok, Err, if◌then◌else◌}
+use Rattle.std.specs.List.{list_any}
 use Rattle.scene_parts.specs.declared.parts.Part.{Part}
 use Rattle.scene_book.specs.Book.{Book}
 use Rattle.scene_book.specs.Applying.{apply_of}
@@ -10,16 +11,46 @@ use Rattle.command_lines.specs.Views.{Contour}
 use Rattle.command_lines.specs.declared.commands.Command.{Command}
 use Rattle.command_lines.specs.declared.commands.Command.TheVariants as commands
 use Rattle.map_text.specs.declared.refusals.Refusal.{Refusal}
-use Rattle.map_text.specs.declared.refusals.Refusal.TheVariants.{Edit as OfEdit}
-use Rattle.map_board.specs.Journal.{newest_scene}
+use Rattle.map_text.specs.declared.refusals.Refusal.TheVariants.{Edit as OfEdit, NoSuchVersion}
+use Rattle.scene_undo.specs.Inverse.{inverse_of}
+use Rattle.map_board.specs.Journal.{scene_at, newest_scene}
 use Rattle.line_sources.specs.Pieces.{line_edits_of, unline_edits_of}
 use Rattle.level_contours.specs.GridNames.{first_missing_of}
 use Rattle.noise_map.specs.Demands.{Demand, nothing, refusal, command, demand_of}
 
+-- ---- what lines before have left
+
+-- what lines depend on of those before them: the accepted edits, and the versions that are kept for an undo, the newest
+-- first
+pub record Past : Type 0 where
+  pub journal : List Edit
+  pub kept : List ℕ
+
+-- before the first line version 0 alone is kept
+abbrev pub no_past : Past
+no_past = record { journal = []; kept = 0 ∷ [] }
+
+abbrev pub is_kept : ℕ → List ℕ → Bool
+is_kept version kept = list_any (λ v. v == version) kept
+
+-- an edit undone, by the scene before it
+abbrev pub undone_by : Option Edit → Book → List Edit
+undone_by None before = []
+undone_by (Some edit) before = inverse_of edit before
+
+-- the edits that undo the edit of a version
+abbrev pub way_back : List Edit → ℕ → List Edit
+way_back journal zero = []
+way_back journal (suc before) = undone_by (slice_get journal before) (scene_at journal before)
+
+-- those that undo the edits of the kept versions after one, the last version first
+abbrev pub edits_back : ℕ → Past → List Edit
+edits_back to past = flat_map (way_back past.journal) (filter (nat_lt to) past.kept)
+
 -- ---- effects
 
--- what is shown of a line: nothing, its refusal, or a look at the board, which is that of a settled one, by its rows or by
--- its contours, or of what is known
+-- what is shown of a line: nothing, its refusal, or a look at the board, which is that of a settled one, by its rows or
+-- by its contours, or of what is known
 pub data Display : Type 0 where
   silent : Display
   refused : Refusal → Display
@@ -27,14 +58,16 @@ pub data Display : Type 0 where
   known : Display
   contoured : Contour → Display
 
--- what a line comes to: the edits that are made for it, one after the other, and what is shown of it
+-- what a line comes to: the edits that are made for it, one after the other, the version that they lead back to where
+-- it is an undo, and what is shown of it
 pub record Effect : Type 0 where
   pub edits : List Edit
+  pub back : Option ℕ
   pub display : Display
 
 -- it makes no edit
 abbrev pub shows : Display → Effect
-shows display = record { edits = []; display = display }
+shows display = record { edits = []; back = None; display = display }
 
 -- an accepted edit is not shown
 abbrev pub display_of_edit : Result (Book × Option Part) EditFault → Display
@@ -43,11 +76,11 @@ display_of_edit (Err fault) = refused (OfEdit fault)
 
 -- an edit is made alone
 abbrev pub effect_of_edit : Edit → Result (Book × Option Part) EditFault → Effect
-effect_of_edit edit answer = record { edits = edit ∷ []; display = display_of_edit answer }
+effect_of_edit edit answer = record { edits = edit ∷ []; back = None; display = display_of_edit answer }
 
 -- the edits of a line source are all made, or none where the scene refuses one of them
 abbrev pub effect_of_edits : Result (List Edit) EditFault → Effect
-effect_of_edits (Ok edits) = record { edits = edits; display = silent }
+effect_of_edits (Ok edits) = record { edits = edits; back = None; display = silent }
 effect_of_edits (Err fault) = shows (refused (OfEdit fault))
 
 -- contours are shown where no receiver is missing
@@ -55,20 +88,27 @@ abbrev pub effect_of_contour : Contour → Option (List ℕ) → Effect
 effect_of_contour contour None = shows (contoured contour)
 effect_of_contour contour (Some missing) = shows (refused (OfEdit (NoSuchName missing)))
 
--- what a command comes to in a scene
-abbrev pub effect_in : Book → Command → Effect
-effect_in scene (commands.Edit edit) = effect_of_edit edit (apply_of edit scene)
-effect_in scene (commands.Line line) = effect_of_edits (line_edits_of line scene)
-effect_in scene (commands.Unline name) = effect_of_edits (unline_edits_of name scene)
-effect_in scene (commands.Contour contour) = effect_of_contour contour (first_missing_of contour scene)
-effect_in scene commands.Settle = shows settled
-effect_in scene commands.Look = shows known
+-- an undo leads back to a version that is kept
+abbrev pub effect_of_undo : ℕ → Past → Effect
+effect_of_undo to past =
+    if is_kept to past.kept then record { edits = edits_back to past; back = Some to; display = silent }
+    else shows (refused (NoSuchVersion to))
 
--- what a line comes to, of which this is asked, behind these accepted edits
-abbrev pub effect_of : List Edit → Demand → Effect
-effect_of journal nothing = shows silent
-effect_of journal (refusal fault) = shows (refused fault)
-effect_of journal (command asked) = effect_in (newest_scene journal) asked
+-- what a command comes to in the newest scene of this past
+abbrev pub effect_in : Book → Past → Command → Effect
+effect_in scene past (commands.Edit edit) = effect_of_edit edit (apply_of edit scene)
+effect_in scene past (commands.Line line) = effect_of_edits (line_edits_of line scene)
+effect_in scene past (commands.Unline name) = effect_of_edits (unline_edits_of name scene)
+effect_in scene past (commands.Undo to) = effect_of_undo to past
+effect_in scene past (commands.Contour contour) = effect_of_contour contour (first_missing_of contour scene)
+effect_in scene past commands.Settle = shows settled
+effect_in scene past commands.Look = shows known
+
+-- what a line comes to, of which this is asked, behind this past
+abbrev pub effect_of : Past → Demand → Effect
+effect_of past nothing = shows silent
+effect_of past (refusal fault) = shows (refused fault)
+effect_of past (command asked) = effect_in (newest_scene past.journal) past asked
 
 -- ---- what is read from an effect
 
@@ -96,30 +136,54 @@ journal_with journal edit = with_edit journal edit (apply_of edit (newest_scene 
 abbrev pub journal_with_all : List Edit → List Edit → List Edit
 journal_with_all journal edits = fold journal_with journal edits
 
+-- the kept versions with one more, that of an accepted edit
+abbrev pub with_version : ℕ → Result (Book × Option Part) EditFault → List ℕ → List ℕ
+with_version version (Ok after) kept = version ∷ kept
+with_version version (Err fault) kept = kept
+
+abbrev pub kept_with : List Edit → Edit → List ℕ → List ℕ
+kept_with journal edit kept = with_version (suc (length journal)) (apply_of edit (newest_scene journal)) kept
+
+abbrev pub kept_with_all : List Edit → List Edit → List ℕ → List ℕ
+kept_with_all journal [] kept = kept
+kept_with_all journal (edit ∷ more) kept = kept_with_all (journal_with journal edit) more (kept_with journal edit kept)
+
+-- the versions of a line's accepted edits are kept; but where they lead back to a version, that and those before it
+-- stay
+abbrev pub kept_behind : Option ℕ → Past → List Edit → List ℕ
+kept_behind None past edits = kept_with_all past.journal edits past.kept
+kept_behind (Some to) past edits = filter (λ v. nat_le v to) past.kept
+
+-- what a line leaves to the lines behind it
+abbrev pub past_with : Past → Effect → Past
+past_with past effect = record {
+  journal = journal_with_all past.journal effect.edits;
+  kept = kept_behind effect.back past effect.edits;
+}
+
 -- ---- lines one after another
 
--- after some lines: how many there were, the edits that were accepted, how many looks were asked for, and whether a
--- line was refused
+-- after some lines: how many there were, what they leave, how many looks were asked for, and whether a line was refused
 pub record Point : Type 0 where
   pub count : ℕ
-  pub journal : List Edit
+  pub past : Past
   pub asked : ℕ
   pub refused : Bool
 
 abbrev pub at_start : Point
-at_start = record { count = 0; journal = []; asked = 0; refused = false }
+at_start = record { count = 0; past = no_past; asked = 0; refused = false }
 
 abbrev pub passed : Point → Effect → Point
 passed point effect = record {
   count = point.count + 1;
-  journal = journal_with_all point.journal effect.edits;
+  past = past_with point.past effect;
   asked = point.asked + looks_asked effect.display;
   refused = point.refused || is_refused effect.display;
 }
 
 -- what a line comes to behind others
 abbrev pub effect_at : Point → List ℕ → Effect
-effect_at point line = effect_of point.journal (demand_of line)
+effect_at point line = effect_of point.past (demand_of line)
 
 abbrev pub passed_line : Point → List ℕ → Point
 passed_line point line = passed point (effect_at point line)
@@ -129,4 +193,4 @@ point_after done = fold passed_line at_start done
 
 -- the edits that these lines had accepted; the version is their number
 abbrev pub journal_of : List (List ℕ) → List Edit
-journal_of done = (point_after done).journal
+journal_of done = (point_after done).past.journal

@@ -4,6 +4,7 @@ pub mod Texts
 pub mod Ways
 pub mod Histories
 pub mod Crews
+pub mod Undone
 pub mod Outcome
 pub mod Taking
 pub mod Rows

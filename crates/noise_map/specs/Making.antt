@@ -5,11 +5,9 @@ use Rattle.fix_interval.specs.Interval.{Interval}
 use Rattle.fix_interval.specs.Values.{hull_of}
 use Rattle.scene_parts.specs.Views.{Receiver}
 use Rattle.scene_book.specs.Book.{Book}
-use Rattle.scene_book.specs.declared.edits.Edit.{Edit}
 use Rattle.path_calc.specs.Show.{show_of}
 use Rattle.map_io.specs.Lines.{lines}
 use Rattle.map_board.specs.Journal.{newest_scene}
-use Rattle.map_board.specs.Showing.{accepted_edits}
 use Rattle.map_board.specs.declared.answers.Shown.{Shown}
 use Rattle.map_board.specs.declared.answers.Shown.TheVariants.{Current}
 use Rattle.map_board.specs.declared.looks.LookRow.{LookRow}
@@ -24,9 +22,9 @@ use Rattle.noise_map.specs.declared.status.Status.{Status}
 use Rattle.noise_map.specs.declared.status.Status.TheVariants as status
 use Rattle.noise_map.specs.declared.editor.Editor.{Editor}
 use Rattle.noise_map.specs.Demands.{demand_of}
-use Rattle.noise_map.specs.Effects.{Display, silent, refused, settled, known, contoured, Effect, effect_of, journal_with_all}
+use Rattle.noise_map.specs.Effects.{Display, silent, refused, settled, known, contoured, Past, no_past, Effect, effect_of, past_with}
 use Rattle.noise_map.specs.Histories.{HasHistory}
-use Rattle.noise_map.specs.Steps.{Knows, HasMet, HasFailed}
+use Rattle.noise_map.specs.Steps.{past_of, HasMet, HasFollowed, HasFailed}
 use Rattle.noise_map.specs.Taking.{TakesFront}
 
 -- ---- the levels of a settle
@@ -50,24 +48,24 @@ span_in book = unwrap_or (fold widened None (map (total_in book) book.receivers)
 
 -- ---- lines
 
--- what lines have come to: the edits that were accepted, how many lines were refused, and of the last settle the number
--- of receivers and their levels
+-- what lines have come to: what they leave, how many of them were refused, and of the last settle the number of
+-- receivers and their levels
 pub record Made : Type 0 where
-  pub journal : List Edit
+  pub past : Past
   pub refused : ℕ
   pub receivers : ℕ
   pub span : Interval
 
 -- before the first line
 abbrev pub nothing_made : Made
-nothing_made = record { journal = []; refused = 0; receivers = 0; span = no_level }
+nothing_made = record { past = no_past; refused = 0; receivers = 0; span = no_level }
 
 -- what one more line adds that is shown so
 abbrev pub made_showing : Made → Display → Made
 made_showing made silent = made
 made_showing made (refused fault) = record made { refused = made.refused + 1 }
 made_showing made settled =
-    let book = newest_scene made.journal in
+    let book = newest_scene made.past.journal in
     record made { receivers = length book.receivers; span = span_in book }
 made_showing made known = made
 made_showing made (contoured contour) = made
@@ -75,10 +73,10 @@ made_showing made (contoured contour) = made
 -- one more line, which comes to this
 abbrev pub made_with : Made → Effect → Made
 made_with made effect =
-    made_showing (record made { journal = journal_with_all made.journal effect.edits }) effect.display
+    made_showing (record made { past = past_with made.past effect }) effect.display
 
 abbrev pub made_after : Made → List ℕ → Made
-made_after made line = made_with made (effect_of made.journal (demand_of line))
+made_after made line = made_with made (effect_of made.past (demand_of line))
 
 abbrev pub made_by : List (List ℕ) → Made
 made_by done = fold made_after nothing_made done
@@ -112,10 +110,11 @@ made_with_answer making (Contoured contour look) = making
 -- a line was done at the board and its answer added, or it lacked memory
 abbrev pub AddsLine : {X E : Type 0} → Result X E → Editor → Making → List ℕ → Editor → Making → Type 0
 AddsLine (Ok done) before making line after next =
-    (answer : Answer) × HasMet before.seat (effect_of (accepted_edits before.seat.mine) (demand_of line)) answer after.seat
-    × Knows after × (next ≡ made_with_answer making answer)
+    let effect = effect_of (past_of before) (demand_of line) in
+    (answer : Answer) × HasMet before.seat effect answer after.seat × HasFollowed before effect after
+    × (next ≡ made_with_answer making answer)
 AddsLine (Err want) before making line after next =
-    HasFailed before.seat (effect_of (accepted_edits before.seat.mine) (demand_of line)) after.seat
+    HasFailed before.seat (effect_of (past_of before) (demand_of line)) after.seat
 
 -- The row that tells it: the last version, the number of the site, how many lines were refused, and of the last settle
 -- how many receivers there are and their levels
@@ -135,7 +134,7 @@ site_made number = made_by (site_lines number)
 
 -- the row that tells it
 abbrev pub site_row : ℕ → List ℕ
-site_row number = row_of_making number (length (site_made number).journal) (making_of (site_made number))
+site_row number = row_of_making number (length (site_made number).past.journal) (making_of (site_made number))
 
 -- ---- runs
 

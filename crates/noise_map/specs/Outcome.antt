@@ -18,6 +18,7 @@ use Rattle.noise_map.specs.Taking.{joined, IsBegun}
 use Rattle.noise_map.specs.Texts.{text_of}
 use Rattle.noise_map.specs.Ways.{looks_in}
 use Rattle.noise_map.specs.Histories.{HasHistory}
+use Rattle.noise_map.specs.Undone.{LeadsBack}
 use Rattle.noise_map.specs.Making.{Makes}
 
 -- the input was read to its end, and these are all its lines
@@ -65,8 +66,8 @@ Covers WriteFault before after done = CoversFront before after done
 Covers NoMemory before after done = CoversFront before after done
 Covers InputLimit before after done = CoversLimit before after done
 
--- The sink has taken all rows of all lines but the last, some first rows of that one, and of the next row what the reason
--- for the end allows.
+-- The sink has taken all rows of all lines but the last, some first rows of that one, and of the next row what the
+-- reason for the end allows.
 pub record TakesPartOf (stopped : Stopped) (words : CommandLine) (looks : List LookAll) (before after : Option (List ℕ))
     (done : List (List ℕ)) : Type 0 where
   pub front : List (List ℕ)
@@ -101,7 +102,8 @@ abbrev pub looks_of : Option BoardSeat → List LookAll
 looks_of None = []
 looks_of (Some seat) = looks_in seat.mine
 
--- A run over an input: it did some lines of it, wrote their rows, and hands out the whole history of its board.
+-- A run over an input: it did some lines of it, wrote their rows, and hands out the whole history of its board. Each
+-- undo among the lines has led back.
 pub record Outcome (words : CommandLine) (status : Status) (count : ℕ) (seat : Option BoardSeat)
     (left_before left_after taken_before taken_after : Option (List ℕ)) : Type 0 where
   pub done : List (List ℕ)
@@ -110,6 +112,7 @@ pub record Outcome (words : CommandLine) (status : Status) (count : ℕ) (seat :
   pub refused : TellsRefused status (point_after done).refused
   pub writes : Writes words (looks_of seat) status taken_before taken_after done
   pub history : HasHistory words.workers status done seat
+  pub back : LeadsBack done
 
 -- A run over the words of a command line: over the input, or over a generated site where one is asked for
 abbrev pub OutcomeOf : Option ℕ → CommandLine → Status → ℕ → Option BoardSeat → Option (List ℕ) → Option (List ℕ)

@@ -9,7 +9,6 @@ use Rattle.map_io.specs.declared.reader.Next.TheVariants as next
 use Rattle.map_io.specs.Lines.{IsPlain, lines, ended}
 use Rattle.map_io.specs.Reading.{Reading, NothingAhead, ahead, input_limit, line_limit}
 use Rattle.turn_lock.specs.History.{Begins}
-use Rattle.map_board.specs.Showing.{accepted_edits}
 use Rattle.map_lock.specs.Seats.{BoardSeat, IsEditor}
 use Rattle.map_lock.specs.Settling.{HasNotFinished}
 use Rattle.noise_map.specs.declared.answer.Answer.{Answer}
@@ -19,12 +18,12 @@ use Rattle.noise_map.specs.declared.status.Status.TheVariants as status
 use Rattle.noise_map.specs.declared.stopped.Stopped.{Stopped}
 use Rattle.noise_map.specs.declared.stopped.Stopped.TheVariants as stops
 use Rattle.noise_map.specs.Demands.{demand_of}
-use Rattle.noise_map.specs.Effects.{effect_of, point_after, journal_of}
+use Rattle.noise_map.specs.Effects.{effect_of, point_after}
 use Rattle.noise_map.specs.Texts.{rows_of, text_of}
 use Rattle.noise_map.specs.Ways.{Way, looks_in}
 use Rattle.noise_map.specs.Histories.{IsWay, finish_entry}
 use Rattle.noise_map.specs.Taking.{joined, TakesFront}
-use Rattle.noise_map.specs.Steps.{Knows, HasMet, HasFailed, is_refusal}
+use Rattle.noise_map.specs.Steps.{past_of, HasMet, HasFollowed, HasFailed, is_refusal}
 use Rattle.noise_map.specs.Outcome.{Covers, Writes, TellsRefused}
 use Rattle.noise_map.specs.Making.{MakesRow, site_lines}
 use Rattle.map_board.specs.Seats.{Entries}
@@ -98,12 +97,12 @@ pub record IsSameSeat (before after : BoardSeat) : Type 0 where
   pub joined : after.joined ≡ before.joined
 
 -- These lines were done by the editor, from its first entry on.
-pub record Did (before seat : BoardSeat) (done : List (List ℕ)) : Type 0 where
-  pub same : IsSameSeat before seat
-  pub way : Way seat.seen done seat.mine
-  pub journal : accepted_edits seat.mine ≡ journal_of done
-  pub asked : (point_after done).asked ≡ length (looks_in seat.mine)
-  pub unfinished : HasNotFinished seat.mine
+pub record Did (before : BoardSeat) (editor : Editor) (done : List (List ℕ)) : Type 0 where
+  pub same : IsSameSeat before editor.seat
+  pub way : Way editor.seat.seen done editor.seat.mine
+  pub past : past_of editor ≡ (point_after done).past
+  pub asked : (point_after done).asked ≡ length (looks_in editor.seat.mine)
+  pub unfinished : HasNotFinished editor.seat.mine
 
 -- Their rows were written.
 pub record Told (words : CommandLine) (refused : Bool) (seat : BoardSeat) (taken_before taken_now : Option (List ℕ))
@@ -112,28 +111,29 @@ pub record Told (words : CommandLine) (refused : Bool) (seat : BoardSeat) (taken
   pub written : Appends taken_before taken_now (joined (text_of words (looks_in seat.mine) done))
 
 -- how far a run over an input has come
-pub record Progress (words : CommandLine) (reader : Reading) (count : ℕ) (refused : Bool) (before seat : BoardSeat)
-    (left_before left_now taken_before taken_now : Option (List ℕ)) : Type 0 where
+pub record Progress (words : CommandLine) (reader : Reading) (count : ℕ) (refused : Bool) (before : BoardSeat)
+    (editor : Editor) (left_before left_now taken_before taken_now : Option (List ℕ)) : Type 0 where
   pub done : List (List ℕ)
   pub read : Read reader count left_before left_now done
-  pub did : Did before seat done
-  pub told : Told words refused seat taken_before taken_now done
+  pub did : Did before editor done
+  pub told : Told words refused editor.seat taken_before taken_now done
 
 -- a line of this number was done and its rows were written, or it was broken off: for want of memory before there was
 -- anything to show, or while its rows were written
 abbrev pub HasWritten : Result Bool Stopped → CommandLine → ℕ → Editor → List ℕ → Editor → Option (List ℕ)
     → Option (List ℕ) → Type 0
 HasWritten (Ok refused) words number before line after taken_before taken_after =
-    let journal = accepted_edits before.seat.mine in
-    (answer : Answer) × HasMet before.seat (effect_of journal (demand_of line)) answer after.seat × Knows after
-    × Appends taken_before taken_after (joined (rows_of words number (length journal) answer))
+    let past = past_of before in
+    let effect = effect_of past (demand_of line) in
+    (answer : Answer) × HasMet before.seat effect answer after.seat × HasFollowed before effect after
+    × Appends taken_before taken_after (joined (rows_of words number (length past.journal) answer))
     × (refused ≡ is_refusal answer)
 HasWritten (Err stopped) words number before line after taken_before taken_after =
-    let journal = accepted_edits before.seat.mine in
-    (HasFailed before.seat (effect_of journal (demand_of line)) after.seat × (stopped ≡ stops.NoMemory)
-    × Appends taken_before taken_after [])
-    ⊎ ((answer : Answer) × HasMet before.seat (effect_of journal (demand_of line)) answer after.seat
-    × TakesFront stopped taken_before taken_after (rows_of words number (length journal) answer))
+    let past = past_of before in
+    let effect = effect_of past (demand_of line) in
+    (HasFailed before.seat effect after.seat × (stopped ≡ stops.NoMemory) × Appends taken_before taken_after [])
+    ⊎ ((answer : Answer) × HasMet before.seat effect answer after.seat × HasFollowed before effect after
+    × TakesFront stopped taken_before taken_after (rows_of words number (length past.journal) answer))
 
 -- ---- how it ended
 

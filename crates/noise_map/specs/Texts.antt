@@ -80,7 +80,7 @@ rows_of words number version (Contoured contour look) = contour_rows_in contour 
 unfoldable pub line_rows : CommandLine → List LookAll → Point → List ℕ → List (List ℕ)
 line_rows words looks point line =
     let answer = answer_to (effect_at point line).display (slice_get looks point.asked) in
-    rows_of words (point.count + 1) (length point.journal) answer
+    rows_of words (point.count + 1) (length point.past.journal) answer
 
 -- those of lines behind others
 abbrev pub text_from : CommandLine → List LookAll → Point → List (List ℕ) → List (List ℕ)

@@ -96,7 +96,8 @@ pub record Does (history own : Entries) (journal : List Edit) (effect : Effect) 
 pub data Way (history : Entries) : List (List ℕ) → Entries → Type 0 where
   begun : Way history [] []
   and_line : (done : List (List ℕ)) (line : List ℕ) (own added : Entries) → Way history done own
-      → Does history own (journal_of done) (effect_at (point_after done) line) added → Way history (done ++ line ∷ []) (own ++ added)
+      → Does history own (journal_of done) (effect_at (point_after done) line) added
+      → Way history (done ++ line ∷ []) (own ++ added)
 
 -- ---- a line that lacked memory
 
@@ -119,8 +120,8 @@ LacksLook settled rest = All IsNoLook rest
 LacksLook known rest = (want : NoMemory) × (rest ≡ lacking_look want ∷ [])
 LacksLook (contoured contour) rest = All IsNoLook rest
 
--- What broke a line off, behind some of its edits: there was no memory before anything more was done, for the next edit,
--- or for the look.
+-- What broke a line off, behind some of its edits: there was no memory before anything more was done, for the next
+-- edit, or for the look.
 abbrev pub BreaksOff : Display → Option Edit → Entries → Type 0
 BreaksOff display next rest =
     (rest ≡ []) ⊎ (IsSomeAnd next (λ edit. rest ≡ lacking_edit edit ∷ []) ⊎ LacksLook display rest)

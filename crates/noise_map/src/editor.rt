@@ -4,6 +4,7 @@ ghost use Rattle.scene_book.specs.Applying.{lacks_memory};
 ghost use Rattle.map_board.specs.Journal.{book_after};
 ghost use Rattle.noise_map.specs.Steps.{Knows};
 
+use crate::keeping::KeptVersion;
 use map_lock::EditorSeat;
 use scene_book::{Edit, EditFault, Scene};
 use scene_parts::NoMemory;
@@ -17,6 +18,8 @@ pub struct Editor {
     pub scene: Scene,
     /// The newest version, which is how many edits were accepted.
     pub version: u64,
+    /// The versions that an undo may name beside 0, in ascending order.
+    pub kept: Vec<KeptVersion>,
 }
 
 impl Editor {
@@ -31,6 +34,7 @@ impl Editor {
             seat,
             scene,
             version: 0,
+            kept: Vec::new(alloc),
         })
     }
 }

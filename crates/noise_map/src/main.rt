@@ -4,6 +4,7 @@
 mod answer;
 mod crew;
 mod editor;
+mod keeping;
 mod lines;
 mod make;
 mod making;

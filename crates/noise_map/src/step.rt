@@ -1,5 +1,5 @@
 //! One line after another: what each does at the board.
-ghost use Rattle.std.specs.Prelude.{◌≡◌, ◌≤◌, ◌<◌, ℕ, List, length, Result};
+ghost use Rattle.std.specs.Prelude.{◌≡◌, ◌≤◌, ◌<◌, ℕ, true, false, List, length, Result, Ok};
 ghost use Rattle.scene_parts.specs.Answers.{MatchesUnlessMemory};
 ghost use Rattle.command_lines.specs.declared.commands.Command.{Command as CommandSaid};
 ghost use Rattle.command_lines.specs.declared.commands.Command.TheVariants as commands;
@@ -7,17 +7,17 @@ ghost use Rattle.command_lines.specs.Answers as answers;
 ghost use Rattle.command_lines.specs.Lines.{command_of};
 ghost use Rattle.map_io.specs.Reading.{line_limit};
 ghost use Rattle.map_lock.specs.Settling.{HasNotFinished};
-ghost use Rattle.map_lock.specs.Seats.{BoardSeat};
 ghost use Rattle.noise_map.specs.Demands.{command as asks, demand_read, demand_of, is_blank, is_blank_byte};
 ghost use Rattle.noise_map.specs.Rows.{ShowsFew};
-ghost use Rattle.noise_map.specs.Effects.{effect_of};
-ghost use Rattle.noise_map.specs.Steps.{Knows, has_lacked, MakesUnlessMemory, MakesAllUnlessMemory, MeetsEditsUnlessMemory, MeetsUnlessMemory, HasMet};
+ghost use Rattle.noise_map.specs.declared.editor.Editor.{Editor as EditorSaid};
+ghost use Rattle.noise_map.specs.Steps.{Knows, has_lacked, MakesUnlessMemory, MakesAllUnlessMemory, MeetsEditsUnlessMemory, MeetsUnlessMemory};
 ghost use Rattle.scene_book.specs.Applying.{lacks_memory};
 ghost use Rattle.scene_book.specs.declared.edits.Edit.{Edit as EditSaid};
 ghost use Rattle.scene_book.specs.declared.edits.EditFault.{EditFault as FaultSaid};
 
 use crate::answer::Answer;
 use crate::editor::{Editor, edit_lacks_memory, follow};
+use crate::keeping::{KeptVersion, keeps, make_room, never_fits, take_later};
 use command_lines::{Command, ContourSpec, LineFault, LineSpec, command};
 use level_contours::first_missing;
 use line_sources::{LineEdits, pieces, unline};
@@ -27,6 +27,7 @@ use map_lock::MapLock;
 use map_text::Refusal;
 use scene_book::{Edit, EditFault};
 use scene_parts::{Name, NoMemory};
+use scene_undo::inverse;
 use std::alloc::Global;
 use std::sync::Wait;
 
@@ -68,11 +69,42 @@ fn line_lacks_memory(fault: &LineFault) -> bool
 }
 
 impl<'a, R: Wait, G: Gate> Shared<'a, R, G> {
-    /// Has an edit made, at the board and in the scene that the editor knows.
-    fn make(&self, editor: &mut Editor, edit: Edit) -> Result<(), EditFault>
+    /// Has an edit made, at the board and in the scene that the editor knows. Its version is kept or not.
+    fn make(&self, editor: &mut Editor, edit: Edit, keeps: bool) -> Result<(), EditFault>
         requires own { editor.old.seat.table ≡ self.now.lock.now }
         requires knows { Knows editor.old }
-        ensures { MakesUnlessMemory editor.old edit result editor.new }
+        ensures { MakesUnlessMemory keeps editor.old edit result editor.new }
+    {
+        if keeps {
+            self.make_kept(editor, edit)
+        } else {
+            self.make_alone(editor, edit)
+        }
+    }
+
+    /// Has an edit made, and keeps its version where the scene takes it.
+    fn make_kept(&self, editor: &mut Editor, edit: Edit) -> Result<(), EditFault>
+        requires own { editor.old.seat.table ≡ self.now.lock.now }
+        requires knows { Knows editor.old }
+        ensures { MakesUnlessMemory true editor.old edit result editor.new }
+    {
+        if never_fits(&edit) {
+            return self.make_alone(editor, edit);
+        }
+        let back = inverse(self.alloc, &edit, &editor.scene)?;
+        make_room(&mut editor.kept)?;
+        self.make_alone(editor, edit)?;
+        let version = editor.version;
+        editor.kept.push_reserved(KeptVersion { version, back });
+        Ok(())
+    }
+
+    /// Has an edit made, and keeps no version.
+    fn make_alone(&self, editor: &mut Editor, edit: Edit) -> Result<(), EditFault>
+        requires own { editor.old.seat.table ≡ self.now.lock.now }
+        requires knows { Knows editor.old }
+        ensures made { MakesUnlessMemory false editor.old edit result editor.new }
+        ensures kept { editor.new.kept ≡ editor.old.kept }
     {
         runs_show_right();
         follow(&mut editor.scene, self.alloc, &edit)?;
@@ -81,16 +113,21 @@ impl<'a, R: Wait, G: Gate> Shared<'a, R, G> {
         Ok(())
     }
 
-    /// Has edits made one after the other. The scene takes each of them, since they were tried on it.
-    fn make_all(&self, editor: &mut Editor, mut edits: Vec<Edit>) -> Result<(), NoMemory>
+    /// Has edits made one after the other, whose versions are kept or not. The scene takes each of them.
+    fn make_all(
+        &self,
+        editor: &mut Editor,
+        mut edits: Vec<Edit>,
+        keeps: bool,
+    ) -> Result<(), NoMemory>
         requires own { editor.old.seat.table ≡ self.now.lock.now }
         requires knows { Knows editor.old }
-        ensures { MakesAllUnlessMemory editor.old edits.items result editor.new }
+        ensures { MakesAllUnlessMemory keeps editor.old edits.items result editor.new }
     {
         // The first is taken off the end.
         edits.reverse();
         while let Some(edit) = edits.pop() {
-            let made = self.make(editor, edit);
+            let made = self.make(editor, edit, keeps);
             if lacked(&made) {
                 return Err(NoMemory);
             }
@@ -104,7 +141,7 @@ impl<'a, R: Wait, G: Gate> Shared<'a, R, G> {
         requires knows { Knows editor.old }
         ensures { MeetsUnlessMemory editor.old (asks (commands.Edit edit)) result editor.new }
     {
-        match self.make(editor, edit) {
+        match self.make(editor, edit, true) {
             Ok(()) => Ok(Answer::Nothing),
             Err(fault) if edit_lacks_memory(&fault) => Err(NoMemory),
             Err(fault) => Ok(Answer::Refused(Refusal::Edit(fault))),
@@ -125,7 +162,7 @@ impl<'a, R: Wait, G: Gate> Shared<'a, R, G> {
     {
         match edits {
             Ok(edits) => {
-                self.make_all(editor, edits.into_vec())?;
+                self.make_all(editor, edits.into_vec(), true)?;
                 Ok(Answer::Nothing)
             }
             Err(fault) if edit_lacks_memory(&fault) => Err(NoMemory),
@@ -151,6 +188,20 @@ impl<'a, R: Wait, G: Gate> Shared<'a, R, G> {
     {
         let edits = unline(self.alloc, name, &editor.scene);
         self.make_or_refuse(editor, edits)
+    }
+
+    /// Makes the scene what it was at a version, unless that isn't kept.
+    fn undo(&self, editor: &mut Editor, version: u64) -> Result<Answer, NoMemory>
+        requires own { editor.old.seat.table ≡ self.now.lock.now }
+        requires knows { Knows editor.old }
+        ensures { MeetsUnlessMemory editor.old (asks (commands.Undo version)) result editor.new }
+    {
+        if !keeps(editor.kept.as_slice(), version) {
+            return Ok(Answer::Refused(Refusal::NoSuchVersion { version }));
+        }
+        let edits = take_later(self.alloc, &mut editor.kept, version)?;
+        self.make_all(editor, edits, false)?;
+        Ok(Answer::Nothing)
     }
 
     /// Settles the board for contours, unless a receiver of their grid is missing.
@@ -205,6 +256,7 @@ impl<'a, R: Wait, G: Gate> Shared<'a, R, G> {
             Command::Edit(edit) => self.edit(editor, edit),
             Command::Line(line) => self.line_source(editor, &line),
             Command::Unline(name) => self.unline(editor, &name),
+            Command::Undo(version) => self.undo(editor, version),
             Command::Contour(contour) => self.contours(editor, contour),
             Command::Settle => self.settle(editor),
             Command::Look => self.look(editor),
@@ -256,10 +308,9 @@ impl<'a, R: Wait, G: Gate> Shared<'a, R, G> {
 }
 
 /// The refusal of a line of more than 65,536 bytes, for which nothing is asked of the board.
-#[tactic(auto, unfolding(crate::specs::Demands::demand_of))]
 pub fn refuse_long() -> Answer
-    ensures met { (seat : BoardSeat) (journal : List EditSaid) (line : List ℕ) → line_limit < length line
-        → HasMet seat (effect_of journal (demand_of line)) result seat }
+    ensures met { (editor : EditorSaid) (line : List ℕ) → Knows editor → line_limit < length line
+        → MeetsUnlessMemory {E = NoMemory} editor (demand_of line) (Ok result) editor }
     ensures few { ShowsFew result }
 {
     Answer::Refused(Refusal::LongLine)

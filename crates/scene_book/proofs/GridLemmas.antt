@@ -26,7 +26,7 @@ widen : (d u l x y z s : Bool) → d ≡ true → ((((((d || u) || l) || x) || y
 widen true u l x y z s h = refl
 widen false u l x y z s h = cc
 
-both : (p q : Bool) → p ≡ true → q ≡ true → (p && q) ≡ true
+pub both : (p q : Bool) → p ≡ true → q ≡ true → (p && q) ≡ true
 both true q h k = k
 both false q h k = cc
 
@@ -37,16 +37,16 @@ digits_any (c ∷ cs) h =
     (widen (is_ascii_digit c) (is_in_range 65 90 c) (is_in_range 97 122 c) (c == 95) (c == 45) (c == 46) (c == 47) (left (is_ascii_digit c) (all_ascii_digits cs) h))
     (digits_any cs (right (is_ascii_digit c) (all_ascii_digits cs) h))
 
-number_any : (n : ℕ) → n < 4096 → list_all is_any_name_byte (decimal n) ≡ true
+pub number_any : (n : ℕ) → n < 4096 → list_all is_any_name_byte (decimal n) ≡ true
 number_any n h = digits_any (decimal n) (digits_decimal own n (omega arith))
 
-joined : (xs ys : List ℕ) → list_all is_any_name_byte xs ≡ true → list_all is_any_name_byte ys ≡ true → list_all is_any_name_byte (xs ++ ys) ≡ true
+pub joined : (xs ys : List ℕ) → list_all is_any_name_byte xs ≡ true → list_all is_any_name_byte ys ≡ true → list_all is_any_name_byte (xs ++ ys) ≡ true
 joined xs ys h k = list_all-append is_any_name_byte xs ys ∙ both (list_all is_any_name_byte xs) (list_all is_any_name_byte ys) h k
 
-at_most_true : (a b : ℕ) → a ≤ b → nat_le a b ≡ true
+pub at_most_true : (a b : ℕ) → a ≤ b → nat_le a b ≡ true
 at_most_true a b h = grind (arith, nat_tests)
 
-short_enough : (name : List ℕ) → IsName name → length name ≤ 32
+pub short_enough : (name : List ℕ) → IsName name → length name ≤ 32
 short_enough name h =
     let k : nat_le (length name) 32 ≡ true = right (nat_le 1 (length name)) (nat_le (length name) 32) (left (nat_le 1 (length name) && nat_le (length name) 32) _ h) in
     grind (arith, nat_tests)

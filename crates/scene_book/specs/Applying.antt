@@ -12,7 +12,7 @@ use Rattle.scene_book.specs.declared.edits.Edit.TheVariants as edits
 use Rattle.scene_book.specs.declared.edits.EditFault.{EditFault}
 use Rattle.scene_book.specs.declared.edits.EditFault.TheVariants.{NoMemory, NoSuchName, OtherClass, Full}
 use Rattle.std.specs.Option.{option_or}
-use Rattle.scene_parts.specs.Answers.{◌>>◌, MatchesUnlessMemory}
+use Rattle.scene_parts.specs.Answers.{◌>>=◌, ◌>>◌, MatchesUnlessMemory}
 use Rattle.scene_book.specs.Limits.{most_sources, most_obstacles, most_sides, most_zones, most_receivers}
 use Rattle.scene_book.specs.Lists.{named, put_in, take_out, put_all}
 use Rattle.scene_book.specs.Book.{Book, side_total, globals_with}
@@ -168,3 +168,8 @@ apply_of (edits.Put part) book = put_of part book
 apply_of (edits.Remove name) book = remove_of name book
 apply_of (edits.Grid grid) book = grid_of grid book
 apply_of (edits.Set setting) book = set_of setting book
+
+-- the scene after edits one after the other, or the first fault
+abbrev pub applied : List Edit → Book → Result Book EditFault
+applied [] book = Ok book
+applied (edit ∷ rest) book = apply_of edit book >>= λ after. applied rest after.0

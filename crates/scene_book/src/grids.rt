@@ -11,8 +11,8 @@ use scene_geom::Pt;
 use scene_parts::{GridSpec, Name, NoMemory, Receiver};
 use std::alloc::Global;
 
-/// The receivers of a grid, row by row.
-pub(crate) fn receivers(alloc: Global, grid: &GridSpec) -> Result<Vec<Receiver>, NoMemory>
+/// The receivers of a grid, row by row, each named by its column and row.
+pub fn receivers(alloc: Global, grid: &GridSpec) -> Result<Vec<Receiver>, NoMemory>
     ensures value { IfOk result (λ receivers. receivers.items ≡ receivers_of grid.now) }
     ensures apart { IfOk result (λ receivers. AreApart (λ r. r.name) receivers.items) }
 {

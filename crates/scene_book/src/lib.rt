@@ -4,7 +4,7 @@
 mod applying;
 mod edits;
 mod filing;
-mod grids;
+pub mod grids;
 pub mod laws;
 pub mod limits;
 mod named;

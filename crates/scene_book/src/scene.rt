@@ -139,6 +139,25 @@ impl Scene {
         None
     }
 
+    /// A copy of the part that bears a name.
+    pub fn part(&self, name: &[u8]) -> Result<Option<Part>, NoMemory>
+        ensures { IfOk result (λ part. part ≡ part_named self.now name.now) }
+    {
+        if let Some(source) = self.sources.get(name) {
+            return Ok(Some(Part::Source(source.clone()?)));
+        }
+        if let Some(obstacle) = self.obstacles.get(name) {
+            return Ok(Some(Part::Obstacle(obstacle.clone()?)));
+        }
+        if let Some(zone) = self.zones.get(name) {
+            return Ok(Some(Part::Zone(zone.clone()?)));
+        }
+        match self.receivers.get(name) {
+            Some(receiver) => Ok(Some(Part::Receiver(receiver.clone()?))),
+            None => Ok(None),
+        }
+    }
+
     /// How many sides barriers and buildings have together once one is put.
     fn sides_with(&self, obstacle: &Obstacle) -> u32
         ensures { result ≡ side_total (put_in (λ o. o.name) obstacle.now self.now.obstacles) }

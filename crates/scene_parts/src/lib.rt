@@ -40,5 +40,6 @@ pub use outlines::{Outline, RawPoints, RawPt};
 pub use parts::{Obstacle, Part, PointSource, Receiver, Zone};
 pub use raw::RawPart;
 pub use settings::{Globals, GridSpec, SetSpec};
+pub use shapes::squared;
 pub use size_test::{Breadth, bands_of, in_band};
 pub use texts::{Name, PlainName, Word};

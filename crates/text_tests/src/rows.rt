@@ -31,6 +31,7 @@ fn refused_lines_have_these_rows(rt: HostRuntime) -> Result<(), Fail> {
             }),
             "Full,receiver,4096,",
         ),
+        (Refusal::NoSuchVersion { version: 3 }, "NoSuchVersion,3,,"),
     ];
     for (fault, said) in &faults {
         let row = refused_text(alloc, 1, 4, fault)?;

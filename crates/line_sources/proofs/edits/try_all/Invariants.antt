@@ -1,5 +1,5 @@
 use Rattle.std.proofs.Common.{◌≡◌, drop}
-use Rattle.line_sources.specs.Pieces.{applied}
+use Rattle.scene_book.specs.Applying.{applied}
 use Rattle.line_sources.proofs.edits.try_all.Given as goal
 
 abbrev pub invariant-loop-edit : goal.invariant-loop-edit

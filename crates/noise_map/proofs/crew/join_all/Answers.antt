@@ -2,7 +2,7 @@ use Rattle.std.proofs.Common.{◌≡◌, ◌+◌, ◌++◌, [], ◌∷◌, lengt
 use Rattle.std.specs.Prelude.{All}
 use Rattle.map_lock.specs.Seats.{BoardSeat}
 use Rattle.noise_map.specs.Crews.{IsBack, HasJoinedAll}
-use Rattle.noise_map.proofs.Meeting.{all-front}
+use Rattle.noise_map.proofs.KeptVersions.{all-front}
 use Rattle.noise_map.proofs.Crews.{none-joined, one-joined, all-last}
 use Rattle.noise_map.proofs.crew.join_all.Goals as goal
 

@@ -12,7 +12,8 @@ returns-in_err-answer-clause-done g c text is =
 pub returns-in_err-show-clause-done : goal.returns-in_err-show-clause-done
 returns-in_err-show-clause-done g c text is =
     let p = err_from_is_err_and c.from_residual-in_err-show.result c.from_residual-in_err-show.ensures.1 in
-    rw p.1 (inr (c.in_ok-answer.answer, (c.in_ok-answer.ensures.done text is).0, front-as _ _ _ _ _ p.2 (rw c.requires.knows.version at c.in_err-show.ensures.taken)))
+    let met = c.in_ok-answer.ensures.done text is in
+    rw p.1 (inr (c.in_ok-answer.answer, met.0, met.1, front-as _ _ _ _ _ p.2 (rw c.requires.knows.version at c.in_err-show.ensures.taken)))
 
 pub returns-clause-done : goal.returns-clause-done
 returns-clause-done g c text is =

@@ -6,7 +6,7 @@ use Rattle.noise_map.proofs.lines.do_lines.Goals as goal
 
 pub loop-status-init : goal.loop-status-init
 loop-status-init g c = record {
-  progress = started c.args.words c.in-Ok.reader c.args.editor.now.seat _ _ c.in-Ok.ensures c.requires.nothing;
+  progress = started c.args.words c.in-Ok.reader c.args.editor.now _ _ c.in-Ok.ensures c.requires.nothing c.requires.knows;
   own = c.requires.own;
   knows = c.requires.knows;
   within = within_at_start _ c.in-Ok.ensures;
@@ -21,7 +21,7 @@ returns-in_default-clause-ended g c =
 
 pub returns-in-Some-clause-ended : goal.returns-in-Some-clause-ended
 returns-in-Some-clause-ended g c =
-    ended-reading c.args.words c.next-next.result c.in-Some.status c.loop-status.reader c.next-next.new.self c.loop-status.lines c.loop-status.refused c.args.editor.now.seat c.loop-status.editor.seat _ _ _ _ _
+    ended-reading c.args.words c.next-next.result c.in-Some.status c.loop-status.reader c.next-next.new.self c.loop-status.lines c.loop-status.refused c.args.editor.now.seat c.loop-status.editor _ _ _ _ _
     c.loop-status.invariant.progress c.next-next.ensures.within.1
     (sym c.ending.ensures ∙ c.in-Some.is) c.next-next.ensures.going
     (λ h. let kept = c.next-next.ensures.stopped h in (kept.0, kept.1, ap g.S.Source.left kept.2))

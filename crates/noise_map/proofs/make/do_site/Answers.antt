@@ -7,16 +7,15 @@ use Rattle.map_io.specs.LineLaws.{lines-empty}
 use Rattle.noise_map.specs.declared.making.Making.{Making}
 use Rattle.noise_map.specs.declared.status.Status.{Status}
 use Rattle.noise_map.specs.declared.status.Status.TheVariants as status
-use Rattle.scene_book.specs.declared.edits.Edit.{Edit}
-use Rattle.map_board.specs.Showing.{accepted_edits}
 use Rattle.noise_map.specs.Demands.{demand_of}
-use Rattle.noise_map.specs.Effects.{effect_of}
+use Rattle.noise_map.specs.Effects.{Past, effect_of}
+use Rattle.noise_map.specs.Steps.{past_of}
 use Rattle.noise_map.specs.FirstLine.{IsFirstLine}
 use Rattle.noise_map.specs.Making.{making_of, made_by, made_after, made_with, made_with_answer, site_made, site_lines, site_row, row_of_making}
 use Rattle.noise_map.specs.Progress.{Did, HasEnded, SiteEnded}
 use Rattle.noise_map.proofs.Doing.{comes_to, did-more, failed-way}
 use Rattle.noise_map.proofs.Ending.{did-at-start}
-use Rattle.noise_map.proofs.Sites.{next-line, line-whole, made-push, made-journal, made-more, with-refused, ended, broken_off, no-line, unmade, way-at-end}
+use Rattle.noise_map.proofs.Sites.{next-line, line-whole, made-push, made-past, made-more, with-refused, ended, broken_off, no-line, unmade, way-at-end}
 use Rattle.noise_map.proofs.make.do_site.Goals.{in-Ok-put_all, in-Err}
 use Rattle.noise_map.proofs.make.do_site.Goals as goal
 
@@ -26,7 +25,7 @@ loop-line-init g c =
     record {
       whole = ap lines text;
       counted = zero-add _ ∙ ap (λ (bytes : List ℕ). length (lines bytes)) text;
-      did = did-at-start c.args.editor.now.seat c.requires.nothing;
+      did = did-at-start c.args.editor.now c.requires.nothing c.requires.knows;
       made = c.empty-making.ensures.made;
       few = omega (arith, ap length text, c.in-Ok.ensures.short, ap length c.in-Ok.ensures.text);
       refused = omega (arith, ap (λ (m : Making). m.refused) c.empty-making.ensures.made);
@@ -47,24 +46,24 @@ loop-line-preserved g c =
     let next = next-line all k c.loop-line.rest.now line after parts kept.whole kept.counted in
     let added = c.in-Ok-make_line.ensures.adds in
     let met = added.1 in
-    let comes = comes_to c.loop-line.editor.seat line in
-    let same_journal : accepted_edits c.loop-line.editor.seat.mine ≡ (made_by done).journal = kept.did.journal ∙ sym (made-journal done) in
-    let did = did-more c.args.editor.now.seat c.loop-line.editor.seat c.make_line.new.editor.seat done line added.0 kept.did met in
-    let more = made-more (made_by done) c.loop-line.editor.seat c.make_line.new.editor.seat comes added.0 same_journal met in
+    let comes = comes_to c.loop-line.editor line in
+    let same_past : past_of c.loop-line.editor ≡ (made_by done).past = kept.did.past ∙ sym (made-past done) in
+    let did = did-more c.args.editor.now.seat c.loop-line.editor c.make_line.new.editor done line added.0 kept.did met added.2 in
+    let more = made-more (made_by done) c.loop-line.editor.seat c.make_line.new.editor.seat comes added.0 (ap (λ (p : Past). p.journal) same_past) met in
     let made : c.make_line.new.making ≡ making_of (made_with (made_by done) comes) =
     added.3 ∙ (ap (λ (m : Making). made_with_answer m added.0) kept.made ∙ more) in
     let after_line : made_with (made_by done) comes ≡ made_after (made_by done) line =
-    ap (λ (es : List Edit). made_with (made_by done) (effect_of es (demand_of line))) same_journal in
+    ap (λ (p : Past). made_with (made_by done) (effect_of p (demand_of line))) same_past in
     record {
       whole = line-whole all k line (lines after) next.whole next.counted;
       counted = omega (arith, next.counted);
-      did = subst (Did c.args.editor.now.seat c.make_line.new.editor.seat) (sym next.step) did;
+      did = subst (Did c.args.editor.now.seat c.make_line.new.editor) (sym next.step) did;
       made = made ∙ ap making_of (after_line ∙ sym (ap made_by next.step ∙ made-push done line));
       few = omega (arith, kept.few, parts.1);
       refused = omega (arith, kept.refused, ap (λ (m : Making). m.refused) kept.made, with-refused (made_by done) comes, ap (λ (m : Making). m.refused) made);
       level = c.make_line.ensures.level;
       own = did.same.table ∙ c.requires.own;
-      knows = added.2;
+      knows = added.2.knows;
     }
 
 pub returns-clause-ended : goal.returns-clause-ended
@@ -77,8 +76,8 @@ returns-clause-ended g c =
     let counted : k ≡ length all = omega (arith, kept.counted, ap length none) in
     let done : take k all ≡ all = sym (append-nil (take k all)) ∙ (ap (λ l. take k all ++ l) (sym none) ∙ kept.whole) in
     let making : c.loop-line.making ≡ making_of (site_made c.args.number) = kept.made ∙ ap (λ (ls : List (List ℕ)). making_of (made_by ls)) done in
-    let version : c.loop-line.editor.version ≡ length (site_made c.args.number).journal =
-    kept.knows.version ∙ ap length (kept.did.journal ∙ (sym (made-journal (take k all)) ∙ ap (λ (ls : List (List ℕ)). (made_by ls).journal) done)) in
+    let version : c.loop-line.editor.version ≡ length (site_made c.args.number).past.journal =
+    kept.knows.version ∙ ap (λ (p : Past). length p.journal) (kept.did.past ∙ (sym (made-past (take k all)) ∙ ap (λ (ls : List (List ℕ)). (made_by ls).past) done)) in
     let row : c.as_slice.result.now ≡ site_row c.args.number = c.as_slice.ensures.value ∙ (c.in-Ok-row.ensures ∙ (λ i. row_of_making c.args.number (version i) (making i))) in
     let So = λ (s : Status). SiteEnded c.args.number s k (λ done. HasEnded s done c.args.editor.now.seat c.loop-line.editor.seat) (g.K.Sink.taken c.args.out.now) (g.K.Sink.taken c.put_all.new.sink) in
     elim c.match-put_all.branch [
@@ -96,7 +95,7 @@ returns-clause-ended g c =
 
 pub returns-in_default-clause-ended : goal.returns-in_default-clause-ended
 returns-in_default-clause-ended g c =
-    let did = did-at-start c.args.editor.now.seat c.requires.nothing in
+    let did = did-at-start c.args.editor.now c.requires.nothing c.requires.knows in
     unmade c.args.number 0 c.args.editor.now.seat c.args.editor.now.seat (g.K.Sink.taken c.args.out.now) (omega arith) (record { same = did.same; way = inl did.way }) c.without_memory.result.status c.without_memory.result.lines
     c.without_memory.ensures.status c.without_memory.ensures.lines
 
@@ -106,7 +105,7 @@ returns-in_default-make_line-clause-ended g c =
     let kept = c.loop-line.invariant in
     let parts : IsFirstLine c.loop-line.rest.now (Some (c.in-Some.line.now, c.in-Some.after.now)) = rw c.in-Some.is at c.first_line.ensures in
     let next = next-line (site_lines c.args.number) k c.loop-line.rest.now c.in-Some.line.now c.in-Some.after.now parts kept.whole kept.counted in
-    let ended = failed-way c.args.editor.now.seat c.loop-line.editor.seat c.make_line.new.editor.seat (take k (site_lines c.args.number)) c.in-Some.line.now kept.did c.in_default-make_line.ensures.adds in
+    let ended = failed-way c.args.editor.now.seat c.loop-line.editor c.make_line.new.editor.seat (take k (site_lines c.args.number)) c.in-Some.line.now kept.did c.in_default-make_line.ensures.adds in
     unmade c.args.number (k + 1) c.args.editor.now.seat c.make_line.new.editor.seat (g.K.Sink.taken c.args.out.now) (omega (arith, next.counted))
     (subst (λ (l : List (List ℕ)). HasEnded status.NoMemory l c.args.editor.now.seat c.make_line.new.editor.seat) (sym next.step) ended)
     c.without_memory-in_default-make_line.result.status c.without_memory-in_default-make_line.result.lines c.without_memory-in_default-make_line.ensures.status c.without_memory-in_default-make_line.ensures.lines

@@ -11,7 +11,7 @@ abbrev pub invariant-loop-line : goal.invariant-loop-line
 invariant-loop-line g l = record {
   whole : take l.lines (site_lines l.number) ++ lines l.rest ≡ site_lines l.number;
   counted : l.lines + length (lines l.rest) ≡ length (site_lines l.number);
-  did : Did l.initial.editor.seat l.editor.seat (take l.lines (site_lines l.number));
+  did : Did l.initial.editor.seat l.editor (take l.lines (site_lines l.number));
   made : l.making ≡ making_of (made_by (take l.lines (site_lines l.number)));
   few : l.lines + length l.rest ≤ 65536;
   refused : l.making.refused ≤ l.lines;

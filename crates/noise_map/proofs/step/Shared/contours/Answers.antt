@@ -1,8 +1,9 @@
 use Rattle.std.proofs.Common.{refl, sym, ◌∙◌, subst}
 use Rattle.std.proofs.lemmas.Result.{err_from_is_err_and}
 use Rattle.noise_map.specs.declared.answer.Answer.TheVariants as answers
-use Rattle.noise_map.specs.Effects.{Effect}
-use Rattle.noise_map.specs.Steps.{HasMet, HasFailed}
+use Rattle.noise_map.specs.declared.editor.Editor.{Editor}
+use Rattle.noise_map.specs.Effects.{Effect, contoured}
+use Rattle.noise_map.specs.Steps.{HasMet, HasFollowed, HasFailed}
 use Rattle.noise_map.proofs.Meeting.{never-tried, missing-met, none-missing, contours-met, contours-failed, knows-still}
 use Rattle.noise_map.proofs.step.Shared.contours.Goals as goal
 
@@ -27,8 +28,9 @@ pub returns : goal.returns
 returns g c =
     let s = c.in_ok-shown.ensures.settled in
     let before = c.args.editor.now in
+    let after : Editor = record { seat = c.settle.new.seat; scene = before.scene; version = before.version; kept = before.kept } in
     let is = none-missing before c.args.contour c.requires.knows (sym c.in_ok-name.ensures.missing ∙ c.in_default.is) in
     let met = contours-met c.runs_show_right.ensures before.seat c.settle.new.seat c.args.contour c.in_ok-shown.shown s.own s.worked.acted s.worked.kinds s.ends c.in_ok-shown.ensures.sound in (
       subst (λ (e : Effect). HasMet before.seat e (answers.Contoured c.args.contour c.in_ok-shown.shown) c.settle.new.seat) (sym is) met,
-      knows-still before _ c.requires.knows refl refl met.accepts,
+      subst (λ (e : Effect). HasFollowed before e after) (sym is) (knows-still before after (contoured c.args.contour) c.requires.knows refl refl refl met.accepts),
     )

@@ -1,5 +1,6 @@
 use Rattle.std.proofs.Common.{refl}
 use Rattle.std.proofs.lemmas.Result.{err_from_is_err_and}
+use Rattle.noise_map.specs.Effects.{known}
 use Rattle.noise_map.proofs.Meeting.{look-met, look-failed, knows-still}
 use Rattle.noise_map.proofs.step.Shared.look.Goals as goal
 
@@ -11,4 +12,4 @@ returns-in_err-look g c =
 pub returns : goal.returns
 returns g c =
     let met = look-met c.runs_show_right.ensures c.args.editor.now.seat c.look_as_editor.new.seat c.in_ok-look.look c.in_ok-look.ensures.turn c.in_ok-look.ensures.sound in
-    (met, knows-still c.args.editor.now _ c.requires.knows refl refl met.accepts)
+    (met, knows-still c.args.editor.now _ known c.requires.knows refl refl refl met.accepts)

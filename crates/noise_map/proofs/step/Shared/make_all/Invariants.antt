@@ -7,7 +7,7 @@ use Rattle.noise_map.proofs.step.Shared.make_all.Given as goal
 
 abbrev pub invariant-loop-edit : goal.invariant-loop-edit
 invariant-loop-edit g l = record {
-  made : (done : List Edit) × (reverse l.initial.edits.items ≡ done ++ reverse l.edits.items) × HasMadeAll l.initial.editor done l.editor;
+  made : (done : List Edit) × (reverse l.initial.edits.items ≡ done ++ reverse l.edits.items) × HasMadeAll l.initial.keeps l.initial.editor done l.editor;
   own : l.editor.seat.table ≡ l.self.lock.now;
 }
 

@@ -1,5 +1,6 @@
 use Rattle.std.proofs.Common.{refl}
 use Rattle.std.proofs.lemmas.Result.{err_from_is_err_and}
+use Rattle.noise_map.specs.Effects.{settled}
 use Rattle.noise_map.proofs.Meeting.{settle-met, settle-failed, knows-still}
 use Rattle.noise_map.proofs.step.Shared.settle.Goals as goal
 
@@ -13,4 +14,4 @@ pub returns : goal.returns
 returns g c =
     let s = c.in_ok-look.ensures.settled in
     let met = settle-met c.runs_show_right.ensures c.args.editor.now.seat c.settle.new.seat c.in_ok-look.look s.own s.worked.acted s.worked.kinds s.ends c.in_ok-look.ensures.sound in
-    (met, knows-still c.args.editor.now _ c.requires.knows refl refl met.accepts)
+    (met, knows-still c.args.editor.now _ settled c.requires.knows refl refl refl met.accepts)

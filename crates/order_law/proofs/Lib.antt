@@ -1,0 +1,12 @@
+pub mod Shuffles
+pub mod Folds
+pub mod Ends
+pub mod Sums
+pub mod ZoneTerms
+pub mod Zones
+pub mod Edges
+pub mod Chains
+pub mod Laterals
+pub mod Sounds
+pub mod Energies
+pub mod Shown

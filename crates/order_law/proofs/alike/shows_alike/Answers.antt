@@ -1,0 +1,13 @@
+use Rattle.std.proofs.Common.{subst, List}
+use Rattle.std.specs.Prelude.{All}
+use Rattle.scene_parts.specs.Views.{Zone}
+use Rattle.scene_parts.specs.Ranges.{AreGlobals}
+use Rattle.scene_undo.specs.Scenes.{IsZoneWithin}
+use Rattle.order_law.proofs.Shown.{scene-alike}
+use Rattle.order_law.proofs.alike.shows_alike.Goals as goal
+
+pub returns : goal.returns
+returns c alike =
+    scene-alike c.args.a.now c.args.b.now c.args.r.now alike c.zones.ensures.within
+    (subst (λ (zones : List Zone). All IsZoneWithin zones) c.zones.ensures.value c.each_zone.ensures)
+    (subst AreGlobals c.globals.ensures c.all_globals.ensures)

@@ -1,0 +1,40 @@
+//! The law of orders for two scenes at hand. That its zones and globals keep their limits is known by their types.
+ghost use Rattle.std.specs.Prelude.{◌≡◌, All};
+ghost use Rattle.scene_parts.specs.Ranges.{AreGlobals};
+ghost use Rattle.scene_book.specs.Orders.{SameParts};
+ghost use Rattle.scene_undo.specs.Scenes.{IsZoneWithin};
+ghost use Rattle.path_calc.specs.Show.{show_of};
+
+use scene_book::Scene;
+use scene_parts::{Globals, Receiver, Zone};
+
+/// Where two scenes have the same parts in any order, they show a receiver with the same levels, to the last unit.
+pub fn shows_alike(a: &Scene, b: &Scene, r: &Receiver)
+    ensures { SameParts a.now b.now → show_of a.now r.now ≡ show_of b.now r.now }
+{
+    each_zone(a.zones());
+    all_globals(a.globals());
+}
+
+/// Each zone keeps its limits.
+fn each_zone(zones: &[Zone])
+    ensures { All IsZoneWithin zones.now }
+{
+    for zone in zones {
+        one_zone(zone);
+    }
+}
+
+/// A zone keeps them by its type.
+fn one_zone(zone: &Zone)
+    ensures { IsZoneWithin zone.now }
+{
+    let _g = zone.g;
+}
+
+/// The globals of a scene keep their ranges by their type.
+fn all_globals(globals: &Globals)
+    ensures { AreGlobals globals.now }
+{
+    let _g = globals.g;
+}

@@ -1,0 +1,193 @@
+-- Scenes of the same parts answer an edit alike.
+use Rattle.std.proofs.Common.{◌≡◌, ℕ, ◌*◌, refl, sym, ap, ◌∙◌, cond, List, [], ◌∷◌, length}
+use Rattle.std.specs.Prelude.{bytes_eq, Option, Some, None, option_map, Result, Ok, Err}
+use Rattle.scene_parts.specs.Views.{Receiver}
+use Rattle.scene_parts.specs.Sides.{sides_of}
+use Rattle.scene_parts.specs.Answers.{◌>>◌}
+use Rattle.scene_parts.specs.declared.parts.Part.{Part}
+use Rattle.scene_parts.specs.declared.parts.Part.TheVariants as parts
+use Rattle.scene_parts.specs.declared.kinds.Class.TheVariants as classes
+use Rattle.scene_book.specs.declared.edits.Edit.TheVariants as edits
+use Rattle.scene_book.specs.declared.edits.EditFault.{EditFault}
+use Rattle.scene_book.specs.Limits.{most_sources, most_zones, most_receivers}
+use Rattle.scene_book.specs.Lists.{put_in, take_out, put_all, AreApart}
+use Rattle.scene_book.specs.Book.{Book, NamesAreApart, globals_with}
+use Rattle.scene_book.specs.Grid.{receivers_of}
+use Rattle.scene_book.specs.Applying.{apply_of, put_of, put_where_room, remove_of, grid_of, own_class, holder, in_limits, at_most, all_own, taken, part_named, name_of, class_of, with_part, without, replaced}
+use Rattle.scene_book.specs.Orders.{Shuffled, SameParts}
+use Rattle.scene_undo.specs.Laws.{Agree, EditsAgree}
+use Rattle.scene_undo.proofs.Maps.{named-put, named-take, apart-put, apart-take, shuffled-alike, alike-shuffled, shuffled-length, shuffled-total}
+use Rattle.scene_undo.proofs.Spaces.{Four, first, SameFound, same-found}
+use Rattle.scene_undo.proofs.Accepting.{left, puts_in}
+
+-- ---- lists
+
+module _ {A : Type 0} (name_of : A → List ℕ) (xs ys : List A) (h : Shuffled xs ys) (apart : AreApart name_of xs) where
+  -- a put and a removal of both
+  pub put-shuffled : (new : A) → Shuffled (put_in name_of new xs) (put_in name_of new ys)
+  put-shuffled new =
+      let alike = shuffled-alike name_of xs ys h apart in
+      alike-shuffled name_of (put_in name_of new xs) (put_in name_of new ys) (apart-put name_of new xs apart) (apart-put name_of new ys alike.0)
+      (λ name.
+      named-put name_of name new xs
+      ∙ ap (λ o. cond (bytes_eq name (name_of new)) (Some new) o) (alike.1 name)
+      ∙ sym (named-put name_of name new ys))
+
+  pub take-shuffled : (gone : List ℕ) → Shuffled (take_out name_of gone xs) (take_out name_of gone ys)
+  take-shuffled gone =
+      let alike = shuffled-alike name_of xs ys h apart in
+      alike-shuffled name_of (take_out name_of gone xs) (take_out name_of gone ys) (apart-take name_of gone xs apart) (apart-take name_of gone ys alike.0)
+      (λ name.
+      named-take name_of name gone xs apart
+      ∙ ap (λ o. cond (bytes_eq name gone) None o) (alike.1 name)
+      ∙ sym (named-take name_of name gone ys alike.0))
+
+puts-shuffled : {A : Type 0} (name_of : A → List ℕ) (news xs ys : List A) → Shuffled xs ys → AreApart name_of xs
+    → Shuffled (put_all name_of news xs) (put_all name_of news ys)
+puts-shuffled name_of [] xs ys h apart = h
+puts-shuffled name_of (new ∷ news) xs ys h apart =
+    puts-shuffled name_of news (put_in name_of new xs) (put_in name_of new ys)
+    (put-shuffled name_of xs ys h apart new) (apart-put name_of new xs apart)
+
+-- ---- scenes
+
+parts-put : (part : Part) (a b : Book) → SameParts a b → NamesAreApart a → SameParts (with_part part a) (with_part part b)
+parts-put (parts.Source s) a b h apart = record {
+  sources = put-shuffled (λ x. x.name) a.sources b.sources h.sources apart.sources s;
+  obstacles = h.obstacles;
+  zones = h.zones;
+  receivers = h.receivers;
+  globals = h.globals;
+}
+parts-put (parts.Obstacle o) a b h apart = record {
+  obstacles = put-shuffled (λ x. x.name) a.obstacles b.obstacles h.obstacles apart.obstacles o;
+  sources = h.sources;
+  zones = h.zones;
+  receivers = h.receivers;
+  globals = h.globals;
+}
+parts-put (parts.Zone z) a b h apart = record {
+  zones = put-shuffled (λ x. x.name) a.zones b.zones h.zones apart.zones z;
+  sources = h.sources;
+  obstacles = h.obstacles;
+  receivers = h.receivers;
+  globals = h.globals;
+}
+parts-put (parts.Receiver r) a b h apart = record {
+  receivers = put-shuffled (λ x. x.name) a.receivers b.receivers h.receivers apart.receivers r;
+  sources = h.sources;
+  obstacles = h.obstacles;
+  zones = h.zones;
+  globals = h.globals;
+}
+
+parts-take : (gone : List ℕ) (part : Part) (a b : Book) → SameParts a b → NamesAreApart a
+    → SameParts (without gone part a) (without gone part b)
+parts-take gone (parts.Source s) a b h apart = record {
+  sources = take-shuffled (λ x. x.name) a.sources b.sources h.sources apart.sources gone;
+  obstacles = h.obstacles;
+  zones = h.zones;
+  receivers = h.receivers;
+  globals = h.globals;
+}
+parts-take gone (parts.Obstacle o) a b h apart = record {
+  obstacles = take-shuffled (λ x. x.name) a.obstacles b.obstacles h.obstacles apart.obstacles gone;
+  sources = h.sources;
+  zones = h.zones;
+  receivers = h.receivers;
+  globals = h.globals;
+}
+parts-take gone (parts.Zone z) a b h apart = record {
+  zones = take-shuffled (λ x. x.name) a.zones b.zones h.zones apart.zones gone;
+  sources = h.sources;
+  obstacles = h.obstacles;
+  receivers = h.receivers;
+  globals = h.globals;
+}
+parts-take gone (parts.Receiver r) a b h apart = record {
+  receivers = take-shuffled (λ x. x.name) a.receivers b.receivers h.receivers apart.receivers gone;
+  sources = h.sources;
+  obstacles = h.obstacles;
+  zones = h.zones;
+  globals = h.globals;
+}
+
+-- no order changes what has room
+limits-same : (part : Part) (a b : Book) → SameParts a b → in_limits part a ≡ in_limits part b
+limits-same (parts.Source s) a b h = ap (at_most classes.Source most_sources) (shuffled-length a.sources b.sources h.sources)
+limits-same (parts.Obstacle o) a b h =
+    rw (shuffled-length a.obstacles b.obstacles h.obstacles, shuffled-total (λ x. length (sides_of x)) a.obstacles b.obstacles h.obstacles) refl
+limits-same (parts.Zone z) a b h = ap (at_most classes.Zone most_zones) (shuffled-length a.zones b.zones h.zones)
+limits-same (parts.Receiver r) a b h = ap (at_most classes.Receiver most_receivers) (shuffled-length a.receivers b.receivers h.receivers)
+
+replaced-same : (part : Part) (a b : Book) → SameParts a b → NamesAreApart a → replaced part a ≡ replaced part b
+replaced-same (parts.Source s) a b h apart = ap (λ (f : Four). option_map parts.Source f.0) ((same-found a b h apart).1 s.name)
+replaced-same (parts.Obstacle o) a b h apart = ap (λ (f : Four). option_map parts.Obstacle f.1) ((same-found a b h apart).1 o.name)
+replaced-same (parts.Zone z) a b h apart = ap (λ (f : Four). option_map parts.Zone f.2) ((same-found a b h apart).1 z.name)
+replaced-same (parts.Receiver r) a b h apart = ap (λ (f : Four). option_map parts.Receiver f.3) ((same-found a b h apart).1 r.name)
+
+found-alike : (a b : Book) → SameParts a b → NamesAreApart a → SameFound a b
+found-alike a b h apart name = ap first ((same-found a b h apart).1 name)
+
+all_own-same : (a b : Book) → SameFound a b → (news : List Receiver) → all_own a news ≡ all_own b news
+all_own-same a b found [] = refl
+all_own-same a b found (r ∷ rest) = rw (found r.name, all_own-same a b found rest) refl
+
+-- ---- answers
+
+-- behind tests that answer alike
+agree-behind : (r s : Result (Unit {0}) EditFault) (x y : Result (Book × Option Part) EditFault) → r ≡ s → Agree x y → Agree (r >> x) (s >> y)
+agree-behind (Ok u) (Ok v) x y e h = h
+agree-behind (Ok u) (Err fault) x y e h = cc
+agree-behind (Err fault) (Ok u) x y e h = cc
+agree-behind (Err fault) (Err other) x y e h = cc
+
+agree-taken : (name : List ℕ) (a b : Book) → SameParts a b → NamesAreApart a → (found other : Option Part) → found ≡ other
+    → Agree (taken name found a) (taken name other b)
+agree-taken name a b h apart None None e = refl
+agree-taken name a b h apart None (Some part) e = cc
+agree-taken name a b h apart (Some part) None e = cc
+agree-taken name a b h apart (Some part) (Some other) e =
+    let is : part ≡ other = cc in
+    (rw (← is) (parts-take name part a b h apart), e)
+
+pub edits-agree : EditsAgree
+unfolding apply_of put_of put_where_room remove_of grid_of
+edits-agree (edits.Put part) a b apart h =
+    let after = parts-put part a b h apart in
+    agree-behind (own_class (name_of part) (class_of part) (holder a (name_of part))) (own_class (name_of part) (class_of part) (holder b (name_of part)))
+    (in_limits part (with_part part a) >> left (with_part part a) (replaced part a))
+    (in_limits part (with_part part b) >> left (with_part part b) (replaced part b))
+    (ap (λ o. own_class (name_of part) (class_of part) (option_map class_of o)) (found-alike a b h apart (name_of part)))
+    (agree-behind (in_limits part (with_part part a)) (in_limits part (with_part part b))
+    (left (with_part part a) (replaced part a)) (left (with_part part b) (replaced part b))
+    (limits-same part (with_part part a) (with_part part b) after)
+    (after, replaced-same part a b h apart))
+edits-agree (edits.Remove name) a b apart h =
+    agree-taken name a b h apart (part_named a name) (part_named b name) (found-alike a b h apart name)
+edits-agree (edits.Grid grid) a b apart h =
+    let news = receivers_of grid in
+    let after = puts-shuffled (λ r. r.name) news a.receivers b.receivers h.receivers apart.receivers in
+    let count = at_most classes.Receiver most_receivers (grid.columns * grid.rows) in
+    let room-a = at_most classes.Receiver most_receivers (length (puts_in news a).receivers) in
+    let room-b = at_most classes.Receiver most_receivers (length (puts_in news b).receivers) in
+    agree-behind count count
+    (all_own a news >> (room-a >> left (puts_in news a) None))
+    (all_own b news >> (room-b >> left (puts_in news b) None)) refl
+    (agree-behind (all_own a news) (all_own b news)
+    (room-a >> left (puts_in news a) None)
+    (room-b >> left (puts_in news b) None)
+    (all_own-same a b (found-alike a b h apart) news)
+    (agree-behind room-a room-b (left (puts_in news a) None) (left (puts_in news b) None)
+    (ap (at_most classes.Receiver most_receivers) (shuffled-length (puts_in news a).receivers (puts_in news b).receivers after))
+    (record { sources = h.sources; obstacles = h.obstacles; zones = h.zones; receivers = after; globals = h.globals }, refl)))
+edits-agree (edits.Set setting) a b apart h = (
+  record {
+    sources = h.sources;
+    obstacles = h.obstacles;
+    zones = h.zones;
+    receivers = h.receivers;
+    globals = ap (globals_with setting) h.globals;
+  },
+  refl,
+)

@@ -1,0 +1,9 @@
+pub mod Maps
+pub mod Spaces
+pub mod Accepting
+pub mod Grids
+pub mod Kept
+pub mod Undoing
+pub mod Trails
+pub mod Checked
+pub mod Agreeing

@@ -1,0 +1,5 @@
+//! Tests of what undoes an edit.
+#![tactic(auto)]
+
+#[cfg(test)]
+mod inverses;
