@@ -5,6 +5,8 @@
 #[cfg(test)]
 mod boards;
 #[cfg(test)]
+mod given_back;
+#[cfg(test)]
 mod late_answers;
 #[cfg(test)]
 mod one_course;

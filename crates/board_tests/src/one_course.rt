@@ -46,7 +46,7 @@ pub(crate) fn take_job<R: Wait>(rt: &R, lock: &MapLock, worker: &mut WorkerSeat)
 }
 
 // Takes a job and gives it back.
-fn give_up<R: Wait>(rt: &R, lock: &MapLock, worker: &mut WorkerSeat) -> Option<()>
+pub(crate) fn give_up<R: Wait>(rt: &R, lock: &MapLock, worker: &mut WorkerSeat) -> Option<()>
     requires own { worker.old.table ≡ lock.now }
     requires free { owed worker.old.mine ≡ [] }
     ensures own { worker.new.table ≡ lock.now }
@@ -93,7 +93,12 @@ fn sees_one_current<R: Wait>(rt: &R, alloc: Global, lock: &MapLock, looker: &mut
 }
 
 // The two edits.
-fn edit_both<R: Wait>(rt: &R, alloc: Global, lock: &MapLock, editor: &mut EditorSeat) -> Option<()>
+pub(crate) fn edit_both<R: Wait>(
+    rt: &R,
+    alloc: Global,
+    lock: &MapLock,
+    editor: &mut EditorSeat,
+) -> Option<()>
     requires own { editor.old.table ≡ lock.now }
     ensures own { editor.new.table ≡ lock.now }
     ensures parts { editor.new.parts ≡ editor.old.parts }

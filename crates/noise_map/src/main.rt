@@ -14,6 +14,8 @@ mod status;
 mod step;
 mod stopped;
 #[cfg(test)]
+mod test_faults;
+#[cfg(test)]
 mod test_gate;
 #[cfg(test)]
 mod test_lines;
@@ -31,8 +33,6 @@ mod test_sides;
 mod test_walls;
 #[cfg(test)]
 mod test_weather;
-#[cfg(test)]
-mod test_works;
 #[cfg(test)]
 mod tests;
 

@@ -11,7 +11,7 @@ use std::sync::atomic::{AtomicU64, Ordering};
 use std::test::Fail;
 use std::thread::Threads;
 
-const FAN: &str =
+pub(crate) const FAN: &str =
     r#"{"do":"source","name":"s","kind":"industry","x":0,"y":0,"h":2000,"lw":[null,null,null,null,10000,null,null,null]}"#;
 
 const HOUSE: &str = r#"{"do":"receiver","name":"r","x":100000,"y":0,"h":2000}"#;

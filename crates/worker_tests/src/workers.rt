@@ -2,7 +2,7 @@
 ghost use Rattle.std.specs.Prelude.{◌≡◌, ◌-◌, ◌^◌, ◌<◌};
 ghost use Rattle.std.specs.Option.{ForSome};
 
-use map_io::Gate;
+use map_io::{Gate, OpenGate};
 use receiver_workers::{Desk, Ended, SeatCall, Taken, with_workers, work};
 use std::sync::Wait;
 use std::sync::atomic::Ordering::SeqCst;
@@ -10,14 +10,15 @@ use std::sync::atomic::{AtomicBool, AtomicU64};
 use std::test::*;
 use std::thread;
 
-// Hands out the numbers below `jobs` in their order, and adds up what is offered. It is finished once it is said to be,
-// or after so many waits.
+// Hands out the numbers below `jobs` in their order, and counts and adds up what is offered. The two `unsolved` ones are
+// handed back. It is finished once it is said to be, or after so many waits.
 #[derive(Drop)]
 struct Numbers {
     jobs: u64,
-    unsolved: u32,
+    unsolved: [u32; 2],
     patience: u64,
     next: AtomicU64,
+    offers: AtomicU64,
     sum: AtomicU64,
     waits: AtomicU64,
     finished: AtomicBool,
@@ -76,7 +77,7 @@ impl Desk for Numbers {
     }
 
     fn solve(&self, job: u32) -> Result<u64, Unsolved> {
-        if job == self.unsolved {
+        if self.unsolved.contains(&job) {
             return Err(Unsolved { job });
         }
         Ok(u64::from(job) * 3)
@@ -85,6 +86,7 @@ impl Desk for Numbers {
     fn offer<R: Wait>(&self, _rt: &R, seat: &mut Clerk, answer: u64) {
         seat.owed = None;
         seat.last = Some(SeatCall::Offer(answer));
+        self.offers.fetch_add(1, SeqCst);
         self.sum.fetch_add(answer, SeqCst);
     }
 
@@ -114,12 +116,13 @@ impl Numbers {
     ghost use Rattle.receiver_workers.specs.Owing.{job_in};
     ghost use Rattle.receiver_workers.specs.declared.calls.SeatCall.{SeatCall};
 
-    fn new(jobs: u64, unsolved: u32, patience: u64) -> Numbers {
+    fn new(jobs: u64, unsolved: [u32; 2], patience: u64) -> Numbers {
         Numbers {
             jobs,
             unsolved,
             patience,
             next: AtomicU64::new(0),
+            offers: AtomicU64::new(0),
             sum: AtomicU64::new(0),
             waits: AtomicU64::new(0),
             finished: AtomicBool::new(false),
@@ -200,7 +203,7 @@ fn a_worker_passes_the_gate_with_its_number_and_each_place(rt: HostRuntime) -> R
         (1, Ended::NoMemory, 705_706, 0, 1),
     ];
     for (unsolved, ended, passes, sum, backs) in table {
-        let desk = Numbers::new(3, unsolved, 1);
+        let desk = Numbers::new(3, [unsolved; 2], 1);
         let gate = Log {
             passes: AtomicU64::new(0),
         };
@@ -240,7 +243,7 @@ impl Gate for Meeting {
 
 #[test]
 fn two_workers_solve_beside_the_body(rt: HostRuntime) -> Result<(), Fail> {
-    let desk = Numbers::new(5, 9, u64::MAX);
+    let desk = Numbers::new(5, [9; 2], u64::MAX);
     let gate = Meeting {
         arrived: AtomicU64::new(0),
     };
@@ -270,5 +273,29 @@ fn two_workers_solve_beside_the_body(rt: HostRuntime) -> Result<(), Fail> {
     for seat in &seats {
         assert!(rt; matches!(seat.last, Some(SeatCall::Take(Taken::Finished))));
     }
+    Ok(())
+}
+
+// How many of these seats were left behind the give-back of this job.
+fn given_back(seats: &[Clerk], job: u32) -> usize {
+    seats
+        .iter()
+        .filter(|seat| matches!(seat.last, Some(SeatCall::GiveBack(back)) if back == job))
+        .count()
+}
+
+#[test]
+fn workers_without_memory_leave_the_jobs_to_the_others(rt: HostRuntime) -> Result<(), Fail> {
+    let desk = Numbers::new(6, [2, 5], 0);
+    let mut seats = [new_clerk(), new_clerk(), new_clerk()];
+    with_workers(&rt, &desk, &OpenGate, &mut seats, &mut || ());
+    assert_eq!(rt; (desk.offers.load(SeqCst), desk.sum.load(SeqCst)), (4, 24));
+    assert_eq!(rt; (given_back(&seats, 2), given_back(&seats, 5)), (1, 1));
+    let finished = seats
+        .iter()
+        .filter(|seat| matches!(seat.last, Some(SeatCall::Take(Taken::Finished))))
+        .count();
+    assert_eq!(rt; finished, 1);
+    assert!(rt; seats.iter().all(|seat| seat.owed.is_none()));
     Ok(())
 }
