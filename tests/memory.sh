@@ -3,7 +3,7 @@
 # ends as it does with ample memory. Where a worker alone goes without, the run goes on, so rows may be whole all the same.
 # First the N-th request for memory is refused, for N from 1 until a run makes no so many. Then the site of a works is
 # calculated with 16 workers in less and less address space.
-# With the word `sample` it tries some of these numbers, in half a minute; without, all of them, in some ten. Programs may
+# With the word `sample` it tries some of these numbers, in half a minute; without, all of them, in some ten minutes. Programs may
 # be named behind it, as for tests/program.sh. The first part needs a C compiler and a program that is linked with the C
 # library of the system, the second prlimit; what is missing is told and passed over.
 cd "$(dirname "$0")/.." || exit 1
@@ -121,18 +121,20 @@ within() {
     (prlimit --as="$bytes" timeout 60 "$program" "$@" < "$input" > "$room/rows" 2> "$room/said"; exit $?) 2> /dev/null
 }
 
-# The least number of pages in which the program starts: in those it reads an empty input to its end.
+# The least number of pages in which the site comes to a status of the program's own. In fewer the system can't start it, or
+# ends it.
 find_least() {
     below=0
     least=65536
     while [ $((least - below)) -gt 1 ]; do
         middle=$(((below + least) / 2))
-        if within $((middle * 4096)) "$room/nothing"; then least=$middle; else below=$middle; fi
+        within $((middle * 4096)) examples/works.jsonl --workers 16
+        if [ $? -le 6 ]; then least=$middle; else below=$middle; fi
     done
 }
 
-# crowd STEP PAGES: runs with 16 workers, each in less room than the one before, down to the least in which the program
-# starts: STEP times so many pages at the most, and STEP pages less each time.
+# crowd STEP PAGES: runs with 16 workers, each in less room than the one before, down to nearly the least: 100 times so many
+# pages above it in the first, and STEP times so many fewer in each further one.
 crowd() {
     more=$(($2 * 100))
     while [ "$more" -gt 0 ]; do
@@ -142,7 +144,7 @@ crowd() {
     done
 }
 
-# Down from the room for the stacks and heaps of all workers, and then from the room for one.
+# Down from the room for the stacks and heaps of all workers, and then page by page.
 crowd_all() {
     whole=0
     broken=0
