@@ -2,10 +2,10 @@
 # The program where it gets no memory. A run may then end with status 5 and some first rows, each of them whole; else it
 # ends as it does with ample memory. Where a worker alone goes without, the run goes on, so rows may be whole all the same.
 # First the N-th request for memory is refused, for N from 1 until a run makes no so many. Then the site of a works is
-# calculated with 16 workers in less and less address space.
-# With the word `sample` it tries some of these numbers, in half a minute; without, all of them, in some ten minutes. Programs may
-# be named behind it, as for tests/program.sh. The first part needs a C compiler and a program that is linked with the C
-# library of the system, the second prlimit; what is missing is told and passed over.
+# calculated with 16 workers in less and less address space. A run that doesn't end within a minute is a fault.
+# With the word `sample` it tries some of these numbers, in some seconds; without, all of them, in some five minutes a
+# program. Programs may be named behind it, as for tests/program.sh. The first part needs a C compiler and a program that
+# takes its memory from the C library of the system, the second prlimit; what is missing is told and passed over.
 cd "$(dirname "$0")/.." || exit 1
 room=$(mktemp -d) || exit 1
 trap 'rm -rf "$room"' EXIT
@@ -96,7 +96,8 @@ refuse() {
     if [ "$number" -eq 1 ]; then fail "$(basename "$input") $*: it asks the C library for no memory"; fi
     if [ "$status" -eq 5 ]; then fail "$(basename "$input") $*: no memory, and no request was refused"; fi
     judge "$status" "$wanted" "$rows" "$(basename "$input") $*"
-    echo "$program: $(basename "$input") $*: up to $((number - step)) requests, one refused in turn: $broken runs ended with 5, $((whole - 1)) with all rows"
+    echo "$program: $(basename "$input") $*: one of $((number - step)) requests refused:" \
+        "$broken runs ended with 5, $((whole - 1)) with all rows"
 }
 
 # refuse_all STEP-OF-SHORT-RUNS STEP-OF-LONG-RUNS: over a run whose way round the left of a barrier is blocked, over examples

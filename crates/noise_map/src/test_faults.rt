@@ -64,6 +64,7 @@ fn each_write_fails_in_turn(rt: HostRuntime) -> Result<(), Fail> {
     let mut write: u32 = 1;
     for row in rows.split_inclusive('\n') {
         let (report, taken) = written(&rt, alloc, &[], input.as_bytes(), 0, write)?;
+        // Line 13 writes 26 rows, and line 24 the others.
         let lines = if write <= 26 { 13 } else { 24 };
         assert_eq!(rt; (report.status, report.lines), (Status::WriteFault, lines));
         assert_eq!(rt; taken.as_slice(), before.as_bytes(), "write {write}");
