@@ -4,7 +4,7 @@ use term_div_atm::{a_atm, a_div};
 
 // Ends of a distance, and the ends that an independent calculation on whole numbers gives.
 #[test]
-fn attenuations_have_these_ends(rt: HostRuntime) {
+fn divergences_have_these_ends(rt: HostRuntime) {
     let divergences = [
         (0, 0, 47_244_640_256, 47_244_640_256),
         (4_294_967_296, 4_294_967_296, 47_244_640_256, 47_244_640_256),
@@ -30,6 +30,11 @@ fn attenuations_have_these_ends(rt: HostRuntime) {
     for (low, high, lo, hi) in divergences {
         has_ends(&rt, a_div(between(low, high)), lo, hi);
     }
+}
+
+// The same with a coefficient of absorption, in 0.1 dB a kilometre.
+#[test]
+fn absorptions_have_these_ends(rt: HostRuntime) {
     let absorptions = [
         (0, 0, 1, 429_496, 429_497),
         (

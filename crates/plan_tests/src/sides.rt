@@ -238,38 +238,44 @@ fn outlines_have_areas_extents_and_meet(rt: HostRuntime) -> Result<(), Fail> {
     Ok(())
 }
 
+/// The legs of a reflection from (0, 0) to (100000, 0) in a wall at y = 60000, and where on each it is.
+const END: Frac = Frac {
+    n: 9_600_000_000,
+    d: 19_200_000_000,
+};
+
+const FIRST: Dir = Dir {
+    x: 2_560_000_000_000_000,
+    y: 3_072_000_000_000_000,
+    w: 25_600_000_000,
+};
+
+const SECOND: Dir = Dir {
+    x: -2_560_000_000_000_000,
+    y: 3_072_000_000_000_000,
+    w: 25_600_000_000,
+};
+
 #[test]
-fn legs_are_hit(rt: HostRuntime) -> Result<(), Fail> {
-    // The legs of a reflection from (0, 0) to (100000, 0) in a wall at y = 60000.
-    let end = Frac {
-        n: 9_600_000_000,
-        d: 19_200_000_000,
-    };
-    let first = Dir {
-        x: 2_560_000_000_000_000,
-        y: 3_072_000_000_000_000,
-        w: 25_600_000_000,
-    };
-    let second = Dir {
-        x: -2_560_000_000_000_000,
-        y: 3_072_000_000_000_000,
-        w: 25_600_000_000,
-    };
+fn legs_are_hit(rt: HostRuntime) {
     let source = at((0, 0));
-    let receiver = at((100_000, 0));
     let wall = side(((20_000, 30_000), (20_000, 10_000)));
     let hit = Frac {
         n: 10_240_000_000_000_000_000,
         d: 51_200_000_000_000_000_000,
     };
-    assert_eq!(rt; hits(wall, source, first), Some(hit));
+    assert_eq!(rt; hits(wall, source, FIRST), Some(hit));
     assert_eq!(rt;
-        passes(wall, source, first).map(|passage| passage.to_left),
+        passes(wall, source, FIRST).map(|passage| passage.to_left),
         Some(false)
     );
-    assert_eq!(rt; hits(wall, receiver, second), None);
-    assert!(rt; lies_inside(hit, end));
+    assert_eq!(rt; hits(wall, at((100_000, 0)), SECOND), None);
+    assert!(rt; lies_inside(hit, END));
     assert!(rt; !lies_inside(hit, Frac { n: 1, d: 5 }));
+}
+
+#[test]
+fn a_house_is_met_by_the_first_leg(rt: HostRuntime) -> Result<(), Fail> {
     let house = corners(
         rt.alloc(),
         &[
@@ -279,9 +285,13 @@ fn legs_are_hit(rt: HostRuntime) -> Result<(), Fail> {
             (20_000, 40_000),
         ],
     )?;
-    assert!(rt; meets(&house, source, first, end));
-    assert!(rt; !meets(&house, receiver, second, end));
-    // The greatest direction, place and end.
+    assert!(rt; meets(&house, at((0, 0)), FIRST, END));
+    assert!(rt; !meets(&house, at((100_000, 0)), SECOND, END));
+    Ok(())
+}
+
+#[test]
+fn the_greatest_leg_is_hit(rt: HostRuntime) {
     let greatest = Dir {
         x: 2_110_000_000_000_000_000,
         y: -2_110_000_000_000_000_000,
@@ -297,16 +307,11 @@ fn legs_are_hit(rt: HostRuntime) -> Result<(), Fail> {
         hits(diagonal, at((M, -M)), greatest).map(parts),
         Some((-far.n, far.d))
     );
-    assert!(rt;
-        lies_inside(
-            far,
-            Frac {
-                n: 2_970_000_000_000,
-                d: 5_940_000_000_000
-            }
-        )
-    );
-    Ok(())
+    let end = Frac {
+        n: 2_970_000_000_000,
+        d: 5_940_000_000_000,
+    };
+    assert!(rt; lies_inside(far, end));
 }
 
 /// The path by way of a side, where it can reflect.
@@ -320,42 +325,53 @@ fn reflection(side: Side, s: Pt, r: Pt) -> Option<Reflection> {
     }
 }
 
+/// The side, source and receiver, the two directions with their divisor, the fraction before the specular point, and the
+/// numerator of the squared length.
+type Reflected = (
+    ((i64, i64), (i64, i64)),
+    ((i64, i64), (i64, i64)),
+    (i128, i128),
+    (i128, i128),
+    i128,
+    (i128, i128),
+    i128,
+);
+
+const REFLECTED: [Reflected; 3] = [
+    // The specular point is (50000, 30000), and the path the square root of 100² + 60² m long.
+    (
+        ((49_999, 30_000), (149_999, 30_000)),
+        ((0, 0), (100_000, 0)),
+        (1_000_000_000_000_000, 600_000_000_000_000),
+        (-1_000_000_000_000_000, 600_000_000_000_000),
+        10_000_000_000,
+        (3_000_000_000, 6_000_000_000),
+        136_000_000_000_000_000_000,
+    ),
+    (
+        ((60_000, -20_000), (-10_000, 45_000)),
+        ((-30_000, -1_000), (5_000, -7)),
+        (602_188_700_000_000, 313_629_725_000_000),
+        (268_225_000_000_000, 623_738_875_000_000),
+        9_125_000_000,
+        (4_520_000_000, 6_695_490_000),
+        50_519_981_897_125_000_000,
+    ),
+    // The longest wall.
+    (
+        ((0, 0), (0, 262_143)),
+        ((1, 131_071), (2, 131_072)),
+        (-206_156_857_347, 68_718_952_449),
+        (-206_156_857_347, -68_718_952_449),
+        68_718_952_449,
+        (262_143, 786_429),
+        687_189_524_490,
+    ),
+];
+
 #[test]
 fn walls_reflect(rt: HostRuntime) {
-    // The side, source and receiver, the two directions with their divisor, the fraction before the
-    // specular point, and the numerator of the squared length.
-    let rows = [
-        // The specular point is (50000, 30000), and the path the square root of 100² + 60² m long.
-        (
-            ((49_999, 30_000), (149_999, 30_000)),
-            ((0, 0), (100_000, 0)),
-            (1_000_000_000_000_000, 600_000_000_000_000),
-            (-1_000_000_000_000_000, 600_000_000_000_000),
-            10_000_000_000,
-            (3_000_000_000, 6_000_000_000),
-            136_000_000_000_000_000_000,
-        ),
-        (
-            ((60_000, -20_000), (-10_000, 45_000)),
-            ((-30_000, -1_000), (5_000, -7)),
-            (602_188_700_000_000, 313_629_725_000_000),
-            (268_225_000_000_000, 623_738_875_000_000),
-            9_125_000_000,
-            (4_520_000_000, 6_695_490_000),
-            50_519_981_897_125_000_000,
-        ),
-        // The longest wall.
-        (
-            ((0, 0), (0, 262_143)),
-            ((1, 131_071), (2, 131_072)),
-            (-206_156_857_347, 68_718_952_449),
-            (-206_156_857_347, -68_718_952_449),
-            68_718_952_449,
-            (262_143, 786_429),
-            687_189_524_490,
-        ),
-    ];
-    for (wall, ends, (first_x, first_y), (second_x, second_y), w, p, squared) in rows {
+    for (wall, ends, (first_x, first_y), (second_x, second_y), w, p, squared) in REFLECTED {
         let line = side(ends);
         let Some(path) = reflection(side(wall), line.from, line.to) else {
             assert!(rt; false, "{wall:?}");
@@ -372,6 +388,10 @@ fn walls_reflect(rt: HostRuntime) {
         assert_eq!(rt; parts(path.p), p);
         assert_eq!(rt; parts(path.square), (squared, w));
     }
+}
+
+#[test]
+fn walls_between_and_long_walls_do_not_reflect(rt: HostRuntime) {
     let wall = side(((0, 0), (262_144, 0)));
     assert!(rt; !is_short(wall));
     assert!(rt; !on_one_side(wall, at((0, 1)), at((0, -1))));
