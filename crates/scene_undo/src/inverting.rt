@@ -12,7 +12,8 @@ use std::alloc::Global;
 
 /// What undoes an edit of a scene that accepts it: of a put the old part's put, or the remove of a new name; of a removal
 /// the old part's put; of a grid the same for each of its receivers, in order; of a setting the setting of all old
-/// globals. From any scene of the parts that the edit left these edits are accepted, and lead to the parts that were.
+/// globals. Where edits made the scene before, these are accepted from any scene of the parts that the edit left, and lead
+/// to the parts that were.
 pub fn inverse(alloc: Global, edit: &Edit, before: &Scene) -> Result<Inverse, NoMemory>
     ensures value { IfOk result (λ inverse. inverse ≡ inverse_of edit.now before.now) }
     ensures undone { IfOk result (λ inverse. IsUndone edit.now before.now inverse) }
