@@ -179,9 +179,8 @@ compiler=
 for name in cc clang gcc; do
     if [ -z "$compiler" ] && command -v "$name" > /dev/null; then compiler=$name; fi
 done
-if [ -n "$compiler" ]; then
-    "$compiler" -O2 -shared -fPIC -o "$room/refuse.so" "$room/refuse.c" || exit 1
-else
+if [ -n "$compiler" ] && ! "$compiler" -O2 -shared -fPIC -o "$room/refuse.so" "$room/refuse.c"; then compiler=; fi
+if [ -z "$compiler" ]; then
     echo "memory: no C compiler here, so no request is refused"
 fi
 if ! command -v prlimit > /dev/null; then
