@@ -1,5 +1,5 @@
--- What the checks of contours, line sources and versions answer: their tests in their order, and what is asked for where
--- all pass.
+-- What the checks of contours, line sources and versions answer: their tests in their order, and what is asked for
+-- where all pass.
 use Rattle.std.specs.Prelude.{ℕ, ℤ, pos, Result, Ok}
 use Rattle.scene_parts.specs.declared.kinds.Field.TheVariants as fields
 use Rattle.scene_parts.specs.declared.kinds.Shape.TheVariants.{Barrier}
