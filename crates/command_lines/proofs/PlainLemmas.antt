@@ -14,7 +14,7 @@ use Rattle.command_lines.specs.declared.faults.LineFault.TheVariants.{NoMemory, 
 use Rattle.command_lines.specs.Fields.{Entry, made_unless, with_fields, is_missing, is_wrong, first}
 use Rattle.scene_parts.specs.Answers.{◌>>=◌, MatchesUnlessMemory}
 use Rattle.command_lines.specs.Answers.{lacks_memory, IsPlain, line_fault_of, of_part, found_or}
-use Rattle.command_lines.specs.Words.{source_of, barrier_of, building_of, zone_of, receiver_of, grid_of, set_of, part_of, removal_of, checked_edit, raw_contour_of, contour_of, raw_line_source_of, line_source_of, unline_of, raw_version_of, undo_of, asked}
+use Rattle.command_lines.specs.Words.{source_of, barrier_of, building_of, zone_of, foliage_of, receiver_of, grid_of, set_of, part_of, removal_of, checked_edit, raw_contour_of, contour_of, raw_line_source_of, line_source_of, unline_of, raw_version_of, undo_of, asked}
 use Rattle.command_lines.specs.Checking.{checked_contour, checked_line_source, version_of}
 use Rattle.command_lines.specs.Lines.{word_of, command_from, json_of, command_in}
 
@@ -70,15 +70,16 @@ unfolding checked_edit
 plain-checked_edit raw = plain-bind (of_part (check_of raw)) _ (plain-of_part (check_of raw)) (λ checked. tt)
 
 plain-part_of : (word : List ℕ) (line : Data) → IfErr (part_of word line) IsPlain
-unfolding part_of source_of barrier_of building_of zone_of receiver_of grid_of set_of
+unfolding part_of source_of barrier_of building_of zone_of foliage_of receiver_of grid_of set_of
 plain-part_of word line =
     plain-if (bytes_eq word (codes "source")) _ _ (plain-with_fields _ line _)
     (plain-if (bytes_eq word (codes "barrier")) _ _ (plain-with_fields _ line _)
     (plain-if (bytes_eq word (codes "building")) _ _ (plain-with_fields _ line _)
     (plain-if (bytes_eq word (codes "zone")) _ _ (plain-with_fields _ line _)
+    (plain-if (bytes_eq word (codes "foliage")) _ _ (plain-with_fields _ line _)
     (plain-if (bytes_eq word (codes "receiver")) _ _ (plain-with_fields _ line _)
     (plain-if (bytes_eq word (codes "grid")) _ _ (plain-with_fields _ line _)
-    (plain-if (bytes_eq word (codes "set")) _ _ (plain-with_fields _ line _) tt))))))
+    (plain-if (bytes_eq word (codes "set")) _ _ (plain-with_fields _ line _) tt)))))))
 
 plain-contour_of : (line : Data) → IfErr (contour_of line) IsPlain
 unfolding contour_of raw_contour_of

@@ -7,6 +7,7 @@ use Rattle.scene_parts.specs.declared.kinds.Field.{Field}
 use Rattle.scene_parts.specs.declared.faults.PartFault.{PartFault}
 use Rattle.scene_parts.specs.declared.faults.PartFault.TheVariants as part_faults
 use Rattle.command_lines.specs.declared.faults.LineFault.{LineFault}
+use Rattle.command_lines.specs.Fields.{Entry, is_wrong}
 use Rattle.command_lines.specs.declared.faults.LineFault.TheVariants.{NoMemory, WrongType, Part}
 
 -- the fault that there was no memory
@@ -45,9 +46,8 @@ Reads field (Ok x) found = found ≡ Some x
 Reads field (Err NoMemory) found = Unit {0}
 Reads field (Err fault) found = (found ≡ None) × (fault ≡ WrongType field)
 
--- the same of a value that may be absent
-abbrev pub ReadsOptional : {A : Type 0} → Field → Result (Option A) LineFault → Option (Option A) → Type 0
-ReadsOptional field (Ok None) found = found ≡ None
-ReadsOptional field (Ok (Some x)) found = found ≡ Some (Some x)
-ReadsOptional field (Err NoMemory) found = Unit {0}
-ReadsOptional field (Err fault) found = (found ≡ Some None) × (fault ≡ WrongType field)
+-- the same of a field that a line may be without
+abbrev pub ReadsOptional : {A : Type 0} → Data → Entry → Result (Option A) LineFault → Option A → Type 0
+ReadsOptional line entry (Ok x) found = (found ≡ x) × (is_wrong line entry ≡ false)
+ReadsOptional line entry (Err NoMemory) found = Unit {0}
+ReadsOptional line entry (Err fault) found = (is_wrong line entry ≡ true) × (fault ≡ WrongType entry.field)

@@ -1,7 +1,7 @@
 -- The words of `do`, the fields of each in their order, and what each asks for.
 use Rattle.std.specs.Prelude.{ℕ, ℤ, List, [], ◌∷◌, Result, Ok, Err, if◌then◌else◌, codes, bytes_eq}
 use Rattle.serde_json.specs.Data.{Data}
-use Rattle.scene_parts.specs.declared.kinds.Field.TheVariants.{Name, Kind, X, Y, H, Lw, Dc, Points, Density, Rho, G, Step, Columns, Rows, Reach, Air, C0, Level, Piece, To}
+use Rattle.scene_parts.specs.declared.kinds.Field.TheVariants.{Name, Kind, X, Y, H, Lw, Dc, Points, Density, Rho, G, Step, Columns, Rows, Reach, Air, C0, Ground, Level, Piece, To}
 use Rattle.scene_parts.specs.declared.raw.RawPart.{RawPart}
 use Rattle.scene_parts.specs.declared.raw.RawPart.TheVariants as raw
 use Rattle.scene_parts.specs.Checking.{check_of}
@@ -35,6 +35,9 @@ building_fields = needed Name name ∷ needed Points points ∷ needed H whole �
 abbrev pub zone_fields : List Entry
 zone_fields = needed Name name ∷ needed Points points ∷ needed G whole ∷ []
 
+abbrev pub foliage_fields : List Entry
+foliage_fields = needed Name name ∷ needed Points points ∷ needed H whole ∷ []
+
 abbrev pub receiver_fields : List Entry
 receiver_fields = needed Name name ∷ needed X whole ∷ needed Y whole ∷ needed H whole ∷ []
 
@@ -44,7 +47,8 @@ grid_fields =
     ∷ needed H whole ∷ []
 
 abbrev pub set_fields : List Entry
-set_fields = optional Reach whole ∷ optional G whole ∷ optional Air text ∷ optional C0 whole ∷ []
+set_fields =
+    optional Reach whole ∷ optional G whole ∷ optional Air text ∷ optional C0 whole ∷ optional Ground text ∷ []
 
 abbrev pub remove_fields : List Entry
 remove_fields = needed Name any_name ∷ []
@@ -82,6 +86,9 @@ building_in line = raw.Building (name_at Name line) (points_at Points line) (who
 abbrev pub zone_in : Data → RawPart
 zone_in line = raw.Zone (name_at Name line) (points_at Points line) (whole_at G line)
 
+abbrev pub foliage_in : Data → RawPart
+foliage_in line = raw.Foliage (name_at Name line) (points_at Points line) (whole_at H line)
+
 abbrev pub receiver_in : Data → RawPart
 receiver_in line = raw.Receiver (name_at Name line) (whole_at X line) (whole_at Y line) (whole_at H line)
 
@@ -93,7 +100,7 @@ grid_in line =
 abbrev pub set_in : Data → RawPart
 set_in line =
     raw.Set (optional_whole_at Reach line) (optional_whole_at G line) (optional_text_at Air line)
-    (optional_whole_at C0 line)
+    (optional_whole_at C0 line) (optional_text_at Ground line)
 
 abbrev pub contour_in : Data → RawContour
 contour_in line =
@@ -130,6 +137,9 @@ building_of line = with_fields building_fields line (building_in line)
 unfoldable pub zone_of : Data → Result RawPart LineFault
 zone_of line = with_fields zone_fields line (zone_in line)
 
+unfoldable pub foliage_of : Data → Result RawPart LineFault
+foliage_of line = with_fields foliage_fields line (foliage_in line)
+
 unfoldable pub receiver_of : Data → Result RawPart LineFault
 receiver_of line = with_fields receiver_fields line (receiver_in line)
 
@@ -145,10 +155,11 @@ part_of word line =
     else (if bytes_eq word (codes "barrier") then barrier_of line
     else (if bytes_eq word (codes "building") then building_of line
     else (if bytes_eq word (codes "zone") then zone_of line
+    else (if bytes_eq word (codes "foliage") then foliage_of line
     else (if bytes_eq word (codes "receiver") then receiver_of line
     else (if bytes_eq word (codes "grid") then grid_of line
     else (if bytes_eq word (codes "set") then set_of line
-    else Err (UnknownDo word)))))))
+    else Err (UnknownDo word))))))))
 
 -- The command
 

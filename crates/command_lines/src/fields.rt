@@ -2,7 +2,8 @@
 ghost use Rattle.std.specs.Prelude.{◌≡◌, None, Some, IfOk, IfErr, option_map};
 ghost use Rattle.serde_json.specs.View.{view};
 ghost use Rattle.command_lines.specs.Answers.{Reads, ReadsOptional};
-ghost use Rattle.command_lines.specs.Fields.{value_at};
+ghost use Rattle.command_lines.specs.Fields.{optional, value_at, optional_whole_at, optional_text_at};
+ghost use Rattle.command_lines.specs.Fields as types;
 ghost use Rattle.command_lines.specs.Values.{text_of, name_of, any_name_of, whole_of, points_of, powers_of};
 
 use super::faults::LineFault;
@@ -39,7 +40,8 @@ pub fn whole(field: Field, value: &Value) -> Result<i64, LineFault>
 
 /// A whole number where the line has the field, or `WrongType`.
 pub fn optional_whole(line: &Value, field: Field) -> Result<Option<i64>, LineFault>
-    ensures { ReadsOptional field result (option_map whole_of (value_at field (view line.now))) }
+    ensures { ReadsOptional (view line.now) (optional field types.whole) result
+        (optional_whole_at field (view line.now)) }
 {
     match given(line, field) {
         None => Ok(None),
@@ -73,7 +75,8 @@ pub fn word(alloc: Global, field: Field, value: &Value) -> Result<Word, LineFaul
 
 /// A text where the line has the field, or `WrongType`.
 pub fn optional_word(alloc: Global, line: &Value, field: Field) -> Result<Option<Word>, LineFault>
-    ensures { ReadsOptional field result (option_map text_of (value_at field (view line.now))) }
+    ensures { ReadsOptional (view line.now) (optional field types.text) result
+        (optional_text_at field (view line.now)) }
 {
     match given(line, field) {
         None => Ok(None),

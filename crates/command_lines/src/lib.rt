@@ -8,6 +8,8 @@ mod contour_words;
 mod contours;
 mod faults;
 mod fields;
+#[cfg(test)]
+mod ground_rows;
 mod limits;
 mod line_sources;
 mod line_words;

@@ -4,7 +4,7 @@ ghost use Rattle.serde_json.specs.View.{view};
 ghost use Rattle.scene_parts.specs.Answers.{MatchesUnlessMemory};
 ghost use Rattle.command_lines.specs.Answers.{lacks_memory};
 ghost use Rattle.command_lines.specs.Fields.{Has};
-ghost use Rattle.command_lines.specs.Words.{source_of, barrier_of, building_of, zone_of, receiver_of, grid_of, set_of};
+ghost use Rattle.command_lines.specs.Words.{source_of, barrier_of, building_of, zone_of, foliage_of, receiver_of, grid_of, set_of};
 
 use super::faults::LineFault;
 use super::fields::{
@@ -144,6 +144,21 @@ pub fn zone(alloc: Global, line: &Value) -> Result<RawPart, LineFault>
     })
 }
 
+/// A foliage that a line gives.
+#[tactic(auto, unfolding(crate::specs::Fields::with_fields, crate::specs::Words::foliage_of))]
+pub fn foliage(alloc: Global, line: &Value) -> Result<RawPart, LineFault>
+    ensures { MatchesUnlessMemory lacks_memory result (foliage_of (view line.now)) }
+{
+    let name = needed(line, Field::Name)?;
+    let corners = needed(line, Field::Points)?;
+    let h = needed(line, Field::H)?;
+    Ok(RawPart::Foliage {
+        name: plain_name(alloc, Field::Name, name)?,
+        points: points(alloc, Field::Points, corners)?,
+        h: whole(Field::H, h)?,
+    })
+}
+
 /// A receiver that a line gives.
 #[tactic(auto, unfolding(crate::specs::Fields::with_fields, crate::specs::Words::receiver_of))]
 pub fn receiver(alloc: Global, line: &Value) -> Result<RawPart, LineFault>
@@ -230,5 +245,6 @@ pub fn setting(alloc: Global, line: &Value) -> Result<RawPart, LineFault>
         g: optional_whole(line, Field::G)?,
         air: optional_word(alloc, line, Field::Air)?,
         c0: optional_whole(line, Field::C0)?,
+        ground: optional_word(alloc, line, Field::Ground)?,
     })
 }

@@ -1,4 +1,5 @@
 //! Lines are told as an independent program tells them.
+use super::ground_rows::{FOLIAGE, GROUND};
 use super::request_rows::REQUESTS;
 use super::rows::{FORMS, MISSING, RANGES, TYPES, VALUES};
 use super::{Command, LineFault, class_text, command, field_text};
@@ -98,6 +99,8 @@ fn lines_are_told_so(rt: HostRuntime) -> Result<(), Fail> {
     tell(&rt, alloc, &VALUES)?;
     tell(&rt, alloc, &RANGES)?;
     tell(&rt, alloc, &REQUESTS)?;
+    tell(&rt, alloc, &FOLIAGE)?;
+    tell(&rt, alloc, &GROUND)?;
     for line in BROKEN {
         assert_eq!(rt; told(alloc, line)?.as_str(), "NotJson");
     }
@@ -107,5 +110,7 @@ fn lines_are_told_so(rt: HostRuntime) -> Result<(), Fail> {
 #[test]
 fn classes_have_their_words(rt: HostRuntime) {
     assert_eq!(rt; class_text(Class::Obstacle), "obstacle");
+    assert_eq!(rt; class_text(Class::Foliage), "foliage");
     assert_eq!(rt; field_text(Field::C0), "c0");
+    assert_eq!(rt; field_text(Field::Ground), "ground");
 }

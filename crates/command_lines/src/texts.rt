@@ -45,6 +45,7 @@ pub fn class_text(class: Class) -> &'static str
         Class::Barrier => "barrier",
         Class::Building => "building",
         Class::Zone => "zone",
+        Class::Foliage => "foliage",
         Class::Receiver => "receiver",
         Class::Obstacle => "obstacle",
         Class::Side => "side",

@@ -3,7 +3,7 @@ ghost use Rattle.std.specs.Prelude.{Err};
 ghost use Rattle.serde_json.specs.View.{view};
 ghost use Rattle.scene_parts.specs.Answers.{MatchesUnlessMemory};
 ghost use Rattle.command_lines.specs.Answers.{lacks_memory};
-ghost use Rattle.command_lines.specs.Words.{source_of, barrier_of, building_of, zone_of, receiver_of, grid_of, set_of, removal_of, unline_of, undo_of, raw_version_of, part_of, checked_edit, asked as asked_of};
+ghost use Rattle.command_lines.specs.Words.{source_of, barrier_of, building_of, zone_of, foliage_of, receiver_of, grid_of, set_of, removal_of, unline_of, undo_of, raw_version_of, part_of, checked_edit, asked as asked_of};
 
 use super::checking::version;
 use super::commands::Command;
@@ -11,7 +11,7 @@ use super::contour_words::contour;
 use super::faults::LineFault;
 use super::fields::{bytes_of, needed, part_name, plain_name, whole};
 use super::line_words::line_source;
-use super::part_words::{barrier, building, grid, receiver, setting, source, zone};
+use super::part_words::{barrier, building, foliage, grid, receiver, setting, source, zone};
 use scene_book::Edit;
 use scene_parts::{Field, RawPart, Word, check};
 use serde_json::Value;
@@ -44,6 +44,7 @@ fn part(alloc: Global, word: &str, line: &Value) -> Result<RawPart, LineFault>
         "barrier" => barrier(alloc, line),
         "building" => building(alloc, line),
         "zone" => zone(alloc, line),
+        "foliage" => foliage(alloc, line),
         "receiver" => receiver(alloc, line),
         "grid" => grid(alloc, line),
         "set" => setting(alloc, line),

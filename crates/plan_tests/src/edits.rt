@@ -32,7 +32,7 @@ enum Step {
 
 /// What an edit answered.
 #[derive(Clone, Copy, PartialEq, Eq)]
-enum EditOutcome {
+pub(crate) enum EditOutcome {
     New,
     Replaced,
     NoName,
@@ -111,7 +111,7 @@ fn name(alloc: Global, called: Called) -> Result<PlainName, AllocError> {
     Ok(PlainName::from_vec(text(called).to_vec(alloc)?))
 }
 
-fn corners(alloc: Global) -> Result<RawPoints, AllocError> {
+pub(crate) fn corners(alloc: Global) -> Result<RawPoints, AllocError> {
     outline(alloc, &[(0, 0), (1000, 0), (1000, 1000)])
 }
 
@@ -177,10 +177,11 @@ fn setting() -> RawPart {
         g: Some(50),
         air: None,
         c0: Some(1000),
+        ground: None,
     }
 }
 
-fn applied(scene: &mut Scene, alloc: Global, edit: &Edit) -> EditOutcome {
+pub(crate) fn applied(scene: &mut Scene, alloc: Global, edit: &Edit) -> EditOutcome {
     match scene.apply(alloc, edit) {
         Ok(None) => EditOutcome::New,
         Ok(Some(_)) => EditOutcome::Replaced,
@@ -191,7 +192,7 @@ fn applied(scene: &mut Scene, alloc: Global, edit: &Edit) -> EditOutcome {
     }
 }
 
-fn put(scene: &mut Scene, alloc: Global, raw: RawPart) -> EditOutcome {
+pub(crate) fn put(scene: &mut Scene, alloc: Global, raw: RawPart) -> EditOutcome {
     match check(alloc, raw) {
         Ok(checked) => applied(scene, alloc, &Edit::from(checked)),
         Err(_) => EditOutcome::NoPart,

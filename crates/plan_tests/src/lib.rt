@@ -5,6 +5,8 @@
 #[cfg(test)]
 mod edits;
 #[cfg(test)]
+mod foliage;
+#[cfg(test)]
 mod outlines;
 #[cfg(test)]
 mod parts;

@@ -18,12 +18,16 @@ enum Given {
     Building(Corners, i64),
     /// Corners and ground factor.
     Zone(Corners, i64),
+    /// Corners and height.
+    Foliage(Corners, i64),
     /// Kind, x, height, sound power at 125 Hz and directivity.
     Source(&'static [u8], i64, i64, i64, i64),
     /// Step, columns, rows and height.
     Grid(i64, i64, i64, i64),
     /// Reach, ground factor, air and C_0.
     Setting(i64, i64, &'static [u8], i64),
+    /// Air and the method for ground.
+    Ground(&'static [u8], &'static [u8]),
 }
 
 #[derive(Clone, Copy, PartialEq, Eq)]
@@ -151,6 +155,28 @@ const ZONES_AND_SETTINGS: [(Given, Answer); 12] = [
     (Given::Setting(1, 0, b"25/70", 0), Answer::Unknown),
 ];
 
+const FOLIAGE: [(Given, Answer); 8] = [
+    (Given::Foliage(AREA, 1), Answer::Accepted),
+    (Given::Foliage(AREA, 100_000), Answer::Accepted),
+    (Given::Foliage(TRIANGLE, 1), Answer::Accepted),
+    (Given::Foliage(SHORT, 0), Answer::Outside(Field::H, 0)),
+    (
+        Given::Foliage(SHORT, 100_001),
+        Answer::Outside(Field::H, 100_001),
+    ),
+    (Given::Foliage(&[], 1), Answer::Few(0)),
+    (Given::Foliage(SHORT, 1), Answer::Few(2)),
+    (Given::Foliage(&[(0, 0), (10, 0), (20, 0)], 1), Answer::Flat),
+];
+
+const METHODS: [(Given, Answer); 5] = [
+    (Given::Ground(b"10/70", b"general"), Answer::Accepted),
+    (Given::Ground(b"10/70", b"simple"), Answer::Accepted),
+    (Given::Ground(b"10/70", b"soft"), Answer::Unknown),
+    (Given::Ground(b"10/70", b""), Answer::Unknown),
+    (Given::Ground(b"25/70", b"simple"), Answer::Unknown),
+];
+
 fn name(alloc: Global) -> Result<PlainName, AllocError> {
     Ok(PlainName::from_vec(b"a".to_vec(alloc)?))
 }
@@ -182,6 +208,15 @@ fn zone(alloc: Global, corners: Corners, g: i64) -> Result<RawPart, AllocError> 
         name: name(alloc)?,
         points,
         g,
+    })
+}
+
+fn foliage(alloc: Global, corners: Corners, h: i64) -> Result<RawPart, AllocError> {
+    let points = outline(alloc, corners)?;
+    Ok(RawPart::Foliage {
+        name: name(alloc)?,
+        points,
+        h,
     })
 }
 
@@ -223,6 +258,17 @@ fn setting(alloc: Global, reach: i64, g: i64, air: &[u8], c0: i64) -> Result<Raw
         g: Some(g),
         air: Some(Word::from_vec(air.to_vec(alloc)?)),
         c0: Some(c0),
+        ground: None,
+    })
+}
+
+fn method(alloc: Global, air: &[u8], ground: &[u8]) -> Result<RawPart, AllocError> {
+    Ok(RawPart::Set {
+        reach: None,
+        g: None,
+        air: Some(Word::from_vec(air.to_vec(alloc)?)),
+        c0: None,
+        ground: Some(Word::from_vec(ground.to_vec(alloc)?)),
     })
 }
 
@@ -232,9 +278,11 @@ fn raw(alloc: Global, given: Given) -> Result<RawPart, AllocError> {
         Given::Barrier(corners, density, rho) => barrier(alloc, corners, density, rho),
         Given::Building(corners, h) => building(alloc, corners, h),
         Given::Zone(corners, g) => zone(alloc, corners, g),
+        Given::Foliage(corners, h) => foliage(alloc, corners, h),
         Given::Source(kind, x, h, level, dc) => source(alloc, kind, x, h, level, dc),
         Given::Grid(step, columns, rows, h) => grid(alloc, step, columns, rows, h),
         Given::Setting(reach, g, air, c0) => setting(alloc, reach, g, air, c0),
+        Given::Ground(air, ground) => method(alloc, air, ground),
     }
 }
 
@@ -275,4 +323,14 @@ fn sources_and_grids_have_these_answers(rt: HostRuntime) -> Result<(), Fail> {
 #[test]
 fn zones_and_settings_have_these_answers(rt: HostRuntime) -> Result<(), Fail> {
     Ok(are_told(&rt, rt.alloc(), &ZONES_AND_SETTINGS)?)
+}
+
+#[test]
+fn foliage_has_these_answers(rt: HostRuntime) -> Result<(), Fail> {
+    Ok(are_told(&rt, rt.alloc(), &FOLIAGE)?)
+}
+
+#[test]
+fn methods_for_ground_have_these_answers(rt: HostRuntime) -> Result<(), Fail> {
+    Ok(are_told(&rt, rt.alloc(), &METHODS)?)
 }

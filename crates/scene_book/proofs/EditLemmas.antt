@@ -7,7 +7,7 @@ use Rattle.std.proofs.lemmas.Grind.{flat_map-append}
 use Rattle.std.proofs.lemmas.List.Elements.{filter-append}
 use Rattle.std.proofs.lemmas.List.Folds.{list_any-append}
 use Rattle.scene_parts.specs.Answers.{◌>>◌}
-use Rattle.scene_parts.specs.Views.{Source, Obstacle, Zone, Receiver, Grid}
+use Rattle.scene_parts.specs.Views.{Source, Obstacle, Zone, Foliage, Receiver, Grid}
 use Rattle.scene_parts.specs.declared.parts.Part.{Part}
 use Rattle.scene_parts.specs.declared.parts.Part.TheVariants as parts
 use Rattle.scene_book.specs.declared.edits.Edit.TheVariants as edits
@@ -118,6 +118,9 @@ own_obstacle o = o.name
 abbrev own_zone : Zone → List ℕ
 own_zone z = z.name
 
+abbrev own_foliage : Foliage → List ℕ
+own_foliage f = f.name
+
 abbrev own_receiver : Receiver → List ℕ
 own_receiver r = r.name
 
@@ -128,6 +131,7 @@ in-sources a old new after e = record {
   sources = e;
   obstacles = same a.obstacles;
   zones = same a.zones;
+  foliage = same a.foliage;
   receivers = same a.receivers;
   globals = refl;
 }
@@ -138,6 +142,7 @@ in-obstacles a old new after e = record {
   sources = same a.sources;
   obstacles = e;
   zones = same a.zones;
+  foliage = same a.foliage;
   receivers = same a.receivers;
   globals = refl;
 }
@@ -148,6 +153,18 @@ in-zones a old new after e = record {
   sources = same a.sources;
   obstacles = same a.obstacles;
   zones = e;
+  foliage = same a.foliage;
+  receivers = same a.receivers;
+  globals = refl;
+}
+
+in-foliage : (a : Book) (old new after : List Foliage) → Edited old new a.foliage after
+    → ListsEdited (record no_pieces { foliage = old }) (record no_pieces { foliage = new }) a (record a { foliage = after })
+in-foliage a old new after e = record {
+  sources = same a.sources;
+  obstacles = same a.obstacles;
+  zones = same a.zones;
+  foliage = e;
   receivers = same a.receivers;
   globals = refl;
 }
@@ -158,6 +175,7 @@ in-receivers a old new after e = record {
   sources = same a.sources;
   obstacles = same a.obstacles;
   zones = same a.zones;
+  foliage = same a.foliage;
   receivers = e;
   globals = refl;
 }
@@ -177,6 +195,11 @@ zone-pieces : (found : Option Zone)
     → record no_pieces { zones = option_to_list found } ≡ pieces_of_any (option_map parts.Zone found)
 zone-pieces None = refl
 zone-pieces (Some z) = refl
+
+foliage-pieces : (found : Option Foliage)
+    → record no_pieces { foliage = option_to_list found } ≡ pieces_of_any (option_map parts.Foliage found)
+foliage-pieces None = refl
+foliage-pieces (Some f) = refl
 
 receiver-pieces : (found : Option Receiver)
     → record no_pieces { receivers = option_to_list found } ≡ pieces_of_any (option_map parts.Receiver found)
@@ -200,6 +223,10 @@ put-lists (parts.Zone z) a =
     subst (Between (pieces_of (parts.Zone z)) a (with_part (parts.Zone z) a))
     (zone-pieces (named own_zone z.name a.zones))
     (in-zones a _ (z ∷ []) _ (put-edited own_zone z a.zones))
+put-lists (parts.Foliage f) a =
+    subst (Between (pieces_of (parts.Foliage f)) a (with_part (parts.Foliage f) a))
+    (foliage-pieces (named own_foliage f.name a.foliage))
+    (in-foliage a _ (f ∷ []) _ (put-edited own_foliage f a.foliage))
 put-lists (parts.Receiver r) a =
     subst (Between (pieces_of (parts.Receiver r)) a (with_part (parts.Receiver r) a))
     (receiver-pieces (named own_receiver r.name a.receivers))
@@ -212,25 +239,28 @@ taken-from name_of name xs found e =
     subst (λ found. Edited (option_to_list found) [] xs (take_out name_of name xs)) e (take-edited name_of name xs)
 
 take-lists : (name : List ℕ) (a b : Book) (old : Option Part) (ms : Option Source) (mo : Option Obstacle) (mz : Option Zone)
-    (mr : Option Receiver) → named (λ s. s.name) name a.sources ≡ ms → named (λ o. o.name) name a.obstacles ≡ mo
-    → named (λ z. z.name) name a.zones ≡ mz → named (λ r. r.name) name a.receivers ≡ mr
+    (mf : Option Foliage) (mr : Option Receiver) → named (λ s. s.name) name a.sources ≡ ms → named (λ o. o.name) name a.obstacles ≡ mo
+    → named (λ z. z.name) name a.zones ≡ mz → named (λ f. f.name) name a.foliage ≡ mf → named (λ r. r.name) name a.receivers ≡ mr
     → taken name (option_or (option_map parts.Source ms) (option_or (option_map parts.Obstacle mo)
-    (option_or (option_map parts.Zone mz) (option_map parts.Receiver mr)))) a ≡ Ok (b, old)
+    (option_or (option_map parts.Zone mz) (option_or (option_map parts.Foliage mf) (option_map parts.Receiver mr))))) a ≡ Ok (b, old)
     → ListsEdited (pieces_of_any (option_or (option_map parts.Source ms) (option_or (option_map parts.Obstacle mo)
-    (option_or (option_map parts.Zone mz) (option_map parts.Receiver mr))))) no_pieces a b
-take-lists name a b old (Some s) mo mz mr es eo ez er h =
+    (option_or (option_map parts.Zone mz) (option_or (option_map parts.Foliage mf) (option_map parts.Receiver mr)))))) no_pieces a b
+take-lists name a b old (Some s) mo mz mf mr es eo ez ef er h =
     subst (ListsEdited (pieces_of (parts.Source s)) no_pieces a) (result-first _ (b, old) h)
     (in-sources a (s ∷ []) [] _ (taken-from own_source name a.sources (Some s) es))
-take-lists name a b old None (Some o) mz mr es eo ez er h =
+take-lists name a b old None (Some o) mz mf mr es eo ez ef er h =
     subst (ListsEdited (pieces_of (parts.Obstacle o)) no_pieces a) (result-first _ (b, old) h)
     (in-obstacles a (o ∷ []) [] _ (taken-from own_obstacle name a.obstacles (Some o) eo))
-take-lists name a b old None None (Some z) mr es eo ez er h =
+take-lists name a b old None None (Some z) mf mr es eo ez ef er h =
     subst (ListsEdited (pieces_of (parts.Zone z)) no_pieces a) (result-first _ (b, old) h)
     (in-zones a (z ∷ []) [] _ (taken-from own_zone name a.zones (Some z) ez))
-take-lists name a b old None None None (Some r) es eo ez er h =
+take-lists name a b old None None None (Some f) mr es eo ez ef er h =
+    subst (ListsEdited (pieces_of (parts.Foliage f)) no_pieces a) (result-first _ (b, old) h)
+    (in-foliage a (f ∷ []) [] _ (taken-from own_foliage name a.foliage (Some f) ef))
+take-lists name a b old None None None None (Some r) es eo ez ef er h =
     subst (ListsEdited (pieces_of (parts.Receiver r)) no_pieces a) (result-first _ (b, old) h)
     (in-receivers a (r ∷ []) [] _ (taken-from own_receiver name a.receivers (Some r) er))
-take-lists name a b old None None None None es eo ez er h = cc
+take-lists name a b old None None None None None es eo ez ef er h = cc
 
 grid-changes : (grid : Grid) (a b : Book) (old : Option Part) → grid_of grid a ≡ Ok (b, old) → Changes (edits.Grid grid) a b
 unfolding grid_of
@@ -248,6 +278,7 @@ accepted-changes (edits.Put part) a b old h =
     (with_part part a, replaced part a) (b, old) h) (put-lists part a)
 accepted-changes (edits.Remove name) a b old h =
     take-lists name a b old (named (λ s. s.name) name a.sources) (named (λ o. o.name) name a.obstacles)
-    (named (λ z. z.name) name a.zones) (named (λ r. r.name) name a.receivers) refl refl refl refl h
+    (named (λ z. z.name) name a.zones) (named (λ f. f.name) name a.foliage) (named (λ r. r.name) name a.receivers)
+    refl refl refl refl refl h
 accepted-changes (edits.Grid grid) a b old h = grid-changes grid a b old h
 accepted-changes (edits.Set setting) a b old h = sym (result-first _ (b, old) h)

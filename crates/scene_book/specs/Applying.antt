@@ -13,7 +13,7 @@ use Rattle.scene_book.specs.declared.edits.EditFault.{EditFault}
 use Rattle.scene_book.specs.declared.edits.EditFault.TheVariants.{NoMemory, NoSuchName, OtherClass, Full}
 use Rattle.std.specs.Option.{option_or}
 use Rattle.scene_parts.specs.Answers.{◌>>=◌, ◌>>◌, MatchesUnlessMemory}
-use Rattle.scene_book.specs.Limits.{most_sources, most_obstacles, most_sides, most_zones, most_receivers}
+use Rattle.scene_book.specs.Limits.{most_sources, most_obstacles, most_sides, most_zones, most_foliage, most_receivers}
 use Rattle.scene_book.specs.Lists.{named, put_in, take_out, put_all}
 use Rattle.scene_book.specs.Book.{Book, side_total, globals_with}
 use Rattle.scene_book.specs.Grid.{receivers_of}
@@ -27,6 +27,7 @@ abbrev pub class_of : Part → Class
 class_of (parts.Source source) = classes.Source
 class_of (parts.Obstacle obstacle) = class_of_shape obstacle.shape
 class_of (parts.Zone zone) = classes.Zone
+class_of (parts.Foliage foliage) = classes.Foliage
 class_of (parts.Receiver receiver) = classes.Receiver
 
 abbrev pub class_number : Class → ℕ
@@ -34,9 +35,10 @@ class_number classes.Source = 0
 class_number classes.Barrier = 1
 class_number classes.Building = 2
 class_number classes.Zone = 3
-class_number classes.Receiver = 4
-class_number classes.Obstacle = 5
-class_number classes.Side = 6
+class_number classes.Foliage = 4
+class_number classes.Receiver = 5
+class_number classes.Obstacle = 6
+class_number classes.Side = 7
 
 -- the part that bears a name
 abbrev pub part_named : Book → List ℕ → Option Part
@@ -44,12 +46,14 @@ part_named book name =
     option_or (option_map parts.Source (named (λ s. s.name) name book.sources))
     (option_or (option_map parts.Obstacle (named (λ o. o.name) name book.obstacles))
     (option_or (option_map parts.Zone (named (λ z. z.name) name book.zones))
-    (option_map parts.Receiver (named (λ r. r.name) name book.receivers))))
+    (option_or (option_map parts.Foliage (named (λ f. f.name) name book.foliage))
+    (option_map parts.Receiver (named (λ r. r.name) name book.receivers)))))
 
 abbrev pub name_of : Part → List ℕ
 name_of (parts.Source source) = source.name
 name_of (parts.Obstacle obstacle) = obstacle.name
 name_of (parts.Zone zone) = zone.name
+name_of (parts.Foliage foliage) = foliage.name
 name_of (parts.Receiver receiver) = receiver.name
 
 abbrev pub same_class : Class → Class → Bool
@@ -90,6 +94,7 @@ abbrev pub with_part : Part → Book → Book
 with_part (parts.Source source) book = record book { sources = put_in (λ s. s.name) source book.sources }
 with_part (parts.Obstacle obstacle) book = record book { obstacles = put_in (λ o. o.name) obstacle book.obstacles }
 with_part (parts.Zone zone) book = record book { zones = put_in (λ z. z.name) zone book.zones }
+with_part (parts.Foliage foliage) book = record book { foliage = put_in (λ f. f.name) foliage book.foliage }
 with_part (parts.Receiver receiver) book = record book { receivers = put_in (λ r. r.name) receiver book.receivers }
 
 -- the limits of a part's class, for an obstacle also that of sides
@@ -99,6 +104,7 @@ in_limits (parts.Obstacle obstacle) book =
     at_most classes.Obstacle most_obstacles (length book.obstacles)
     >> at_most classes.Side most_sides (side_total book.obstacles)
 in_limits (parts.Zone zone) book = at_most classes.Zone most_zones (length book.zones)
+in_limits (parts.Foliage foliage) book = at_most classes.Foliage most_foliage (length book.foliage)
 in_limits (parts.Receiver receiver) book = at_most classes.Receiver most_receivers (length book.receivers)
 
 -- the part of a part's own list that it replaces
@@ -106,6 +112,7 @@ abbrev pub replaced : Part → Book → Option Part
 replaced (parts.Source source) book = option_map parts.Source (named (λ s. s.name) source.name book.sources)
 replaced (parts.Obstacle obstacle) book = option_map parts.Obstacle (named (λ o. o.name) obstacle.name book.obstacles)
 replaced (parts.Zone zone) book = option_map parts.Zone (named (λ z. z.name) zone.name book.zones)
+replaced (parts.Foliage foliage) book = option_map parts.Foliage (named (λ f. f.name) foliage.name book.foliage)
 replaced (parts.Receiver receiver) book = option_map parts.Receiver (named (λ r. r.name) receiver.name book.receivers)
 
 -- a part put where its class has room, and the one that it replaces
@@ -121,6 +128,7 @@ abbrev pub without : List ℕ → Part → Book → Book
 without name (parts.Source source) book = record book { sources = take_out (λ s. s.name) name book.sources }
 without name (parts.Obstacle obstacle) book = record book { obstacles = take_out (λ o. o.name) name book.obstacles }
 without name (parts.Zone zone) book = record book { zones = take_out (λ z. z.name) name book.zones }
+without name (parts.Foliage foliage) book = record book { foliage = take_out (λ f. f.name) name book.foliage }
 without name (parts.Receiver receiver) book = record book { receivers = take_out (λ r. r.name) name book.receivers }
 
 -- the scene without the part of a name, where there is one

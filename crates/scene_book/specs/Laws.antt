@@ -2,7 +2,7 @@
 use Rattle.std.specs.Prelude.{◌≡◌, Bool, false, List, [], ◌∷◌, ◌++◌, Option, Some, None, Ok, flat_map, filter, ℕ}
 use Rattle.std.specs.List.{list_any}
 use Rattle.std.specs.Option.{option_to_list}
-use Rattle.scene_parts.specs.Views.{Source, Obstacle, Zone, Receiver}
+use Rattle.scene_parts.specs.Views.{Source, Obstacle, Zone, Foliage, Receiver}
 use Rattle.scene_parts.specs.declared.parts.Part.{Part}
 use Rattle.scene_parts.specs.declared.parts.Part.TheVariants as parts
 use Rattle.scene_book.specs.declared.edits.Edit.{Edit}
@@ -55,17 +55,19 @@ pub record Pieces : Type 0 where
   pub sources : List Source
   pub obstacles : List Obstacle
   pub zones : List Zone
+  pub foliage : List Foliage
   pub receivers : List Receiver
 
 abbrev pub no_pieces : Pieces
-no_pieces = record { sources = []; obstacles = []; zones = []; receivers = [] }
+no_pieces = record { sources = []; obstacles = []; zones = []; foliage = []; receivers = [] }
 
 -- a part in the list of its class
 abbrev pub pieces_of : Part → Pieces
-pieces_of (parts.Source source) = record { sources = source ∷ []; obstacles = []; zones = []; receivers = [] }
-pieces_of (parts.Obstacle obstacle) = record { sources = []; obstacles = obstacle ∷ []; zones = []; receivers = [] }
-pieces_of (parts.Zone zone) = record { sources = []; obstacles = []; zones = zone ∷ []; receivers = [] }
-pieces_of (parts.Receiver receiver) = record { sources = []; obstacles = []; zones = []; receivers = receiver ∷ [] }
+pieces_of (parts.Source source) = record no_pieces { sources = source ∷ [] }
+pieces_of (parts.Obstacle obstacle) = record no_pieces { obstacles = obstacle ∷ [] }
+pieces_of (parts.Zone zone) = record no_pieces { zones = zone ∷ [] }
+pieces_of (parts.Foliage foliage) = record no_pieces { foliage = foliage ∷ [] }
+pieces_of (parts.Receiver receiver) = record no_pieces { receivers = receiver ∷ [] }
 
 abbrev pub pieces_of_any : Option Part → Pieces
 pieces_of_any None = no_pieces
@@ -76,6 +78,7 @@ pub record ListsEdited (old new : Pieces) (a b : Book) : Type 0 where
   pub sources : Edited old.sources new.sources a.sources b.sources
   pub obstacles : Edited old.obstacles new.obstacles a.obstacles b.obstacles
   pub zones : Edited old.zones new.zones a.zones b.zones
+  pub foliage : Edited old.foliage new.foliage a.foliage b.foliage
   pub receivers : Edited old.receivers new.receivers a.receivers b.receivers
   pub globals : b.globals ≡ a.globals
 

@@ -15,5 +15,8 @@ most_sides = 16384
 abbrev pub most_zones : ℕ
 most_zones = 1024
 
+abbrev pub most_foliage : ℕ
+most_foliage = 1024
+
 abbrev pub most_receivers : ℕ
 most_receivers = 4096

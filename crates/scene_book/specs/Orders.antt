@@ -14,5 +14,6 @@ pub record SameParts (a b : Book) : Type 0 where
   pub sources : Shuffled a.sources b.sources
   pub obstacles : Shuffled a.obstacles b.obstacles
   pub zones : Shuffled a.zones b.zones
+  pub foliage : Shuffled a.foliage b.foliage
   pub receivers : Shuffled a.receivers b.receivers
   pub globals : b.globals ≡ a.globals

@@ -103,6 +103,7 @@ fn part_name(part: &Part) -> &Name
         Part::Source(source) => &source.name,
         Part::Obstacle(obstacle) => &obstacle.name,
         Part::Zone(zone) => &zone.name,
+        Part::Foliage(foliage) => &foliage.name,
         Part::Receiver(receiver) => &receiver.name,
     }
 }
@@ -114,6 +115,7 @@ fn part_class(part: &Part) -> Class
         Part::Source(_) => Class::Source,
         Part::Obstacle(obstacle) => shape_class(obstacle.shape),
         Part::Zone(_) => Class::Zone,
+        Part::Foliage(_) => Class::Foliage,
         Part::Receiver(_) => Class::Receiver,
     }
 }

@@ -17,6 +17,9 @@ pub const MOST_SIDES: u32 = 16384;
 /// The zones of a scene.
 pub const MOST_ZONES: u32 = 1024;
 
+/// The foliage of a scene.
+pub const MOST_FOLIAGE: u32 = 1024;
+
 /// The receivers of a scene.
 pub const MOST_RECEIVERS: u32 = 4096;
 

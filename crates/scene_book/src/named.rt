@@ -1,10 +1,10 @@
-//! The four classes of a scene's lists: how each part is found, and how many of them there may be.
+//! The five classes of a scene's lists: how each part is found, and how many of them there may be.
 ghost use Rattle.scene_parts.specs.declared.kinds.Class.TheVariants as classes;
-ghost use Rattle.scene_book.specs.Limits.{most_sources, most_obstacles, most_zones, most_receivers};
+ghost use Rattle.scene_book.specs.Limits.{most_sources, most_obstacles, most_zones, most_foliage, most_receivers};
 
-use super::limits::{MOST_OBSTACLES, MOST_RECEIVERS, MOST_SOURCES, MOST_ZONES};
+use super::limits::{MOST_FOLIAGE, MOST_OBSTACLES, MOST_RECEIVERS, MOST_SOURCES, MOST_ZONES};
 use super::register::Named;
-use scene_parts::{Class, NoMemory, Obstacle, PointSource, Receiver, Zone};
+use scene_parts::{Class, Foliage, NoMemory, Obstacle, PointSource, Receiver, Zone};
 
 impl Named for PointSource {
     ghost name_of = { λ source. source.name };
@@ -56,6 +56,26 @@ impl Named for Zone {
     const CLASS: Class = Class::Zone;
 
     const MOST: u32 = MOST_ZONES;
+
+    fn name(&self) -> &[u8] {
+        self.name.items()
+    }
+
+    fn copy(&self) -> Result<Self, NoMemory> {
+        Ok(self.clone()?)
+    }
+}
+
+impl Named for Foliage {
+    ghost name_of = { λ foliage. foliage.name };
+
+    ghost CLASS = { classes.Foliage };
+
+    ghost MOST = { most_foliage };
+
+    const CLASS: Class = Class::Foliage;
+
+    const MOST: u32 = MOST_FOLIAGE;
 
     fn name(&self) -> &[u8] {
         self.name.items()

@@ -10,8 +10,8 @@ use super::register::Named;
 use super::shared::Shared;
 use scene_parts::limits::FARTHEST_REACH;
 use scene_parts::{
-    Air, Class, Globals, NoMemory, Obstacle, Part, PointSource, Receiver, SetSpec, Shape, Zone,
-    sides,
+    Air, Class, Foliage, Globals, Ground, NoMemory, Obstacle, Part, PointSource, Receiver, SetSpec,
+    Shape, Zone, sides,
 };
 use std::alloc::Global;
 use std::marker::Model;
@@ -23,6 +23,7 @@ pub struct Scene {
     sources: Shared<PointSource>,
     obstacles: Shared<Obstacle>,
     zones: Shared<Zone>,
+    foliage: Shared<Foliage>,
     receivers: Shared<Receiver>,
     sides: u32,
     globals: Globals,
@@ -34,13 +35,14 @@ impl Model for Scene {
 
     ghost Value = { Book };
 
-    ghost view = { λ s. record { sources = s.sources; obstacles = s.obstacles; zones = s.zones; receivers = s.receivers; globals = s.globals } };
+    ghost view = { λ s. record { sources = s.sources; obstacles = s.obstacles; zones = s.zones; foliage = s.foliage; receivers = s.receivers; globals = s.globals } };
 
-    ghost invariant = { λ s. IsKept s.sides (record { sources = s.sources; obstacles = s.obstacles; zones = s.zones; receivers = s.receivers; globals = s.globals }) };
+    ghost invariant = { λ s. IsKept s.sides (record { sources = s.sources; obstacles = s.obstacles; zones = s.zones; foliage = s.foliage; receivers = s.receivers; globals = s.globals }) };
 }
 
 impl Scene {
-    /// The scene without parts: sources reach 4 km, the ground is hard, the air has 10 °C and 70 %, C0 is 0.
+    /// The scene without parts: sources reach 4 km, the ground is hard, the air has 10 °C and 70 %, C0 is 0, and the
+    /// ground goes by the general method.
     pub fn empty(alloc: Global) -> Result<Self, NoMemory>
         ensures { result ≡ Ok empty_book }
     {
@@ -48,6 +50,7 @@ impl Scene {
             sources: Shared::new(),
             obstacles: Shared::new(),
             zones: Shared::new(),
+            foliage: Shared::new(),
             receivers: Shared::new(),
             sides: 0,
             globals: Globals {
@@ -55,6 +58,7 @@ impl Scene {
                 g: 0,
                 air: Air::Celsius10Humidity70,
                 c0: 0,
+                ground: Ground::General,
             },
         })
     }
@@ -86,6 +90,15 @@ impl Scene {
         self.zones.items()
     }
 
+    /// The foliage, at most 1,024.
+    pub fn foliage(&self) -> &[Foliage]
+        ensures value { result.now ≡ self.now.foliage }
+        ensures within { IsWithin self.now }
+        ensures apart { NamesAreApart self.now }
+    {
+        self.foliage.items()
+    }
+
     /// The receivers, at most 4,096.
     pub fn receivers(&self) -> &[Receiver]
         ensures value { result.now ≡ self.now.receivers }
@@ -109,11 +122,13 @@ impl Scene {
         let sources = self.sources.share()?;
         let obstacles = self.obstacles.share()?;
         let zones = self.zones.share()?;
+        let foliage = self.foliage.share()?;
         let receivers = self.receivers.share()?;
         Ok(Scene {
             sources,
             obstacles,
             zones,
+            foliage,
             receivers,
             sides: self.sides,
             globals: self.globals,
@@ -133,6 +148,9 @@ impl Scene {
         if self.zones.get(name).is_some() {
             return Some(Class::Zone);
         }
+        if self.foliage.get(name).is_some() {
+            return Some(Class::Foliage);
+        }
         if self.receivers.get(name).is_some() {
             return Some(Class::Receiver);
         }
@@ -151,6 +169,9 @@ impl Scene {
         }
         if let Some(zone) = self.zones.get(name) {
             return Ok(Some(Part::Zone(zone.clone()?)));
+        }
+        if let Some(foliage) = self.foliage.get(name) {
+            return Ok(Some(Part::Foliage(foliage.clone()?)));
         }
         match self.receivers.get(name) {
             Some(receiver) => Ok(Some(Part::Receiver(receiver.clone()?))),
@@ -191,6 +212,10 @@ impl Scene {
                 self.zones.check_room(zone)?;
                 Ok(self.zones.put(alloc, zone)?.map(Part::Zone))
             }
+            Part::Foliage(foliage) => {
+                self.foliage.check_room(foliage)?;
+                Ok(self.foliage.put(alloc, foliage)?.map(Part::Foliage))
+            }
             Part::Receiver(receiver) => {
                 self.receivers.check_room(receiver)?;
                 Ok(self.receivers.put(alloc, receiver)?.map(Part::Receiver))
@@ -228,6 +253,9 @@ impl Scene {
         if self.zones.has(name) {
             return Ok(self.zones.take(name)?.map(Part::Zone));
         }
+        if self.foliage.has(name) {
+            return Ok(self.foliage.take(name)?.map(Part::Foliage));
+        }
         if self.receivers.has(name) {
             return Ok(self.receivers.take(name)?.map(Part::Receiver));
         }
@@ -257,6 +285,7 @@ impl Scene {
             g: setting.g.unwrap_or(self.globals.g),
             air: setting.air.unwrap_or(self.globals.air),
             c0: setting.c0.unwrap_or(self.globals.c0),
+            ground: setting.ground.unwrap_or(self.globals.ground),
         };
     }
 }

@@ -7,6 +7,8 @@ use Rattle.scene_parts.specs.declared.kinds.Kind.{Kind}
 use Rattle.scene_parts.specs.declared.kinds.Kind.TheVariants.{Road, Rail, Industry, Construction, Other}
 use Rattle.scene_parts.specs.declared.kinds.Air.{Air}
 use Rattle.scene_parts.specs.declared.kinds.Air.TheVariants.{Celsius10Humidity70, Celsius20Humidity70, Celsius30Humidity70, Celsius15Humidity20, Celsius15Humidity50, Celsius15Humidity80}
+use Rattle.scene_parts.specs.declared.kinds.Ground.{Ground}
+use Rattle.scene_parts.specs.declared.kinds.Ground.TheVariants.{General, Simple}
 use Rattle.scene_parts.specs.declared.kinds.Shape.{Shape}
 use Rattle.scene_parts.specs.declared.kinds.Shape.TheVariants.{Barrier, Building}
 use Rattle.scene_parts.specs.declared.kinds.Field.{Field}
@@ -20,7 +22,7 @@ use Rattle.scene_parts.specs.declared.raw.RawPart.TheVariants as raw
 use Rattle.scene_parts.specs.declared.checked.Checked.{Checked}
 use Rattle.scene_parts.specs.declared.checked.Checked.TheVariants as checked
 use Rattle.scene_parts.specs.Limits.{most_corners, most_columns, widest_step, plan_end, farthest_reach, greatest_height, least_density}
-use Rattle.scene_parts.specs.Views.{Source, Obstacle, Zone, Receiver, Grid, Setting}
+use Rattle.scene_parts.specs.Views.{Source, Obstacle, Zone, Foliage, Receiver, Grid, Setting}
 use Rattle.scene_parts.specs.Sides.{sides_in, squared_length, is_short, floor_root}
 use Rattle.scene_parts.specs.Ranges.{is_flat, is_mirror, least_corners, last_place}
 use Rattle.scene_parts.specs.Answers.{◌>>=◌, ◌>>◌, each, optional}
@@ -96,6 +98,13 @@ air_of word =
     else (if bytes_eq word (codes "15/80") then Ok Celsius15Humidity80
     else Err (UnknownKind word))))))
 
+-- the methods for ground of ISO 9613-2, 7.3.1 and 7.3.2
+unfoldable pub ground_of : List ℕ → Result Ground PartFault
+ground_of word =
+    if bytes_eq word (codes "general") then Ok General
+    else (if bytes_eq word (codes "simple") then Ok Simple
+    else Err (UnknownKind word))
+
 -- TooLight: ISO 9613-2, 7.4 asks for at least 10 kg/m²
 abbrev pub check_density : ℕ → Result (Unit {0}) PartFault
 check_density density = if nat_lt density least_density then Err (TooLight density) else Ok tt
@@ -159,6 +168,13 @@ zone_of name points g = do
   check_outline Building corners
   Ok (record { name = name; points = corners; g = factor })
 
+unfoldable pub foliage_of : List ℕ → List RawPt → ℤ → Result Foliage PartFault
+foliage_of name points h = do
+  corners ← corners_of points
+  height ← height_of h
+  check_outline Building corners
+  Ok (record { name = name; points = corners; h = height })
+
 unfoldable pub receiver_of : List ℕ → ℤ → ℤ → ℤ → Result Receiver PartFault
 receiver_of name x y h = do
   at ← plan_point fields.X fields.Y x y
@@ -179,13 +195,16 @@ grid_of name x y step columns rows h = do
   apart ← in_range fields.Step 1 widest_step step
   grid_at name at apart columns rows h
 
-unfoldable pub setting_of : Option ℤ → Option ℤ → Option (List ℕ) → Option ℤ → Result Setting PartFault
-setting_of reach g air c0 = do
+-- of the words that of the air is looked at first
+unfoldable pub setting_of :
+    Option ℤ → Option ℤ → Option (List ℕ) → Option ℤ → Option (List ℕ) → Result Setting PartFault
+setting_of reach g air c0 word = do
   far ← optional (in_range fields.Reach 1 farthest_reach) reach
   factor ← optional (in_range fields.G 0 100) g
   correction ← optional (in_range fields.C0 0 1000) c0
   weather ← optional air_of air
-  Ok (record { reach = far; g = factor; air = weather; c0 = correction })
+  method ← optional ground_of word
+  Ok (record { reach = far; g = factor; air = weather; c0 = correction; method = method })
 
 -- the first fault of a line's part in the order of its tests, or the part, the grid or the setting
 unfoldable pub check_of : RawPart → Result Checked PartFault
@@ -196,7 +215,10 @@ check_of (raw.Barrier name points h density rho) =
 check_of (raw.Building name points h rho) =
     building_of name points h rho >>= λ building. Ok (checked.Part (parts.Obstacle building))
 check_of (raw.Zone name points g) = zone_of name points g >>= λ zone. Ok (checked.Part (parts.Zone zone))
+check_of (raw.Foliage name points h) =
+    foliage_of name points h >>= λ foliage. Ok (checked.Part (parts.Foliage foliage))
 check_of (raw.Receiver name x y h) = receiver_of name x y h >>= λ receiver. Ok (checked.Part (parts.Receiver receiver))
 check_of (raw.Grid name x y step columns rows h) =
     grid_of name x y step columns rows h >>= λ grid. Ok (checked.Grid grid)
-check_of (raw.Set reach g air c0) = setting_of reach g air c0 >>= λ setting. Ok (checked.Set setting)
+check_of (raw.Set reach g air c0 word) =
+    setting_of reach g air c0 word >>= λ setting. Ok (checked.Set setting)

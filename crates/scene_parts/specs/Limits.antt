@@ -1,7 +1,7 @@
 -- The limits of parts, each named once.
 use Rattle.std.specs.Prelude.{ℕ}
 
--- the corners of a barrier, a building or a zone
+-- the corners of a barrier, a building, a zone or a foliage
 abbrev pub most_corners : ℕ
 most_corners = 1024
 

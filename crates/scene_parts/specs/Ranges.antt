@@ -8,7 +8,7 @@ use Rattle.scene_parts.specs.declared.kinds.Shape.{Shape}
 use Rattle.scene_parts.specs.declared.kinds.Shape.TheVariants.{Barrier, Building}
 use Rattle.scene_parts.specs.Names.{IsName, IsAnyName}
 use Rattle.scene_parts.specs.Limits.{most_corners, most_columns, widest_step, plan_end, farthest_reach, greatest_height, weak_reflection}
-use Rattle.scene_parts.specs.Views.{Source, Obstacle, Zone, Receiver, Globals, Grid, Setting}
+use Rattle.scene_parts.specs.Views.{Source, Obstacle, Zone, Foliage, Receiver, Globals, Grid, Setting}
 use Rattle.scene_parts.specs.Sides.{sides_of, is_short}
 
 -- a height above ground, in mm
@@ -72,6 +72,13 @@ pub record IsZone (zone : Zone) : Type 0 where
   pub few : length zone.points ≤ most_corners
   pub spread : is_flat Building zone.points ≡ false
   pub ground_factor : zone.g ≤ 100
+
+pub record IsFoliage (foliage : Foliage) : Type 0 where
+  pub name : IsName foliage.name
+  pub enough : 3 ≤ length foliage.points
+  pub few : length foliage.points ≤ most_corners
+  pub spread : is_flat Building foliage.points ≡ false
+  pub height : IsHeight foliage.h
 
 pub record IsReceiver (receiver : Receiver) : Type 0 where
   pub name : IsAnyName receiver.name

@@ -3,6 +3,7 @@ use Rattle.std.specs.Prelude.{ℕ, ℤ, List, Option}
 use Rattle.scene_geom.specs.declared.plan.Pt.{Pt}
 use Rattle.scene_parts.specs.declared.kinds.Kind.{Kind}
 use Rattle.scene_parts.specs.declared.kinds.Air.{Air}
+use Rattle.scene_parts.specs.declared.kinds.Ground.{Ground}
 use Rattle.scene_parts.specs.declared.kinds.Shape.{Shape}
 
 -- a point source (ISO 9613-2, clause 4): its height above ground in mm, its sound power level in each
@@ -30,6 +31,12 @@ pub record Zone : Type 0 where
   pub points : List Pt
   pub g : ℕ
 
+-- dense foliage (ISO 9613-2, Table A.1): its corners and its height above ground in mm
+pub record Foliage : Type 0 where
+  pub name : List ℕ
+  pub points : List Pt
+  pub h : ℕ
+
 -- a receiver: its height above ground in mm
 pub record Receiver : Type 0 where
   pub name : List ℕ
@@ -37,12 +44,13 @@ pub record Receiver : Type 0 where
   pub h : ℕ
 
 -- what holds of the whole scene: how far a source reaches in mm, the ground factor outside zones in
--- hundredths, the air (ISO 9613-2, Table 2) and the factor C0 of clause 8 in 0.01 dB
+-- hundredths, the air (ISO 9613-2, Table 2), the factor C0 of clause 8 in 0.01 dB, and the method for ground (7.3)
 pub record Globals : Type 0 where
   pub reach : ℕ
   pub g : ℕ
   pub air : Air
   pub c0 : ℕ
+  pub method : Ground
 
 -- a grid of receivers: its first receiver, the distance to the next in mm, and their height
 pub record Grid : Type 0 where
@@ -59,3 +67,4 @@ pub record Setting : Type 0 where
   pub g : Option ℕ
   pub air : Option Air
   pub c0 : Option ℕ
+  pub method : Option Ground

@@ -3,21 +3,21 @@ ghost use Rattle.std.specs.Prelude.{◌≡◌, ◌≤◌, length};
 ghost use Rattle.scene_parts.specs.Limits.{most_corners, widest_step};
 ghost use Rattle.scene_parts.specs.Ranges.{IsHeight};
 ghost use Rattle.scene_parts.specs.Answers.{MatchesUnlessMemory, lacks_memory};
-ghost use Rattle.scene_parts.specs.Checking.{source_of, barrier_of, building_of, obstacle_of, zone_of, receiver_of, grid_of, grid_at as grid_at_of, setting_of, check_of};
+ghost use Rattle.scene_parts.specs.Checking.{source_of, barrier_of, building_of, obstacle_of, zone_of, foliage_of, receiver_of, grid_of, grid_at as grid_at_of, setting_of, check_of};
 
 use super::checked::Checked;
 use super::faults::PartFault;
 use super::kinds::{Field, Shape};
 use super::limits::{FARTHEST_REACH, WIDEST_STEP};
 use super::outlines::{Outline, RawPoints};
-use super::parts::{Obstacle, Part, PointSource, Receiver, Zone};
+use super::parts::{Foliage, Obstacle, Part, PointSource, Receiver, Zone};
 use super::powers::{directivity, powers};
 use super::ranges::{column_count, height, in_range, optional_in_range, plan_point, row_count};
 use super::raw::RawPart;
 use super::settings::{GridSpec, SetSpec};
 use super::shapes::{check_density, check_outline, check_reflection, check_sides, corners};
 use super::texts::{PlainName, Word};
-use super::words::{kind_named, optional_air};
+use super::words::{kind_named, optional_air, optional_ground};
 use scene_geom::Pt;
 use std::alloc::Global;
 
@@ -53,6 +53,9 @@ pub fn check(alloc: Global, raw: RawPart) -> Result<Checked, PartFault>
         RawPart::Zone { name, points, g } => {
             Ok(Checked::Part(Part::Zone(zone(alloc, name, points, g)?)))
         }
+        RawPart::Foliage { name, points, h } => {
+            Ok(Checked::Part(Part::Foliage(foliage(alloc, name, points, h)?)))
+        }
         RawPart::Receiver { name, x, y, h } => {
             Ok(Checked::Part(Part::Receiver(receiver(name, x, y, h)?)))
         }
@@ -65,7 +68,13 @@ pub fn check(alloc: Global, raw: RawPart) -> Result<Checked, PartFault>
             rows,
             h,
         } => Ok(Checked::Grid(grid(name, x, y, step, columns, rows, h)?)),
-        RawPart::Set { reach, g, air, c0 } => Ok(Checked::Set(setting(reach, g, air, c0)?)),
+        RawPart::Set {
+            reach,
+            g,
+            air,
+            c0,
+            ground,
+        } => Ok(Checked::Set(setting(reach, g, air, c0, ground)?)),
     }
 }
 
@@ -169,6 +178,17 @@ fn zone(alloc: Global, name: PlainName, points: RawPoints, g: i64) -> Result<Zon
     Ok(Zone { name, points, g })
 }
 
+#[tactic(auto, unfolding(crate::specs::Checking::foliage_of))]
+fn foliage(alloc: Global, name: PlainName, points: RawPoints, h: i64) -> Result<Foliage, PartFault>
+    ensures { MatchesUnlessMemory lacks_memory result (foliage_of name points h) }
+{
+    let points = corners(alloc, points.items())?;
+    let h = height(h)?;
+    check_outline(Shape::Building, points.items())?;
+    let name = name.into_name();
+    Ok(Foliage { name, points, h })
+}
+
 #[tactic(auto, unfolding(crate::specs::Checking::receiver_of))]
 fn receiver(name: PlainName, x: i64, y: i64, h: i64) -> Result<Receiver, PartFault>
     ensures { result ≡ receiver_of name x y h }
@@ -229,12 +249,20 @@ fn setting(
     g: Option<i64>,
     air: Option<Word>,
     c0: Option<i64>,
+    ground: Option<Word>,
 ) -> Result<SetSpec, PartFault>
-    ensures { result ≡ setting_of reach g air c0 }
+    ensures { result ≡ setting_of reach g air c0 ground }
 {
     let reach = optional_in_range(Field::Reach, 1, FARTHEST_REACH, reach)?;
     let g = optional_in_range(Field::G, 0, 100, g)?.map(|g| g as u8);
     let c0 = optional_in_range(Field::C0, 0, 1000, c0)?.map(|c0| c0 as u16);
     let air = optional_air(air)?;
-    Ok(SetSpec { reach, g, air, c0 })
+    let ground = optional_ground(ground)?;
+    Ok(SetSpec {
+        reach,
+        g,
+        air,
+        c0,
+        ground,
+    })
 }

@@ -13,13 +13,13 @@ pub enum PartFault {
     OutOfRange { field: Field, value: i64 },
     /// ISO 9613-2 doesn't cover sources of this kind: aircraft in flight and blast waves (clause 1).
     OutsideMethod { kind: Word },
-    /// There is no such kind of source, or no such air.
+    /// There is no such kind of source, no such air, or no such method for ground.
     UnknownKind { kind: Word },
     /// A barrier of less than 10 kg/m² doesn't screen (ISO 9613-2, 7.4).
     TooLight { density: u32 },
-    /// A barrier has fewer than 2 points, a building or a zone fewer than 3.
+    /// A barrier has fewer than 2 points, a building, a zone or a foliage fewer than 3.
     FewCorners { count: u32 },
-    /// A building or a zone has no area, or all points of a barrier are in one place.
+    /// A building, a zone or a foliage has no area, or all points of a barrier are in one place.
     FlatShape,
     /// This side, counted from 0, is longer than 262,143 mm; its length is rounded down.
     SideTooLong { side: u32, mm: u32 },

@@ -1,4 +1,4 @@
-//! Words of lines that name one of a few: kinds of sources, shapes of obstacles, air, fields and classes.
+//! Words of lines that name one of a few: kinds of sources, shapes of obstacles, air, ground, fields and classes.
 
 /// What makes a source's sound. The level doesn't depend on it.
 #[derive(Clone, Copy, Debug, PartialEq, Eq)]
@@ -19,6 +19,14 @@ pub enum Air {
     Celsius15Humidity20,
     Celsius15Humidity50,
     Celsius15Humidity80,
+}
+
+/// How the ground attenuates: by its factor in three regions of the path and in each octave band (ISO 9613-2, 7.3.1), or
+/// by the alternative method for A-weighted levels over porous ground (7.3.2).
+#[derive(Clone, Copy, Debug, PartialEq, Eq)]
+pub enum Ground {
+    General,
+    Simple,
 }
 
 /// A barrier is a line of points, a building an area.
@@ -62,6 +70,7 @@ pub enum Class {
     Barrier,
     Building,
     Zone,
+    Foliage,
     Receiver,
     Obstacle,
     Side,

@@ -1,4 +1,4 @@
-//! The parts of a scene: sources, barriers, buildings, zones, receivers, grids and settings, each within
+//! The parts of a scene: sources, barriers, buildings, zones, foliage, receivers, grids and settings, each within
 //! its ranges by its type, and the check that makes them of what a line gives or names the first fault. Beside them
 //! stands what a crossing of an obstacle's side is, with the test of the obstacle's size in each band.
 #![tactic(auto)]
@@ -34,10 +34,10 @@ pub use edge::Edge;
 pub use edges::{side_of, sides};
 pub use ends::Ends;
 pub use faults::PartFault;
-pub use kinds::{Air, Class, Field, Kind, Shape};
+pub use kinds::{Air, Class, Field, Ground, Kind, Shape};
 pub use memory::NoMemory;
 pub use outlines::{Outline, RawPoints, RawPt};
-pub use parts::{Obstacle, Part, PointSource, Receiver, Zone};
+pub use parts::{Foliage, Obstacle, Part, PointSource, Receiver, Zone};
 pub use raw::RawPart;
 pub use settings::{Globals, GridSpec, SetSpec};
 pub use shapes::squared;

@@ -1,6 +1,6 @@
 //! The limits of parts, each named once.
 
-/// The corners of a barrier, a building or a zone.
+/// The corners of a barrier, a building, a zone or a foliage.
 pub const MOST_CORNERS: usize = 1024;
 
 /// The columns of a grid, and its rows.

@@ -1,10 +1,10 @@
-//! Outlines: the corners of barriers, buildings and zones.
+//! Outlines: the corners of barriers, buildings, zones and foliage.
 ghost use Rattle.std.specs.Prelude.{◌≡◌};
 
 use scene_geom::Pt;
 use std::marker::Model;
 
-/// The corners of a barrier, a building or a zone, in order. Contracts see it as the list of them.
+/// The corners of a barrier, a building, a zone or a foliage, in order. Contracts see it as the list of them.
 #[derive(Clone, Debug, Drop)]
 pub struct Outline {
     corners: Vec<Pt>,

@@ -68,6 +68,26 @@ impl Model for Zone {
     ghost invariant = { λ z. IsZone (record { name = z.name; points = z.points; g = z.g }) };
 }
 
+/// Dense foliage (ISO 9613-2, Table A.1): trees and shrubs so dense that one can't see through them, with their height
+/// in mm.
+#[derive(Clone, Debug, Drop)]
+pub struct Foliage {
+    pub name: Name,
+    pub points: Outline,
+    pub h: u32,
+}
+
+impl Model for Foliage {
+    ghost use Rattle.scene_parts.specs.Views.{Foliage as FoliageView};
+    ghost use Rattle.scene_parts.specs.Ranges.{IsFoliage};
+
+    ghost Value = { FoliageView };
+
+    ghost view = { λ f. record { name = f.name; points = f.points; h = f.h } };
+
+    ghost invariant = { λ f. IsFoliage (record { name = f.name; points = f.points; h = f.h }) };
+}
+
 /// A receiver: a point at a height above ground, in mm.
 #[derive(Clone, Debug, Drop)]
 pub struct Receiver {
@@ -93,5 +113,6 @@ pub enum Part {
     Source(PointSource),
     Obstacle(Obstacle),
     Zone(Zone),
+    Foliage(Foliage),
     Receiver(Receiver),
 }

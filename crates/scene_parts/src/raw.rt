@@ -32,6 +32,11 @@ pub enum RawPart {
         points: RawPoints,
         g: i64,
     },
+    Foliage {
+        name: PlainName,
+        points: RawPoints,
+        h: i64,
+    },
     Receiver {
         name: PlainName,
         x: i64,
@@ -52,5 +57,6 @@ pub enum RawPart {
         g: Option<i64>,
         air: Option<Word>,
         c0: Option<i64>,
+        ground: Option<Word>,
     },
 }

@@ -1,17 +1,18 @@
 //! What holds of the whole scene, and grids of receivers.
-use super::kinds::Air;
+use super::kinds::{Air, Ground};
 use super::texts::Name;
 use scene_geom::Pt;
 use std::marker::Model;
 
 /// What holds of the whole scene: how far a source reaches in mm, the ground factor outside zones in
-/// hundredths, the air (ISO 9613-2, Table 2), and the factor C0 of clause 8 in 0.01 dB.
+/// hundredths, the air (ISO 9613-2, Table 2), the factor C0 of clause 8 in 0.01 dB, and the method for ground (7.3).
 #[derive(Clone, Copy, Debug)]
 pub struct Globals {
     pub reach: u32,
     pub g: u8,
     pub air: Air,
     pub c0: u16,
+    pub ground: Ground,
 }
 
 impl Model for Globals {
@@ -20,11 +21,11 @@ impl Model for Globals {
 
     ghost Value = { GlobalsView };
 
-    ghost view = { λ s. record { reach = s.reach; g = s.g; air = s.air; c0 = s.c0 } };
+    ghost view = { λ s. record { reach = s.reach; g = s.g; air = s.air; c0 = s.c0; method = s.ground } };
 
-    ghost invariant = { λ s. AreGlobals (record { reach = s.reach; g = s.g; air = s.air; c0 = s.c0 }) };
+    ghost invariant = { λ s. AreGlobals (record { reach = s.reach; g = s.g; air = s.air; c0 = s.c0; method = s.ground }) };
 
-    ghost inverse = { λ s. record { reach = s.reach; g = s.g; air = s.air; c0 = s.c0 } };
+    ghost inverse = { λ s. record { reach = s.reach; g = s.g; air = s.air; c0 = s.c0; ground = s.method } };
 }
 
 /// Values for some of the globals; the others stay as they are.
@@ -34,6 +35,7 @@ pub struct SetSpec {
     pub g: Option<u8>,
     pub air: Option<Air>,
     pub c0: Option<u16>,
+    pub ground: Option<Ground>,
 }
 
 impl Model for SetSpec {
@@ -42,9 +44,9 @@ impl Model for SetSpec {
 
     ghost Value = { Setting };
 
-    ghost view = { λ s. record { reach = s.reach; g = s.g; air = s.air; c0 = s.c0 } };
+    ghost view = { λ s. record { reach = s.reach; g = s.g; air = s.air; c0 = s.c0; method = s.ground } };
 
-    ghost invariant = { λ s. IsSetting (record { reach = s.reach; g = s.g; air = s.air; c0 = s.c0 }) };
+    ghost invariant = { λ s. IsSetting (record { reach = s.reach; g = s.g; air = s.air; c0 = s.c0; method = s.ground }) };
 }
 
 /// A grid of receivers: the place of the first, the distance to the next in mm, and their height in mm.

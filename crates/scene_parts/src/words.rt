@@ -1,10 +1,10 @@
-//! Words of kinds of sources and of the air.
+//! Words of kinds of sources, of the air and of methods for ground.
 ghost use Rattle.std.specs.Prelude.{◌≡◌};
 ghost use Rattle.scene_parts.specs.Answers.{optional};
-ghost use Rattle.scene_parts.specs.Checking.{kind_of, air_of};
+ghost use Rattle.scene_parts.specs.Checking.{kind_of, air_of, ground_of};
 
 use super::faults::PartFault;
-use super::kinds::{Air, Kind};
+use super::kinds::{Air, Ground, Kind};
 use super::texts::Word;
 
 /// The kind of source that a word names, or that it is outside the method or unknown.
@@ -58,5 +58,29 @@ pub fn optional_air(word: Option<Word>) -> Result<Option<Air>, PartFault>
     match word {
         None => Ok(None),
         Some(word) => Ok(Some(air_named(word)?)),
+    }
+}
+
+/// The method for ground that a word names (ISO 9613-2, 7.3.1 and 7.3.2).
+#[tactic(auto, unfolding(crate::specs::Checking::ground_of))]
+fn ground_named(word: Word) -> Result<Ground, PartFault>
+    ensures { result ≡ ground_of word }
+{
+    if word.is(b"general") {
+        Ok(Ground::General)
+    } else if word.is(b"simple") {
+        Ok(Ground::Simple)
+    } else {
+        Err(PartFault::UnknownKind { kind: word })
+    }
+}
+
+/// The same of a word that may be left out.
+pub fn optional_ground(word: Option<Word>) -> Result<Option<Ground>, PartFault>
+    ensures { result ≡ optional ground_of word }
+{
+    match word {
+        None => Ok(None),
+        Some(word) => Ok(Some(ground_named(word)?)),
     }
 }

@@ -5,8 +5,8 @@ use Rattle.scene_geom.specs.declared.plan.Pt.{Pt}
 use Rattle.scene_parts.specs.Answers.{◌>>=◌, ◌>>◌, each, optional}
 use Rattle.scene_parts.specs.Limits.{most_corners, most_columns, widest_step, plan_end, farthest_reach}
 use Rattle.scene_parts.specs.Ranges.{IsReach, IsSetting, last_place}
-use Rattle.scene_parts.specs.Views.{Zone, Grid, Setting}
-use Rattle.scene_parts.specs.Checking.{check_of, within, in_range, corner_of, corners_of, check_outline, zone_of, plan_point, reaching, height_of, grid_at, grid_of, air_of, setting_of, source_of, barrier_of, building_of, receiver_of}
+use Rattle.scene_parts.specs.Views.{Zone, Foliage, Grid, Setting}
+use Rattle.scene_parts.specs.Checking.{check_of, within, in_range, corner_of, corners_of, check_outline, zone_of, foliage_of, plan_point, reaching, height_of, grid_at, grid_of, air_of, ground_of, setting_of, source_of, barrier_of, building_of, receiver_of}
 use Rattle.scene_parts.specs.declared.outlines.RawPt.{RawPt}
 use Rattle.scene_parts.specs.declared.kinds.Shape.TheVariants.{Building}
 use Rattle.scene_parts.specs.declared.kinds.Field.TheVariants as fields
@@ -21,7 +21,7 @@ use Rattle.scene_parts.specs.declared.checked.Checked.{Checked}
 use Rattle.scene_parts.specs.declared.checked.Checked.TheVariants as checked
 use Rattle.scene_book.specs.declared.edits.Edit.TheVariants as edits
 use Rattle.scene_book.specs.Edits.{edit_of}
-use Rattle.scene_undo.specs.Scenes.{IsZoneWithin, IsGridWithin, IsEdit}
+use Rattle.scene_undo.specs.Scenes.{IsZoneWithin, IsFoliageWithin, IsGridWithin, IsEdit}
 
 -- ---- tests in a row
 
@@ -77,7 +77,7 @@ each-length test (x ∷ xs) ys e =
     let is : first.0 ∷ rest.0 ≡ ys = cc in
     ap length (sym is) ∙ ap suc (each-length test xs rest.0 rest.1)
 
--- ---- zones, grids and settings
+-- ---- zones, foliage, grids and settings
 
 corners-few : (points : List RawPt) (corners : List Pt) → corners_of points ≡ Ok corners → length corners ≤ most_corners
 unfolding corners_of
@@ -106,6 +106,17 @@ zone-within name points g zone e =
       ground_factor = (in_range-ok fields.G 0 100 g factor.0 factor.1).1;
     })
 
+foliage-within : (name : List ℕ) (points : List RawPt) (h : ℤ) (foliage : Foliage) → foliage_of name points h ≡ Ok foliage
+    → IsFoliageWithin foliage
+unfolding foliage_of
+foliage-within name points h foliage e =
+    let corners = bind-ok (corners_of points) _ foliage e in
+    let height = bind-ok (height_of h) _ foliage corners.2 in
+    let outline = after-ok (check_outline Building corners.0) _ foliage height.2 in
+    let made : Foliage = record { name = name; points = corners.0; h = height.0 } in
+    let is : made ≡ foliage = cc in
+    subst IsFoliageWithin is (record { few = corners-few points corners.0 corners.1 })
+
 reaching-few : (field : Field) (start : ℤ) (step : ℕ) (count : ℤ) (n : ℕ) → reaching field start step count ≡ Ok n → n ≤ most_columns
 unfolding reaching
 reaching-few field start step count n e =
@@ -131,15 +142,17 @@ grid-within name x y step columns rows h grid e =
       rows = reaching-few fields.Rows at.0.y apart.0 rows up.0 up.1;
     })
 
-setting-within : (reach g : Option ℤ) (air : Option (List ℕ)) (c0 : Option ℤ) (setting : Setting) → setting_of reach g air c0 ≡ Ok setting
-    → IsSetting setting
+setting-within : (reach g : Option ℤ) (air : Option (List ℕ)) (c0 : Option ℤ) (word : Option (List ℕ)) (setting : Setting)
+    → setting_of reach g air c0 word ≡ Ok setting → IsSetting setting
 unfolding setting_of
-setting-within reach g air c0 setting e =
+setting-within reach g air c0 word setting e =
     let far = bind-ok (optional (in_range fields.Reach 1 farthest_reach) reach) _ setting e in
     let factor = bind-ok (optional (in_range fields.G 0 100) g) _ setting far.2 in
     let correction = bind-ok (optional (in_range fields.C0 0 1000) c0) _ setting factor.2 in
     let weather = bind-ok (optional air_of air) _ setting correction.2 in
-    let made : Setting = record { reach = far.0; g = factor.0; air = weather.0; c0 = correction.0 } in
+    let method = bind-ok (optional ground_of word) _ setting weather.2 in
+    let made : Setting =
+    record { reach = far.0; g = factor.0; air = weather.0; c0 = correction.0; method = method.0 } in
     let is : made ≡ setting = cc in
     subst IsSetting is (record {
       reach = optional-ok IsReach (in_range fields.Reach 1 farthest_reach)
@@ -170,13 +183,16 @@ checked-edit (raw.Building name points h rho) made e =
 checked-edit (raw.Zone name points g) made e =
     let zone = bind-ok (zone_of name points g) _ made e in
     part-made (parts.Zone zone.0) made (zone-within name points g zone.0 zone.1) zone.2
+checked-edit (raw.Foliage name points h) made e =
+    let foliage = bind-ok (foliage_of name points h) _ made e in
+    part-made (parts.Foliage foliage.0) made (foliage-within name points h foliage.0 foliage.1) foliage.2
 checked-edit (raw.Receiver name x y h) made e =
     let receiver = bind-ok (receiver_of name x y h) _ made e in part-made (parts.Receiver receiver.0) made tt receiver.2
 checked-edit (raw.Grid name x y step columns rows h) made e =
     let grid = bind-ok (grid_of name x y step columns rows h) _ made e in
     let same : checked.Grid grid.0 ≡ made = cc in
     subst (λ c. IsEdit (edit_of c)) same (grid-within name x y step columns rows h grid.0 grid.1)
-checked-edit (raw.Set reach g air c0) made e =
-    let setting = bind-ok (setting_of reach g air c0) _ made e in
+checked-edit (raw.Set reach g air c0 word) made e =
+    let setting = bind-ok (setting_of reach g air c0 word) _ made e in
     let same : checked.Set setting.0 ≡ made = cc in
-    subst (λ c. IsEdit (edit_of c)) same (setting-within reach g air c0 setting.0 setting.1)
+    subst (λ c. IsEdit (edit_of c)) same (setting-within reach g air c0 word setting.0 setting.1)

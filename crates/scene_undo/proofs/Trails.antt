@@ -13,10 +13,10 @@ use Rattle.scene_book.specs.Applying.{apply_of, applied, part_named}
 use Rattle.scene_book.specs.Orders.{SameParts}
 use Rattle.scene_book.specs.Orders.Shuffled.{same, after}
 use Rattle.scene_undo.specs.Inverse.{names_in, put_back, inverse_of, setting_of}
-use Rattle.scene_undo.specs.Scenes.{IsZoneWithin, IsScene, IsEdit}
+use Rattle.scene_undo.specs.Scenes.{IsZoneWithin, IsFoliageWithin, IsScene, IsEdit}
 use Rattle.scene_undo.specs.Laws.{LeadTo, InverseIsOfEdits, Entry, IsTrail, inverses_of, TrailLaw}
 use Rattle.scene_undo.proofs.Maps.{turned}
-use Rattle.scene_undo.proofs.Spaces.{Four, split}
+use Rattle.scene_undo.proofs.Spaces.{Found, split}
 use Rattle.scene_undo.proofs.Kept.{all-found, scene-map, scene-kept}
 use Rattle.scene_undo.proofs.Undoing.{undo}
 
@@ -27,6 +27,7 @@ same-parts a = record {
   sources = same a.sources;
   obstacles = same a.obstacles;
   zones = same a.zones;
+  foliage = same a.foliage;
   receivers = same a.receivers;
   globals = refl;
 }
@@ -36,6 +37,7 @@ same-parts-turned a b h = record {
   sources = turned a.sources b.sources h.sources;
   obstacles = turned a.obstacles b.obstacles h.obstacles;
   zones = turned a.zones b.zones h.zones;
+  foliage = turned a.foliage b.foliage h.foliage;
   receivers = turned a.receivers b.receivers h.receivers;
   globals = sym h.globals;
 }
@@ -45,6 +47,7 @@ same-parts-on a b c h k = record {
   sources = after h.sources k.sources;
   obstacles = after h.obstacles k.obstacles;
   zones = after h.zones k.zones;
+  foliage = after h.foliage k.foliage;
   receivers = after h.receivers k.receivers;
   globals = k.globals ∙ h.globals;
 }
@@ -106,7 +109,10 @@ put_back-edit a is name = by (part_named a name) refl
     by (Some (parts.Obstacle o)) e = tt
     by (Some (parts.Zone z)) e =
         all-found IsZoneWithin (λ x. x.name) name z a.zones
-        (ap (λ (f : Four). f.2) ((scene-map a is).one name ∙ ap split e)) is.zones
+        (ap (λ (f : Found). f.2) ((scene-map a is).one name ∙ ap split e)) is.zones
+    by (Some (parts.Foliage g)) e =
+        all-found IsFoliageWithin (λ x. x.name) name g a.foliage
+        (ap (λ (f : Found). f.3) ((scene-map a is).one name ∙ ap split e)) is.foliage
     by (Some (parts.Receiver r)) e = tt
 
 names-edits : (a : Book) → IsScene a → (names : List (List ℕ)) → All IsEdit (map (λ name. put_back name (part_named a name)) names)

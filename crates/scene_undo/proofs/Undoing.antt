@@ -19,8 +19,8 @@ use Rattle.scene_undo.specs.Inverse.{put_back, setting_of}
 use Rattle.scene_undo.specs.Scenes.{IsGridWithin}
 use Rattle.scene_undo.specs.Laws.{LeadTo, UndoLaw}
 use Rattle.scene_undo.proofs.Maps.{one_name, own_name, other_way, found-name, shuffled-length}
-use Rattle.scene_undo.proofs.Spaces.{IsMap, One, Four, split, found_in, Kin, kin-back, fine, put-found, put-map, take-found, take-map, SameFound, same-map, found-same}
-use Rattle.scene_undo.proofs.Spaces.Kin.{free, sources, obstacles, zones, receivers}
+use Rattle.scene_undo.proofs.Spaces.{IsMap, One, Found, split, found_in, Kin, kin-back, fine, put-found, put-map, take-found, take-map, SameFound, same-map, found-same}
+use Rattle.scene_undo.proofs.Spaces.Kin.{free, sources, obstacles, zones, foliage, receivers}
 use Rattle.scene_undo.proofs.Accepting.{left, put-accepted, put-accepts, remove-accepted, remove-accepts, grid-accepted, set-accepted, set-accepts, within-fits, puts_in, at_most-fits}
 use Rattle.scene_undo.proofs.Grids.{AllKin, AtReceiver, AllThere, all-kin, grid-map, grid-other, grid-there}
 use Rattle.scene_undo.proofs.Kept.{put-globals, take-globals, same-within, scene-map}
@@ -31,10 +31,11 @@ pub part-name : (name : List ℕ) (part : Part) (a : Book) → One a → part_na
 part-name name part a one is = by part (one name ∙ ap split is)
   where
     by : (part : Part) → found_in a name ≡ split (Some part) → name ≡ name_of part
-    by (parts.Source s) e = found-name (λ x. x.name) name s a.sources (ap (λ (f : Four). f.0) e)
-    by (parts.Obstacle o) e = found-name (λ x. x.name) name o a.obstacles (ap (λ (f : Four). f.1) e)
-    by (parts.Zone z) e = found-name (λ x. x.name) name z a.zones (ap (λ (f : Four). f.2) e)
-    by (parts.Receiver r) e = found-name (λ x. x.name) name r a.receivers (ap (λ (f : Four). f.3) e)
+    by (parts.Source s) e = found-name (λ x. x.name) name s a.sources (ap (λ (f : Found). f.0) e)
+    by (parts.Obstacle o) e = found-name (λ x. x.name) name o a.obstacles (ap (λ (f : Found). f.1) e)
+    by (parts.Zone z) e = found-name (λ x. x.name) name z a.zones (ap (λ (f : Found). f.2) e)
+    by (parts.Foliage g) e = found-name (λ x. x.name) name g a.foliage (ap (λ (f : Found). f.3) e)
+    by (parts.Receiver r) e = found-name (λ x. x.name) name r a.receivers (ap (λ (f : Found). f.4) e)
 
 -- ---- one edit, and the rest
 
@@ -132,18 +133,20 @@ ReceiverKin (Some found) (parts.Receiver r) = AtReceiver (Some found)
 ReceiverKin (Some found) (parts.Source s) = Unit {0}
 ReceiverKin (Some found) (parts.Obstacle o) = Unit {0}
 ReceiverKin (Some found) (parts.Zone z) = Unit {0}
+ReceiverKin (Some found) (parts.Foliage f) = Unit {0}
 
 receiver-kin : (part : Part) (found : Option Part) → Kin part found → ReceiverKin found part
 receiver-kin _ _ (free part) = tt
 receiver-kin _ _ (sources s t) = tt
 receiver-kin _ _ (obstacles o q e) = tt
 receiver-kin _ _ (zones z y) = tt
+receiver-kin _ _ (foliage f g) = tt
 receiver-kin _ _ (receivers r q) = (q, refl)
 
 -- the receiver of a name that finds one
 receiver-there : (name : List ℕ) (s : Receiver) (b : Book) → One b → part_named b name ≡ Some (parts.Receiver s)
     → named (λ r. r.name) name b.receivers ≡ Some s
-receiver-there name s b one is = ap (λ (f : Four). f.3) (one name ∙ ap split is)
+receiver-there name s b one is = ap (λ (f : Found). f.4) (one name ∙ ap split is)
 
 -- a name of a grid is given back
 abbrev Step : List ℕ → Edit → Book → Book → Type 0
@@ -280,5 +283,12 @@ undo (edits.Set setting) a b c old is-edit is e same =
     (set-accepts (setting_of a.globals) b) (
       with_setting (setting_of a.globals) b,
       refl,
-      record { sources = here.sources; obstacles = here.obstacles; zones = here.zones; receivers = here.receivers; globals = refl },
+      record {
+        sources = here.sources;
+        obstacles = here.obstacles;
+        zones = here.zones;
+        foliage = here.foliage;
+        receivers = here.receivers;
+        globals = refl;
+      },
     )

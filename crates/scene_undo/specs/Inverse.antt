@@ -22,8 +22,13 @@ put_back name (Some part) = edits.Put part
 
 -- the setting of all globals
 abbrev pub setting_of : Globals → Setting
-setting_of globals =
-    record { reach = Some globals.reach; g = Some globals.g; air = Some globals.air; c0 = Some globals.c0 }
+setting_of globals = record {
+  reach = Some globals.reach;
+  g = Some globals.g;
+  air = Some globals.air;
+  c0 = Some globals.c0;
+  method = Some globals.method;
+}
 
 -- what undoes an edit of a scene: after a setting all old globals are set, and after any other edit each name is given
 -- back, in order

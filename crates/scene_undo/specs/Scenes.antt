@@ -2,7 +2,7 @@
 use Rattle.std.specs.Prelude.{ℕ, ◌≤◌, List, ◌++◌, length, option_map, All}
 use Rattle.std.specs.Option.{option_to_list}
 use Rattle.scene_parts.specs.Limits.{most_corners, most_columns}
-use Rattle.scene_parts.specs.Views.{Zone, Grid}
+use Rattle.scene_parts.specs.Views.{Zone, Foliage, Grid}
 use Rattle.scene_parts.specs.Ranges.{AreGlobals, IsSetting}
 use Rattle.scene_parts.specs.declared.parts.Part.{Part}
 use Rattle.scene_parts.specs.declared.parts.Part.TheVariants as parts
@@ -17,6 +17,7 @@ bearers book name =
     option_to_list (option_map parts.Source (named (λ s. s.name) name book.sources))
     ++ option_to_list (option_map parts.Obstacle (named (λ o. o.name) name book.obstacles))
     ++ option_to_list (option_map parts.Zone (named (λ z. z.name) name book.zones))
+    ++ option_to_list (option_map parts.Foliage (named (λ f. f.name) name book.foliage))
     ++ option_to_list (option_map parts.Receiver (named (λ r. r.name) name book.receivers))
 
 -- no name is borne by parts of two lists
@@ -28,22 +29,29 @@ pub record IsZoneWithin (zone : Zone) : Type 0 where
   pub few : length zone.points ≤ most_corners
   pub ground_factor : zone.g ≤ 100
 
+-- a foliage within the limit of its corners
+pub record IsFoliageWithin (foliage : Foliage) : Type 0 where
+  pub few : length foliage.points ≤ most_corners
+
 -- a grid within the limits of its columns and rows
 pub record IsGridWithin (grid : Grid) : Type 0 where
   pub columns : grid.columns ≤ most_columns
   pub rows : grid.rows ≤ most_columns
 
--- a scene that edits made: within the limits, each name borne by one part alone, zones and globals in their ranges
+-- a scene that edits made: within the limits, each name borne by one part alone, zones, foliage and
+-- globals in their ranges
 pub record IsScene (book : Book) : Type 0 where
   pub within : IsWithin book
   pub apart : NamesAreApart book
   pub one : HasOneNameSpace book
   pub zones : All IsZoneWithin book.zones
+  pub foliage : All IsFoliageWithin book.foliage
   pub globals : AreGlobals book.globals
 
--- an edit whose zone, grid or setting is in its ranges
+-- an edit whose zone, foliage, grid or setting is in its ranges
 abbrev pub IsEdit : Edit → Type 0
 IsEdit (edits.Put (parts.Zone zone)) = IsZoneWithin zone
+IsEdit (edits.Put (parts.Foliage foliage)) = IsFoliageWithin foliage
 IsEdit (edits.Grid grid) = IsGridWithin grid
 IsEdit (edits.Set setting) = IsSetting setting
 IsEdit other = Unit {0}

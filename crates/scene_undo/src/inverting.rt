@@ -77,6 +77,7 @@ fn setting_of(globals: &Globals) -> SetSpec
         g: Some(globals.g),
         air: Some(globals.air),
         c0: Some(globals.c0),
+        ground: Some(globals.ground),
     }
 }
 
@@ -87,6 +88,7 @@ fn part_name(part: &Part) -> &Name
         Part::Source(source) => &source.name,
         Part::Obstacle(obstacle) => &obstacle.name,
         Part::Zone(zone) => &zone.name,
+        Part::Foliage(foliage) => &foliage.name,
         Part::Receiver(receiver) => &receiver.name,
     }
 }

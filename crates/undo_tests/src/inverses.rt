@@ -1,7 +1,7 @@
 //! What undoes each kind of edit of a small scene.
 use command_lines::{Command, command};
 use scene_book::{Edit, Scene};
-use scene_parts::{Part, Zone};
+use scene_parts::{Foliage, Ground, Part, SetSpec, Zone};
 use scene_undo::inverse;
 use std::alloc::Global;
 use std::process::Abort;
@@ -13,22 +13,25 @@ enum Told {
     Receiver(&'static str, u32),
     /// The put of a zone of this name and ground factor.
     Zone(&'static str, u8),
+    /// The put of a foliage of this name and height.
+    Foliage(&'static str, u32),
     Remove(&'static str),
-    /// The setting of all globals, with this reach and ground factor.
-    Set(u32, u8),
+    /// The setting of all globals, with this reach, ground factor and method for ground.
+    Set(u32, u8, Ground),
 }
 
 /// A line, and what undoes its edit.
 type Row = (&'static str, &'static [Told]);
 
-const SCENE: [&'static str; 4] = [
+const SCENE: [&'static str; 5] = [
     r#"{"do":"receiver","name":"house","x":100000,"y":0,"h":4000}"#,
     r#"{"do":"zone","name":"lawn","points":[[0,0],[1000,0],[1000,1000]],"g":100}"#,
     r#"{"do":"grid","name":"g","x":0,"y":0,"step":1000,"columns":1,"rows":1,"h":2000}"#,
-    r#"{"do":"set","reach":2000000}"#,
+    r#"{"do":"foliage","name":"wood","points":[[0,0],[20000,0],[20000,20000]],"h":8000}"#,
+    r#"{"do":"set","reach":2000000,"ground":"simple"}"#,
 ];
 
-const ROWS: [Row; 7] = [
+const ROWS: [Row; 11] = [
     // A new name, and names that are held.
     (
         r#"{"do":"receiver","name":"office","x":0,"y":0,"h":1500}"#,
@@ -42,10 +45,22 @@ const ROWS: [Row; 7] = [
         r#"{"do":"zone","name":"lawn","points":[[0,0],[1000,0],[0,1000]],"g":0}"#,
         &[Told::Zone("lawn", 100)],
     ),
+    (
+        r#"{"do":"foliage","name":"wood","points":[[0,0],[5000,0],[0,5000]],"h":12000}"#,
+        &[Told::Foliage("wood", 8000)],
+    ),
+    (
+        r#"{"do":"foliage","name":"hedge","points":[[0,0],[5000,0],[0,5000]],"h":2000}"#,
+        &[Told::Remove("hedge")],
+    ),
     // Removals.
     (
         r#"{"do":"remove","name":"lawn"}"#,
         &[Told::Zone("lawn", 100)],
+    ),
+    (
+        r#"{"do":"remove","name":"wood"}"#,
+        &[Told::Foliage("wood", 8000)],
     ),
     (
         r#"{"do":"remove","name":"g/0/0"}"#,
@@ -56,7 +71,15 @@ const ROWS: [Row; 7] = [
         r#"{"do":"grid","name":"g","x":1000,"y":0,"step":1000,"columns":2,"rows":1,"h":3000}"#,
         &[Told::Receiver("g/0/0", 2000), Told::Remove("g/1/0")],
     ),
-    (r#"{"do":"set","g":50,"c0":1000}"#, &[Told::Set(2000000, 0)]),
+    // Settings, of which one gives the method for ground alone.
+    (
+        r#"{"do":"set","g":50,"c0":1000}"#,
+        &[Told::Set(2000000, 0, Ground::Simple)],
+    ),
+    (
+        r#"{"do":"set","ground":"general"}"#,
+        &[Told::Set(2000000, 0, Ground::Simple)],
+    ),
 ];
 
 fn edit_of(alloc: Global, line: &str) -> Result<Edit, Fail> {
@@ -78,6 +101,18 @@ fn is_zone(zone: &Zone, name: &str, g: u8) -> bool {
     zone.name.items() == name.as_bytes() && zone.g == g
 }
 
+fn is_foliage(foliage: &Foliage, name: &str, h: u32) -> bool {
+    foliage.name.items() == name.as_bytes() && foliage.h == h
+}
+
+fn sets_all(setting: &SetSpec, reach: u32, g: u8, ground: Ground) -> bool {
+    setting.reach == Some(reach)
+        && setting.g == Some(g)
+        && setting.air.is_some()
+        && setting.c0 == Some(0)
+        && setting.ground == Some(ground)
+}
+
 /// Whether an edit is told so.
 fn is_told(edit: &Edit, told: &Told) -> bool {
     match (edit, told) {
@@ -85,12 +120,12 @@ fn is_told(edit: &Edit, told: &Told) -> bool {
             receiver.name.items() == name.as_bytes() && receiver.h == *h
         }
         (Edit::Put(Part::Zone(zone)), Told::Zone(name, g)) => is_zone(zone, name, *g),
+        (Edit::Put(Part::Foliage(foliage)), Told::Foliage(name, h)) => {
+            is_foliage(foliage, name, *h)
+        }
         (Edit::Remove(name), Told::Remove(told)) => name.items() == told.as_bytes(),
-        (Edit::Set(setting), Told::Set(reach, g)) => {
-            setting.reach == Some(*reach)
-                && setting.g == Some(*g)
-                && setting.air.is_some()
-                && setting.c0 == Some(0)
+        (Edit::Set(setting), Told::Set(reach, g, ground)) => {
+            sets_all(setting, *reach, *g, *ground)
         }
         _ => false,
     }
@@ -105,8 +140,12 @@ fn are_told(edits: &[Edit], told: &[Told]) -> bool {
 }
 
 /// How many parts of each kind a scene has.
-fn counts(scene: &Scene) -> (usize, usize) {
-    (scene.zones().len(), scene.receivers().len())
+fn counts(scene: &Scene) -> (usize, usize, usize) {
+    (
+        scene.zones().len(),
+        scene.foliage().len(),
+        scene.receivers().len(),
+    )
 }
 
 /// An edit made, and undone.

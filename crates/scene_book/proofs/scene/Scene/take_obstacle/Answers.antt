@@ -33,12 +33,14 @@ invariant_of-self-2 c =
         obstacles = omega (arith, c.self.invariant.within.obstacles, c.in_ok-obstacle.ensures.fewer);
         sides = rw c.in_ok-obstacle.ensures.left (omega (arith, c.self.invariant.within.sides, out));
         zones = c.self.invariant.within.zones;
+        foliage = c.self.invariant.within.foliage;
         receivers = c.self.invariant.within.receivers;
       };
       apart = record {
         sources = c.self.invariant.apart.sources;
         obstacles = c.in_ok-obstacle.ensures.apart;
         zones = c.self.invariant.apart.zones;
+        foliage = c.self.invariant.apart.foliage;
         receivers = c.self.invariant.apart.receivers;
       };
     }

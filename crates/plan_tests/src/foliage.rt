@@ -1,0 +1,288 @@
+//! Foliage put, put again and removed, beside parts of other classes, and the method for ground, with answers from
+//! outside, by an independent program.
+ghost use Rattle.std.specs.Prelude.{◌≡◌, ◌<◌, true};
+ghost use Rattle.scene_parts.specs.Names.{IsName, IsAnyName, is_name_byte};
+
+use crate::edits::{EditOutcome, applied, corners, put};
+use scene_book::{Edit, Scene};
+use scene_parts::{Air, Class, Ground, Name, PlainName, RawPart, Word};
+use std::alloc::{AllocError, Global};
+use std::process::Abort;
+use std::test::Fail;
+
+/// The names of parts.
+#[derive(Clone, Copy)]
+enum Called {
+    Wood,
+    Hedge,
+    Lawn,
+    House,
+}
+
+/// An edit.
+#[derive(Clone, Copy)]
+enum Step {
+    /// A foliage of this height, in mm.
+    Foliage(Called, i64),
+    Building(Called),
+    Zone(Called),
+    Receiver(Called),
+    Remove(Called),
+}
+
+/// An edit, what it answers, and how many foliages, zones and receivers there are then.
+type Row = (Step, EditOutcome, (usize, usize, usize));
+
+const ROWS: [Row; 15] = [
+    (
+        Step::Foliage(Called::Wood, 5000),
+        EditOutcome::New,
+        (1, 0, 0),
+    ),
+    (
+        Step::Zone(Called::Wood),
+        EditOutcome::Other(Class::Foliage),
+        (1, 0, 0),
+    ),
+    (
+        Step::Building(Called::Wood),
+        EditOutcome::Other(Class::Foliage),
+        (1, 0, 0),
+    ),
+    (
+        Step::Receiver(Called::Wood),
+        EditOutcome::Other(Class::Foliage),
+        (1, 0, 0),
+    ),
+    (Step::Zone(Called::Lawn), EditOutcome::New, (1, 1, 0)),
+    (
+        Step::Foliage(Called::Lawn, 5000),
+        EditOutcome::Other(Class::Zone),
+        (1, 1, 0),
+    ),
+    (Step::Receiver(Called::House), EditOutcome::New, (1, 1, 1)),
+    (
+        Step::Foliage(Called::House, 5000),
+        EditOutcome::Other(Class::Receiver),
+        (1, 1, 1),
+    ),
+    (
+        Step::Foliage(Called::Hedge, 2000),
+        EditOutcome::New,
+        (2, 1, 1),
+    ),
+    // One that is put again keeps its place.
+    (
+        Step::Foliage(Called::Wood, 6000),
+        EditOutcome::Replaced,
+        (2, 1, 1),
+    ),
+    (
+        Step::Foliage(Called::Hedge, 100_001),
+        EditOutcome::NoPart,
+        (2, 1, 1),
+    ),
+    (Step::Remove(Called::Lawn), EditOutcome::Replaced, (2, 0, 1)),
+    (Step::Remove(Called::Lawn), EditOutcome::NoName, (2, 0, 1)),
+    (
+        Step::Foliage(Called::Lawn, 1000),
+        EditOutcome::New,
+        (3, 0, 1),
+    ),
+    (Step::Remove(Called::Lawn), EditOutcome::Replaced, (2, 0, 1)),
+];
+
+fn text(called: Called) -> &'static [u8]
+    ensures plain { IsName result.now }
+    ensures any { IsAnyName result.now }
+{
+    match called {
+        Called::Wood => b"wood",
+        Called::Hedge => b"hedge",
+        Called::Lawn => b"lawn",
+        Called::House => b"house",
+    }
+}
+
+fn name(alloc: Global, called: Called) -> Result<PlainName, AllocError> {
+    Ok(PlainName::from_vec(text(called).to_vec(alloc)?))
+}
+
+fn foliage(alloc: Global, name: PlainName, h: i64) -> Result<RawPart, AllocError> {
+    let points = corners(alloc)?;
+    Ok(RawPart::Foliage { name, points, h })
+}
+
+fn building(alloc: Global, name: PlainName) -> Result<RawPart, AllocError> {
+    let points = corners(alloc)?;
+    Ok(RawPart::Building {
+        name,
+        points,
+        h: 1,
+        rho: 0,
+    })
+}
+
+fn zone(alloc: Global, name: PlainName) -> Result<RawPart, AllocError> {
+    let points = corners(alloc)?;
+    Ok(RawPart::Zone {
+        name,
+        points,
+        g: 100,
+    })
+}
+
+fn receiver(name: PlainName) -> RawPart {
+    RawPart::Receiver {
+        name,
+        x: 0,
+        y: 0,
+        h: 1,
+    }
+}
+
+fn remove(scene: &mut Scene, alloc: Global, called: Called) -> Result<EditOutcome, AllocError> {
+    let gone = Name::from_vec(text(called).to_vec(alloc)?);
+    Ok(applied(scene, alloc, &Edit::Remove(gone)))
+}
+
+fn take(scene: &mut Scene, alloc: Global, step: Step) -> Result<EditOutcome, AllocError> {
+    let raw = match step {
+        Step::Foliage(called, h) => foliage(alloc, name(alloc, called)?, h)?,
+        Step::Building(called) => building(alloc, name(alloc, called)?)?,
+        Step::Zone(called) => zone(alloc, name(alloc, called)?)?,
+        Step::Receiver(called) => receiver(name(alloc, called)?),
+        Step::Remove(called) => return remove(scene, alloc, called),
+    };
+    Ok(put(scene, alloc, raw))
+}
+
+/// How many foliages, zones and receivers there are.
+fn counted(scene: &Scene) -> (usize, usize, usize) {
+    (
+        scene.foliage().len(),
+        scene.zones().len(),
+        scene.receivers().len(),
+    )
+}
+
+/// Whether the foliage is the wood, which was put again higher, and then the hedge.
+fn are_in_place(scene: &Scene) -> bool {
+    let wood = scene.foliage().first().map(|first| first.h);
+    let hedge = scene.foliage().last().map(|last| last.h);
+    wood == Some(6000) && hedge == Some(2000)
+}
+
+/// Does all edits of the rows, and has each answer and the numbers of parts behind it compared.
+fn edit_all(rt: &impl Abort, alloc: Global, scene: &mut Scene) -> Result<(), Fail> {
+    for (step, outcome, counts) in &ROWS {
+        let answer = take(scene, alloc, *step)?;
+        assert!(rt; answer == *outcome && counted(scene) == *counts);
+    }
+    Ok(())
+}
+
+#[test]
+fn foliage_is_edited_as_told(rt: HostRuntime) -> Result<(), Fail> {
+    let mut scene = Scene::empty(rt.alloc())?;
+    edit_all(&rt, rt.alloc(), &mut scene)?;
+    assert!(rt; are_in_place(&scene));
+    Ok(())
+}
+
+/// The letter of this number.
+fn letter(number: u32) -> u8
+    ensures { is_name_byte result ≡ true }
+{
+    b'a' + (number % 26) as u8
+}
+
+/// Puts a foliage with a name of three letters, another one for each number below 17,576.
+fn put_numbered(scene: &mut Scene, alloc: Global, number: u32) -> Result<EditOutcome, AllocError> {
+    let letters = [letter(number / 676), letter(number / 26), letter(number)];
+    let name = PlainName::from_vec(letters.to_vec(alloc)?);
+    Ok(put(scene, alloc, foliage(alloc, name, 1)?))
+}
+
+/// What the foliage of this number answers: the first 1,024 are new, and the next ones find no room.
+fn answer_of(number: u32) -> EditOutcome {
+    if number < 1024 {
+        EditOutcome::New
+    } else {
+        EditOutcome::Full(Class::Foliage, 1024)
+    }
+}
+
+/// Puts so many, one after another.
+fn fill(rt: &impl Abort, alloc: Global, scene: &mut Scene, count: u32) -> Result<(), Fail> {
+    for number in 0..count {
+        let answer = put_numbered(scene, alloc, number)?;
+        assert!(rt; answer == answer_of(number));
+    }
+    Ok(())
+}
+
+#[test]
+fn foliage_is_full_at_1024(rt: HostRuntime) -> Result<(), Fail> {
+    let mut scene = Scene::empty(rt.alloc())?;
+    fill(&rt, rt.alloc(), &mut scene, 1026)?;
+    let again = put_numbered(&mut scene, rt.alloc(), 1023)?;
+    assert!(rt; again == EditOutcome::Replaced && counted(&scene) == (1024, 0, 0));
+    Ok(())
+}
+
+fn whole_setting(alloc: Global) -> Result<RawPart, AllocError> {
+    Ok(RawPart::Set {
+        reach: Some(1_000_000),
+        g: Some(50),
+        air: Some(Word::from_vec(b"20/70".to_vec(alloc)?)),
+        c0: Some(200),
+        ground: None,
+    })
+}
+
+/// A setting of the method for ground alone, or of nothing.
+fn method(alloc: Global, ground: Option<&'static [u8]>) -> Result<RawPart, AllocError> {
+    let ground = match ground {
+        None => None,
+        Some(word) => Some(Word::from_vec(word.to_vec(alloc)?)),
+    };
+    Ok(RawPart::Set {
+        reach: None,
+        g: None,
+        air: None,
+        c0: None,
+        ground,
+    })
+}
+
+/// Whether all but the method for ground is as the whole setting left it, and the method is this one.
+fn are_set(scene: &Scene, ground: Ground) -> bool {
+    let globals = scene.globals();
+    let others = (globals.reach, globals.g, globals.c0) == (1_000_000, 50, 200);
+    others && globals.air == Air::Celsius20Humidity70 && globals.ground == ground
+}
+
+/// A setting of the method alone, or of nothing, and the method then.
+const METHODS: [(Option<&'static [u8]>, Ground); 4] = [
+    (None, Ground::General),
+    (Some(b"simple"), Ground::Simple),
+    (None, Ground::Simple),
+    (Some(b"general"), Ground::General),
+];
+
+/// Sets all methods in turn, and has the globals behind each compared.
+fn set_all(rt: &impl Abort, alloc: Global, scene: &mut Scene) -> Result<(), Fail> {
+    for (word, ground) in &METHODS {
+        put(scene, alloc, method(alloc, *word)?);
+        assert!(rt; are_set(scene, *ground));
+    }
+    Ok(())
+}
+
+#[test]
+fn method_for_ground_is_set_alone(rt: HostRuntime) -> Result<(), Fail> {
+    let mut scene = Scene::empty(rt.alloc())?;
+    put(&mut scene, rt.alloc(), whole_setting(rt.alloc())?);
+    set_all(&rt, rt.alloc(), &mut scene)
+}
