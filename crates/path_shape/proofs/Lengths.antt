@@ -25,7 +25,7 @@ use Rattle.scene_geom.specs.Reflection.{CanReflect, squared_length, off_wall, al
 use Rattle.scene_geom.proofs.Walls.{unfolded-fits, over-n}
 use Rattle.path_shape.specs.declared.legs.Legs.{Legs}
 use Rattle.path_shape.specs.declared.legs.Legs.TheVariants.{One, Two}
-use Rattle.path_shape.specs.Shape.{squared, plan_square, plan_length, reflected_length, LegsFit, IsLength, IsZeroOrMore, PathsHaveLengths}
+use Rattle.path_shape.specs.Shape.{squared, plan_square, plan_length, reflected_length, LegsFit, IsLength, IsZeroOrMore, PathsHaveLengths, plan_square_form, square_form, IsPlanSquare}
 
 squared-within : (n : ℕ) → n ≤ 8000000 → squared n ≤ 64000000000000
 unfolding squared
@@ -63,7 +63,7 @@ ceil-is : (n q : ℕ) → 0 < q → ceil_of (pos n *ℤ pos unit) q ≡ pos (div
 unfolding units_of
 ceil-is n q h = ceil_of-pos (pos n *ℤ pos unit) q h (rw (units-is n) (omega (arith, ints)))
 
-div_ceil-within : (a q k : ℕ) → 0 < q → a ≤ k * q → div_ceil a q ≤ k
+pub div_ceil-within : (a q k : ℕ) → 0 < q → a ≤ k * q → div_ceil a q ≤ k
 div_ceil-within a q k some h = by_size (cases_lt (div_ceil a q) (k + 1)) where
   by_size : (div_ceil a q < k + 1) ⊎ (k + 1 ≤ div_ceil a q) → div_ceil a q ≤ k
   by_size (inl e) = omega arith
@@ -135,6 +135,31 @@ root-found n q some few small =
 
 divisor-some : (square : Frac) → 0 < unsigned_abs square.d * 1000000
 divisor-some square = omega (arith, ints, square.positive)
+
+-- a fraction of square metres
+square-close : (n q : ℕ) → 0 < q → n ≤ 640000000 * q → n < 2 ^ 94 → IsPlanSquare (ratio_of (pos n) q)
+square-close n q some few small =
+    let e = ends n q some few small in
+    record {
+      bounds = record {
+        lo = rw e.low_is (omega (arith, ints), omega (arith, ints, e.ordered, e.small));
+        hi = rw e.high_is (omega (arith, ints), omega (arith, ints, e.small));
+      };
+      close = rw (e.low_is, e.high_is) (omega (arith, ints, e.ordered), omega (arith, ints, e.close));
+    }
+
+pub direct-square : (s r : Pt) → IsPlanSquare (enc (plan_square_form s r))
+direct-square s r = let few = plan_square-within s r in square-close (plan_square s r) 1000000 (omega arith) (omega (arith, few)) (omega (arith, few))
+
+pub reflected-square : (side : Side) (s r : Pt) → CanReflect side s r → IsPlanSquare (enc (square_form (unfolded_square side s r)))
+reflected-square side s r h =
+    let fits = unfolded-fits side s r h in
+    let square = unfolded_square side s r in
+    let n = (off_wall side s + off_wall side r) ^ 2 + along_wall side s r ^ 2 in
+    let above : square.n ≡ pos n = over-n (pos n) (squared_length side) in
+    let same = ap unsigned_abs above in
+    subst (λ (k : ℤ). IsPlanSquare (enc (Const k (unsigned_abs square.d * 1000000)))) (sym above)
+    (square-close n (unsigned_abs square.d * 1000000) (divisor-some square) (omega (arith, same, fits.square)) (omega (arith, same, fits.square, fits.wall)))
 
 direct-found : (s r : Pt) → Found (enc (plan_length s r))
 direct-found s r = let few = plan_square-within s r in root-found (plan_square s r) 1000000 (omega arith) (omega (arith, few)) (omega (arith, few))

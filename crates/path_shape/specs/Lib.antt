@@ -1,1 +1,4 @@
+pub mod Forms
+pub mod Outlines
 pub mod Shape
+pub mod Stretches

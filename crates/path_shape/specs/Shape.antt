@@ -24,13 +24,21 @@ squared n = n * n
 abbrev pub plan_square : Pt → Pt → ℕ
 plan_square s r = squared (unsigned_abs (from_to s r).x) + squared (unsigned_abs (from_to s r).y)
 
+-- the same in m², as a formula
+abbrev pub plan_square_form : Pt → Pt → Tree
+plan_square_form s r = Const (pos (plan_square s r)) 1000000
+
 -- the length of the direct path in plan, in metres (d_p of ISO 9613-2, 7.3.1)
 abbrev pub plan_length : Pt → Pt → Tree
-plan_length s r = Root (Const (pos (plan_square s r)) 1000000)
+plan_length s r = Root (plan_square_form s r)
+
+-- a fraction of mm², in m²
+abbrev pub square_form : Frac → Tree
+square_form square = Const square.n (unsigned_abs square.d * 1000000)
 
 -- the length in metres whose square is a fraction of mm²
 abbrev pub length_of : Frac → Tree
-length_of square = Root (Const square.n (unsigned_abs square.d * 1000000))
+length_of square = Root (square_form square)
 
 -- the length of the path by way of a side of a wall, in plan, in metres
 abbrev pub reflected_length : Side → Pt → Pt → Tree
@@ -82,6 +90,19 @@ pub record IsLength (dp : Interval) : Type 0 where
 abbrev pub IsZeroOrMore : Interval → Type 0
 IsZeroOrMore dp = (dp ≡ record { lo = Some (pos 0); hi = Some (pos 0) }) ⊎ IsSomeAnd dp.lo (λ low. pos (2 ^ 22) ≤ℤ low)
 
+-- the square of a plan length: from 0 m² to 2^30 m², with ends at most 2^-32 m² apart
+pub record IsPlanSquare (q : Interval) : Type 0 where
+  pub bounds : AreBetween (pos 0) (pos (2 ^ 62)) q
+  pub close : IsSomeAnd q.lo (λ low. IsSomeAnd q.hi (λ high. (low ≤ℤ high) × (high ≤ℤ (low +ℤ pos 1))))
+
 -- each path has such a length
 abbrev pub PathsHaveLengths : Type 0
 PathsHaveLengths = (path : Path) → IsPath path → IsLength path.dp
+
+-- and the square of each is such a square, of the direct path and of one by way of a wall
+abbrev pub DirectSquares : Type 0
+DirectSquares = (s r : Pt) → IsPlanSquare (enc (plan_square_form s r))
+
+abbrev pub ReflectedSquares : Type 0
+ReflectedSquares = (side : Side) (s r : Pt) → CanReflect side s r
+    → IsPlanSquare (enc (square_form (unfolded_square side s r)))

@@ -16,7 +16,7 @@ use Rattle.fix_interval.specs.Values.{ratio_of}
 use Rattle.fix_interval.proofs.Ratios.{passed}
 use Rattle.fix_interval.proofs.Rounding.{ceil_of-pos}
 use Rattle.term_ground.specs.Ground.{minus_one_and_a_half, one_and_a_half}
-use Rattle.term_ground.specs.Lengths.{one_form}
+use Rattle.path_shape.specs.Forms.{one_form}
 use Rattle.fix_interval.proofs.Spans.{unit-pos}
 
 abbrev ends : ℕ → ℕ → Interval

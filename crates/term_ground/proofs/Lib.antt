@@ -1,5 +1,4 @@
 pub mod Factors
-pub mod Eight
 pub mod Decaying
 pub mod Same
 pub mod TermBounds
@@ -7,3 +6,4 @@ pub mod Walking
 pub mod Routing
 pub mod Sound
 pub mod Shares
+pub mod SimpleMethod

@@ -13,12 +13,13 @@ use Rattle.path_shape.specs.declared.legs.Legs.TheVariants.{One, Two}
 use Rattle.path_shape.specs.declared.path.Path.{Path}
 use Rattle.term_ground.specs.declared.leg.Leg.{Leg}
 use Rattle.term_ground.specs.declared.leg.Route.{Route}
-use Rattle.term_ground.specs.declared.stretch.Stretch.{Stretch}
+use Rattle.path_shape.specs.declared.stretch.Stretch.{Stretch}
 use Rattle.term_ground.specs.declared.stretch.Stretches.{Stretches}
-use Rattle.term_ground.specs.Lengths.{zero_form, one_form}
-use Rattle.term_ground.specs.Zones.{place_form, length_inside, length_on_legs, meets_legs}
-use Rattle.term_ground.specs.Walks.{of_stretches, each_stretch, on_first_leg, on_second_leg, IsLeg, HasLegs, IsRoute, lengths_on_leg, lengths_on_path, joined_lengths}
-use Rattle.term_ground.proofs.Same.{same-length_inside}
+use Rattle.path_shape.specs.Forms.{zero_form, one_form}
+use Rattle.path_shape.specs.Outlines.{place_form, length_inside, length_on_legs, meets_legs}
+use Rattle.path_shape.specs.Stretches.{on_first_leg, on_second_leg}
+use Rattle.term_ground.specs.Walks.{of_stretches, each_stretch, IsLeg, HasLegs, IsRoute, lengths_on_leg, lengths_on_path, joined_lengths}
+use Rattle.path_shape.proofs.Outlines.{same-length_inside}
 
 leg-is : (outline : List Pt) (leg : Leg) (start : Pt) (dir : Dir) (end : Frac) (stretches : Stretches) → IsLeg leg start dir end stretches
     → lengths_on_leg outline leg

@@ -1,89 +1,21 @@
 -- Formulas with the same intervals in them have the same interval.
-use Rattle.std.proofs.Common.{◌≡◌, ℕ, refl, sym, ap, ◌∙◌, Bool, true, false, List, [], ◌∷◌}
-use Rattle.std.specs.Prelude.{map, if◌then◌else◌, pos, int_lt}
+use Rattle.std.proofs.Common.{◌≡◌, ℕ, refl, List}
+use Rattle.std.specs.Prelude.{map}
 use Rattle.fix_interval.specs.Interval.{Interval}
-use Rattle.fix_interval.specs.Tree.{Tree, Known, Add, Neg, Max, Min, Pick, Sub, enc}
-use Rattle.fix_interval.specs.Values.{add_of}
-use Rattle.scene_geom.specs.declared.plan.Pt.{Pt}
-use Rattle.scene_geom.specs.declared.fraction.Frac.{Frac}
-use Rattle.scene_geom.specs.declared.direction.Dir.{Dir}
-use Rattle.scene_geom.specs.declared.crossing.Passage.{Passage}
-use Rattle.scene_geom.specs.Fraction.{rest_of}
-use Rattle.scene_geom.specs.Outline.{passages_of, ring, area2_of, meets_of}
+use Rattle.fix_interval.specs.Tree.{Tree, Known, Max, Min, Pick, enc}
 use Rattle.scene_parts.specs.Views.{Zone}
-use Rattle.path_shape.specs.declared.legs.Legs.{Legs}
-use Rattle.path_shape.specs.declared.legs.Legs.TheVariants.{One, Two}
 use Rattle.path_shape.specs.declared.path.Path.{Path}
-use Rattle.term_ground.specs.declared.stretch.Stretch.{Stretch}
-use Rattle.term_ground.specs.Lengths.{zero_form, one_form, factor, plus_all}
-use Rattle.term_ground.specs.Zones.{before, signed, counted, left_of_sides, length_inside, length_on_leg, length_on_legs, met_zones, place_form}
+use Rattle.path_shape.specs.declared.stretch.Stretch.{Stretch}
+use Rattle.path_shape.specs.Forms.{zero_form, one_form}
+use Rattle.term_ground.specs.Lengths.{factor}
+use Rattle.term_ground.specs.Zones.{met_zones}
+use Rattle.path_shape.proofs.Sums.{same-plus_all}
+use Rattle.path_shape.proofs.Outlines.{same-length_on_legs}
 use Rattle.term_ground.specs.Regions.{region_start, region_end, zone_term, stretch_share, share_of}
 use Rattle.term_ground.specs.Walks.{known_term, summed}
 use Rattle.term_ground.specs.declared.region.Region.{Region}
 use Rattle.term_ground.specs.declared.region.Region.TheVariants.{Source, Middle, Receiver}
 use Rattle.term_ground.specs.Ground.{near_growth, far_growth, middle_part, ground}
-
--- the sum of a known total and known terms
-sum_of : Interval → List Interval → Interval
-sum_of total [] = total
-sum_of total (term ∷ terms) = sum_of (add_of total term) terms
-
-enc-plus_all : (total : Tree) (terms : List Tree) → enc (plus_all total terms) ≡ sum_of (enc total) (map enc terms)
-unfolding sum_of
-enc-plus_all total [] = refl
-enc-plus_all total (term ∷ terms) = enc-plus_all (Add total term) terms
-
-same-map : {X : Type 0} (f g : X → Tree) → ((x : X) → enc (f x) ≡ enc (g x)) → (xs : List X) → map enc (map f xs) ≡ map enc (map g xs)
-same-map f g same [] = refl
-same-map f g same (x ∷ xs) = rw (same x, same-map f g same xs)
-
-same-plus_all : {X : Type 0} (total total' : Tree) (f g : X → Tree) → enc total ≡ enc total' → ((x : X) → enc (f x) ≡ enc (g x)) → (xs : List X)
-    → enc (plus_all total (map f xs)) ≡ enc (plus_all total' (map g xs))
-same-plus_all total total' f g e same xs =
-    enc-plus_all total (map f xs)
-    ∙ ap (λ (i : Interval). sum_of i (map enc (map f xs))) e
-    ∙ ap (sum_of (enc total')) (same-map f g same xs)
-    ∙ sym (enc-plus_all total' (map g xs))
-
-same-before : (place : Frac) (a a' b b' : Tree) → enc a ≡ enc a' → enc b ≡ enc b' → enc (before place a b) ≡ enc (before place a' b')
-same-before place a a' b b' e f = rw (e, f)
-
-same-signed : (to_left : Bool) (part part' : Tree) → enc part ≡ enc part' → enc (signed to_left part) ≡ enc (signed to_left part')
-same-signed true part part' e = e
-same-signed false part part' e = rw e
-
-same-left_of_sides : (passages : List Passage) (a a' b b' : Tree) → enc a ≡ enc a' → enc b ≡ enc b' → enc (left_of_sides passages a b) ≡ enc (left_of_sides passages a' b')
-same-left_of_sides passages a a' b b' e f =
-    same-plus_all zero_form zero_form (counted a b) (counted a' b') refl
-    (λ passage. same-signed passage.to_left (before passage.place a b) (before passage.place a' b') (same-before passage.place a a' b b' e f)) passages
-
-same-turned : (negative : Bool) (t t' : Tree) → enc t ≡ enc t' → enc (if negative then Neg t else t) ≡ enc (if negative then Neg t' else t')
-same-turned true t t' e = rw e
-same-turned false t t' e = e
-
-pub same-length_inside : (outline : List Pt) (from : Pt) (dir : Dir) (a a' b b' : Tree) → enc a ≡ enc a' → enc b ≡ enc b'
-    → enc (length_inside outline from dir a b) ≡ enc (length_inside outline from dir a' b')
-same-length_inside outline from dir a a' b b' e f =
-    same-turned (int_lt (area2_of outline) (pos 0)) (left_of_sides (passages_of (ring outline) from dir) a b) (left_of_sides (passages_of (ring outline) from dir) a' b')
-    (same-left_of_sides (passages_of (ring outline) from dir) a a' b b' e f)
-
-same-on_leg : (met : Bool) (t t' : Tree) → enc t ≡ enc t' → enc (if met then t else zero_form) ≡ enc (if met then t' else zero_form)
-same-on_leg true t t' e = e
-same-on_leg false t t' e = refl
-
-same-length_on_leg : (outline : List Pt) (from : Pt) (dir : Dir) (end : Frac) (a a' b b' : Tree) → enc a ≡ enc a' → enc b ≡ enc b'
-    → enc (length_on_leg outline from dir end a b) ≡ enc (length_on_leg outline from dir end a' b')
-same-length_on_leg outline from dir end a a' b b' e f =
-    same-on_leg (meets_of outline from dir end) (length_inside outline from dir a b) (length_inside outline from dir a' b') (same-length_inside outline from dir a a' b b' e f)
-
-same-length_on_legs : (legs : Legs) (s r : Pt) (outline : List Pt) (a a' b b' : Tree) → enc a ≡ enc a' → enc b ≡ enc b'
-    → enc (length_on_legs legs s r outline a b) ≡ enc (length_on_legs legs s r outline a' b')
-same-length_on_legs (One dir) s r outline a a' b b' e f = same-length_inside outline s dir a a' b b' e f
-same-length_on_legs (Two first second p) s r outline a a' b b' e f =
-    rw (
-      same-length_on_leg outline s first p a a' (Min b (place_form p)) (Min b' (place_form p)) e (rw f),
-      same-length_on_leg outline r second (rest_of p) (Sub one_form b) (Sub one_form b') (Min (Sub one_form a) (place_form (rest_of p))) (Min (Sub one_form a') (place_form (rest_of p))) (rw f) (rw e),
-    )
 
 -- the terms of zones, with what the code knows in the place of the formulas of g0, u0 and u1
 same-term : (g0 : ℕ) (path : Path) (u0 u1 : Tree) (outside : Interval) (stretch : Stretch) → outside ≡ enc (factor g0) → stretch.from ≡ enc u0 → stretch.to ≡ enc u1

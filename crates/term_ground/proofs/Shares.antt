@@ -9,7 +9,7 @@ use Rattle.fix_interval.specs.Values.{ratio_of, max_of, min_of, hull_of, pick_of
 use Rattle.fix_interval.specs.declared.truth.Truth.{Truth}
 use Rattle.fix_interval.specs.declared.truth.Truth.TheVariants.{Sure, Never, Unsure}
 use Rattle.term_ground.specs.declared.region.Region.{Region}
-use Rattle.term_ground.specs.Lengths.{zero_form, one_form}
+use Rattle.path_shape.specs.Forms.{zero_form, one_form}
 use Rattle.term_ground.specs.Regions.{region_from, known_share}
 use Rattle.term_ground.proofs.TermBounds.{factor-within}
 use Rattle.fix_interval.specs.Interval.{Interval}

@@ -1,68 +1,18 @@
 -- The formulas of the ground are sound: no divisor of a constant is 0.
-use Rattle.std.proofs.Common.{ℕ, arith, Bool, true, false, List, [], ◌∷◌}
-use Rattle.std.specs.Prelude.{map, pos, int_lt, if◌then◌else◌}
+use Rattle.std.proofs.Common.{ℕ, arith, List}
 use Rattle.std.specs.List.{All}
-use Rattle.std.proofs.lemmas.Int.{ints}
-use Rattle.fix_interval.specs.Tree.{Tree, Add, Sub, Neg, Min, IsSound}
-use Rattle.scene_geom.specs.declared.plan.Pt.{Pt}
-use Rattle.scene_geom.specs.declared.fraction.Frac.{Frac}
-use Rattle.scene_geom.specs.declared.direction.Dir.{Dir}
-use Rattle.scene_geom.specs.declared.crossing.Passage.{Passage}
-use Rattle.scene_geom.specs.Fraction.{rest_of}
-use Rattle.scene_geom.specs.Outline.{ring, area2_of, passages_of, meets_of}
+use Rattle.fix_interval.specs.Tree.{Tree, Add, IsSound}
 use Rattle.scene_parts.specs.Views.{Zone}
-use Rattle.path_shape.specs.declared.legs.Legs.{Legs}
-use Rattle.path_shape.specs.declared.legs.Legs.TheVariants.{One, Two}
 use Rattle.path_shape.specs.declared.path.Path.{Path}
 use Rattle.term_ground.specs.declared.region.Region.{Region}
 use Rattle.term_ground.specs.declared.region.Region.TheVariants.{Source, Middle, Receiver}
-use Rattle.term_ground.specs.Lengths.{zero_form, one_form, factor, plus_all}
-use Rattle.term_ground.specs.Zones.{place_form, before, signed, counted, left_of_sides, length_inside, met_zones, length_on_leg, length_on_legs}
+use Rattle.term_ground.specs.Lengths.{factor}
+use Rattle.term_ground.specs.Zones.{met_zones}
+use Rattle.path_shape.proofs.Sums.{sound-sum}
+use Rattle.path_shape.proofs.Outlines.{sound-length_on_legs}
 use Rattle.term_ground.specs.Regions.{region_start, region_end, region_from, zone_term, stretch_share, share_of}
-use Rattle.term_ground.proofs.Eight.{all_eight}
+use Rattle.path_shape.proofs.Eight.{all_eight}
 use Rattle.term_ground.specs.Ground.{near_growth, far_growth, decay_at_125, far_decay_at_125, decay_at_250, decay_at_500, decay_at_1000, a_prime, b_prime, c_prime, d_prime, end_region_below_2khz, end_region_from_2khz, minus_one_and_a_half, middle_part, middle_at_63, middle_above, ground}
-
-sound-sum : {X : Type 0} (f : X → Tree) → ((x : X) → IsSound (f x)) → (total : Tree) → IsSound total → (xs : List X) → IsSound (plus_all total (map f xs))
-sound-sum f each total h [] = h
-sound-sum f each total h (x ∷ xs) = sound-sum f each (Add total (f x)) (h, each x) xs
-
--- ---- zones
-
-sound-place : (place : Frac) → IsSound (place_form place)
-sound-place place = omega (arith, ints, place.positive)
-
-sound-before : (place : Frac) (a b : Tree) → IsSound a → IsSound b → IsSound (before place a b)
-sound-before place a b h k = (omega arith, ((sound-place place, k), h))
-
-sound-signed : (to_left : Bool) (part : Tree) → IsSound part → IsSound (signed to_left part)
-sound-signed true part h = h
-sound-signed false part h = h
-
-sound-left_of_sides : (passages : List Passage) (a b : Tree) → IsSound a → IsSound b → IsSound (left_of_sides passages a b)
-sound-left_of_sides passages a b h k =
-    sound-sum (counted a b) (λ passage. sound-signed passage.to_left (before passage.place a b) (sound-before passage.place a b h k)) zero_form (omega arith) passages
-
-sound-turned : (negative : Bool) (t : Tree) → IsSound t → IsSound (if negative then Neg t else t)
-sound-turned true t h = h
-sound-turned false t h = h
-
-sound-length_inside : (outline : List Pt) (from : Pt) (dir : Dir) (a b : Tree) → IsSound a → IsSound b → IsSound (length_inside outline from dir a b)
-sound-length_inside outline from dir a b h k =
-    sound-turned (int_lt (area2_of outline) (pos 0)) (left_of_sides (passages_of (ring outline) from dir) a b) (sound-left_of_sides (passages_of (ring outline) from dir) a b h k)
-
-sound-met : (met : Bool) (t : Tree) → IsSound t → IsSound (if met then t else zero_form)
-sound-met true t h = h
-sound-met false t h = omega arith
-
-sound-length_on_leg : (outline : List Pt) (from : Pt) (dir : Dir) (end : Frac) (a b : Tree) → IsSound a → IsSound b → IsSound (length_on_leg outline from dir end a b)
-sound-length_on_leg outline from dir end a b h k = sound-met (meets_of outline from dir end) (length_inside outline from dir a b) (sound-length_inside outline from dir a b h k)
-
-sound-length_on_legs : (legs : Legs) (s r : Pt) (outline : List Pt) (a b : Tree) → IsSound a → IsSound b → IsSound (length_on_legs legs s r outline a b)
-sound-length_on_legs (One dir) s r outline a b h k = sound-length_inside outline s dir a b h k
-sound-length_on_legs (Two first second p) s r outline a b h k = (
-  sound-length_on_leg outline s first p a (Min b (place_form p)) h (k, sound-place p),
-  sound-length_on_leg outline r second (rest_of p) (Sub one_form b) (Min (Sub one_form a) (place_form (rest_of p))) (omega arith, k) ((omega arith, h), sound-place (rest_of p)),
-)
 
 -- ---- shares
 

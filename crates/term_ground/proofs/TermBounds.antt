@@ -16,19 +16,19 @@ use Rattle.fix_interval.specs.Tree.{Tree, Known, Const, Add, Mul, ExpNeg, enc}
 use Rattle.fix_interval.specs.declared.truth.Truth.TheVariants.{Never}
 use Rattle.fix_interval.proofs.Ratios.{ratio_of-small}
 use Rattle.fix_interval.proofs.Rounding.{ceil_of-mono, ceil_of-pos, floor_of-le-ceil_of}
-use Rattle.std.proofs.lemmas.Grind.{div_ceil_times}
 use Rattle.fix_interval.proofs.Ranging.{LiesIn-All}
 use Rattle.fix_interval.proofs.RangedFormulas.{between, part-between}
 use Rattle.fix_interval.proofs.Dividing.{≤ℤ_trans}
 use Rattle.enclose_exp.proofs.PowerRanges.{decay-ranged}
 use Rattle.scene_parts.specs.Views.{Zone}
 use Rattle.path_shape.specs.declared.path.Path.{Path}
-use Rattle.path_shape.proofs.Lengths.{Found, path-found}
+use Rattle.path_shape.proofs.Lengths.{Found, path-found, div_ceil-within}
 use Rattle.path_shape.specs.Shape.{IsPath}
-use Rattle.term_ground.proofs.Eight.{all_eight}
+use Rattle.path_shape.proofs.Eight.{all_eight}
 use Rattle.term_ground.specs.declared.region.Region.{Region}
 use Rattle.term_ground.specs.declared.region.Region.TheVariants.{Source, Middle, Receiver}
-use Rattle.term_ground.specs.Lengths.{zero_form, factor}
+use Rattle.path_shape.specs.Forms.{zero_form}
+use Rattle.term_ground.specs.Lengths.{factor}
 use Rattle.term_ground.specs.Limits.{HasHeights, least_ground, most_ground}
 use Rattle.term_ground.specs.Regions.{middle_from, share_of}
 use Rattle.term_ground.specs.Ground.{one_and_a_half, near_growth, far_growth, decay_at_125, far_decay_at_125, decay_at_250, decay_at_500, decay_at_1000, a_prime, b_prime, c_prime, d_prime, end_region_below_2khz, end_region_from_2khz, minus_one_and_a_half, middle_part, middle_at_63, middle_above, ground}
@@ -56,15 +56,18 @@ parts = Known (from_to (neg_ℤ (pos (2 ^ 56))) (pos (2 ^ 32)))
 
 -- ---- ground factors
 
-pub factor-within : (g0 top : ℕ) → g0 ≤ 100 * top → g0 < 2 ^ 64 → AreBetween (pos 0) (pos (top * 2 ^ 32)) (ratio_of (pos g0) 100)
-factor-within g0 top h small =
-    let floor : pos 0 ≤ℤ floor_of (pos g0 *ℤ pos unit) 100 = omega (arith, ints) in
-    let order = floor_of-le-ceil_of (pos g0 *ℤ pos unit) 100 (omega arith) in
-    let whole : ceil_of (pos (100 * (top * 2 ^ 32))) 100 ≤ℤ pos (top * 2 ^ 32) =
-    rw (ceil_of-pos (pos (100 * (top * 2 ^ 32))) 100 (omega arith) (omega (arith, ints))) (omega (arith, ints, (div_ceil_times (100 * (top * 2 ^ 32)) 100 (omega arith)).1)) in
-    let most = ≤ℤ_trans _ _ _ (ceil_of-mono (pos g0 *ℤ pos unit) (pos (100 * (top * 2 ^ 32))) 100 (omega arith) (rw unit-is (omega (arith, ints)))) whole in
-    rw (ratio_of-small (pos g0) 100 (omega arith))
+-- a fraction p / q of at most so many units
+pub ratio-within : (p q top : ℕ) → 0 < q → p * 2 ^ 32 ≤ top * q → p < 2 ^ 64 → AreBetween (pos 0) (pos top) (ratio_of (pos p) q)
+ratio-within p q top some h small =
+    let floor : pos 0 ≤ℤ floor_of (pos p *ℤ pos unit) q = omega (arith, ints) in
+    let order = floor_of-le-ceil_of (pos p *ℤ pos unit) q some in
+    let most : ceil_of (pos p *ℤ pos unit) q ≤ℤ pos top =
+    rw (ceil_of-pos (pos p *ℤ pos unit) q some (omega (arith, ints))) (omega (arith, ints, div_ceil-within (p * unit) q top some (rw unit-is h))) in
+    rw (ratio_of-small (pos p) q (omega arith))
     (record { lo = (floor, ≤ℤ_trans _ _ _ order most); hi = (≤ℤ_trans _ _ _ floor order, most) })
+
+pub factor-within : (g0 top : ℕ) → g0 ≤ 100 * top → g0 < 2 ^ 64 → AreBetween (pos 0) (pos (top * 2 ^ 32)) (ratio_of (pos g0) 100)
+factor-within g0 top h small = ratio-within g0 100 (top * 2 ^ 32) (omega arith) (omega (arith, h)) small
 
 pub share-between : (region : Region) (zones : List Zone) (g0 : ℕ) (path : Path) (dp : Tree) → g0 ≤ 100 → AreBetween (pos 0) (pos (2 ^ 32)) (enc (share_of region zones g0 path dp))
 unfolding share_of unit ratio_of max_of min_of hull_of

@@ -1,32 +1,29 @@
--- Sums found zone by zone and side by side.
+-- Sums found zone by zone, and lengths passage by passage.
 use Rattle.std.proofs.Common.{◌≡◌, ℕ, suc, ◌+◌, ◌<◌, refl, sym, ap, ◌∙◌, Bool, true, false, List, [], ◌∷◌, length, get_or, drop, drop-cons, add-one}
-use Rattle.std.specs.Prelude.{Option, None, Some, map, if◌then◌else◌, pos, int_lt}
-use Rattle.std.specs.List.{cons_option}
-use Rattle.std.specs.Option.{option_to_list}
+use Rattle.std.specs.Prelude.{map, if◌then◌else◌, pos, int_lt}
+use Rattle.std.specs.List.{FoldsTo, fold}
 use Rattle.fix_interval.specs.Interval.{Interval}
 use Rattle.fix_interval.specs.Tree.{Tree, Known, Add, enc}
 use Rattle.fix_interval.specs.Values.{add_of, neg_of, sub_of, mul_of, div_of}
 use Rattle.scene_geom.specs.declared.plan.Pt.{Pt}
-use Rattle.scene_geom.specs.declared.plan.Side.{Side}
 use Rattle.scene_geom.specs.declared.direction.Dir.{Dir}
 use Rattle.scene_geom.specs.declared.crossing.Passage.{Passage}
-use Rattle.scene_geom.specs.Crossing.{passage_of}
 use Rattle.scene_geom.specs.Outline.{passages_of, ring, area2_of, meets_of}
+use Rattle.path_shape.proofs.Folding.{folds-as}
+use Rattle.path_shape.proofs.Sums.{plus_all-known}
+use Rattle.path_shape.proofs.Walking.{inside-turned, inside-straight}
 use Rattle.scene_parts.specs.Views.{Zone}
 use Rattle.path_shape.specs.declared.legs.Legs.TheVariants.{One}
 use Rattle.path_shape.specs.declared.path.Path.{Path}
-use Rattle.term_ground.specs.declared.stretch.Stretch.{Stretch}
+use Rattle.path_shape.specs.declared.stretch.Stretch.{Stretch}
 use Rattle.term_ground.specs.declared.stretch.Stretches.{Stretches}
 use Rattle.term_ground.specs.declared.stretch.Regional.{Regional}
-use Rattle.term_ground.specs.Lengths.{zero_form, factor, plus_all}
-use Rattle.term_ground.specs.Zones.{counted, length_inside, meets_legs, met_zones, whole}
-use Rattle.term_ground.specs.Walks.{of_stretches, nothing, advanced, walked, walked_sides, known_term, summed}
-
--- a sum goes on from what is known of it
-pub plus_all-known : (total : Tree) (terms : List Tree) → enc (plus_all total terms) ≡ enc (plus_all (Known (enc total)) terms)
-plus_all-known total [] = refl
-plus_all-known total (term ∷ terms) =
-    plus_all-known (Add total term) terms ∙ sym (plus_all-known (Add (Known (enc total)) term) terms)
+use Rattle.path_shape.specs.Forms.{plus_all}
+use Rattle.term_ground.specs.Lengths.{factor}
+use Rattle.path_shape.specs.Outlines.{counted, length_inside, meets_legs, whole}
+use Rattle.term_ground.specs.Zones.{met_zones}
+use Rattle.path_shape.specs.Stretches.{walked}
+use Rattle.term_ground.specs.Walks.{of_stretches, lengths_along, nothing, advanced, known_term, summed}
 
 advanced-step : (first rest all : Interval → Stretch → Interval) → ((quantity : Interval) (stretch : Stretch) → all quantity stretch ≡ rest (first quantity stretch) stretch)
     → (quantities : Regional) (stretches : Stretches) → advanced all quantities stretches ≡ advanced rest (advanced first quantities stretches) stretches
@@ -36,55 +33,36 @@ advanced-step first rest all step quantities stretches =
 pub drop-step : {X : Type 0} (x : X) (xs : List X) (i : ℕ) → x ≡ get_or xs i x → i < length xs → drop i xs ≡ x ∷ drop (i + 1) xs
 drop-step {X = X} x xs i e h = rw (drop-cons xs i x, add-one) (ap (λ (y : X). y ∷ drop (suc i) xs) (sym e))
 
--- ---- sides
+-- ---- passages
 
-walked-hit : (hit : Option Passage) (passages : List Passage) (length : Interval) (stretch : Stretch)
-    → walked (cons_option hit passages) length stretch ≡ walked passages (walked (option_to_list hit) length stretch) stretch
-walked-hit None passages length stretch = refl
-walked-hit (Some passage) passages length stretch =
-    plus_all-known (Add (Known length) (counted (Known stretch.from) (Known stretch.to) passage)) (map (counted (Known stretch.from) (Known stretch.to)) passages)
+-- passages that are counted one after another
+fold-advanced : (passages : List Passage) (lengths : Regional) (stretches : Stretches)
+    → fold (λ l passage. advanced (walked (passage ∷ [])) l stretches) lengths passages ≡ advanced (walked passages) lengths stretches
+fold-advanced [] lengths stretches = refl
+fold-advanced (passage ∷ passages) lengths stretches =
+    fold-advanced passages (advanced (walked (passage ∷ [])) lengths stretches) stretches
+    ∙ sym (advanced-step (walked (passage ∷ [])) (walked passages) (walked (passage ∷ passages))
+    (λ length stretch. plus_all-known (Add (Known length) (counted (Known stretch.from) (Known stretch.to) passage)) (map (counted (Known stretch.from) (Known stretch.to)) passages)) lengths stretches)
 
-pub sides-next : (side : Side) (sides sides' : List Side) (from : Pt) (dir : Dir) (lengths lengths' total : Regional) (stretches : Stretches)
-    → sides ≡ side ∷ sides' → lengths' ≡ advanced (walked (option_to_list (passage_of side from dir))) lengths stretches
-    → advanced (walked_sides sides from dir) lengths stretches ≡ total → advanced (walked_sides sides' from dir) lengths' stretches ≡ total
-sides-next side sides sides' from dir lengths lengths' total stretches e f g =
-    ap (λ (l : Regional). advanced (walked_sides sides' from dir) l stretches) f
-    ∙ sym (advanced-step (walked (option_to_list (passage_of side from dir))) (walked_sides sides' from dir) (walked_sides (side ∷ sides') from dir)
-    (λ length stretch. walked-hit (passage_of side from dir) (passages_of sides' from dir) length stretch) lengths stretches)
-    ∙ ap (λ (s : List Side). advanced (walked_sides s from dir) lengths stretches) (sym e)
-    ∙ g
+-- a fold of which each step counts a passage
+module _ (R : Regional → Passage → Regional → Type 0) (stretches : Stretches) (outline : List Pt) (from : Pt) (dir : Dir) (start lengths : Regional)
+    (folds : FoldsTo R start (passages_of (ring outline) from dir) lengths) (is-nothing : start ≡ nothing)
+    (each : (l : Regional) (passage : Passage) (k : Regional) → R l passage k → k ≡ advanced (walked (passage ∷ [])) l stretches) where
+  walks : lengths ≡ advanced (walked (passages_of (ring outline) from dir)) nothing stretches
+  walks =
+      folds-as R (λ l passage. advanced (walked (passage ∷ [])) l stretches) each (passages_of (ring outline) from dir) start lengths folds
+      ∙ fold-advanced (passages_of (ring outline) from dir) start stretches
+      ∙ ap (λ (l : Regional). advanced (walked (passages_of (ring outline) from dir)) l stretches) is-nothing
 
-pub sides-end : (side : Side) (sides : List Side) (from : Pt) (dir : Dir) (lengths lengths' total : Regional) (stretches : Stretches)
-    → sides ≡ side ∷ [] → lengths' ≡ advanced (walked (option_to_list (passage_of side from dir))) lengths stretches
-    → advanced (walked_sides sides from dir) lengths stretches ≡ total → lengths' ≡ total
-sides-end side sides from dir lengths lengths' total stretches e f g = sides-next side sides [] from dir lengths lengths' total stretches e f g
+  pub lengths-turned : int_lt (area2_of outline) (pos 0) ≡ true
+      → record { source = neg_of lengths.source; middle = neg_of lengths.middle; receiver = neg_of lengths.receiver } ≡ lengths_along outline from dir stretches
+  lengths-turned h =
+      ap (λ (l : Regional). record { source = neg_of l.source; middle = neg_of l.middle; receiver = neg_of l.receiver }) walks
+      ∙ rw (← inside-turned outline from dir stretches.source h, ← inside-turned outline from dir stretches.middle h, ← inside-turned outline from dir stretches.receiver h) refl
 
--- the sign by the area
-inside-turned : (outline : List Pt) (from : Pt) (dir : Dir) (stretch : Stretch) → int_lt (area2_of outline) (pos 0) ≡ true
-    → neg_of (walked_sides (ring outline) from dir (enc zero_form) stretch) ≡ enc (length_inside outline from dir (Known stretch.from) (Known stretch.to))
-inside-turned outline from dir stretch h =
-    rw h
-    (ap neg_of (sym (plus_all-known zero_form (map (counted (Known stretch.from) (Known stretch.to)) (passages_of (ring outline) from dir)))))
-
-inside-straight : (outline : List Pt) (from : Pt) (dir : Dir) (stretch : Stretch) → int_lt (area2_of outline) (pos 0) ≡ false
-    → walked_sides (ring outline) from dir (enc zero_form) stretch ≡ enc (length_inside outline from dir (Known stretch.from) (Known stretch.to))
-inside-straight outline from dir stretch h =
-    rw h
-    (sym (plus_all-known zero_form (map (counted (Known stretch.from) (Known stretch.to)) (passages_of (ring outline) from dir))))
-
-pub lengths-turned : (outline : List Pt) (from : Pt) (dir : Dir) (stretches : Stretches) (lengths : Regional)
-    → lengths ≡ advanced (walked_sides (ring outline) from dir) nothing stretches → int_lt (area2_of outline) (pos 0) ≡ true
-    → record { source = neg_of lengths.source; middle = neg_of lengths.middle; receiver = neg_of lengths.receiver }
-    ≡ of_stretches (λ stretch. enc (length_inside outline from dir (Known stretch.from) (Known stretch.to))) stretches
-lengths-turned outline from dir stretches lengths e h =
-    ap (λ (l : Regional). record { source = neg_of l.source; middle = neg_of l.middle; receiver = neg_of l.receiver }) e
-    ∙ rw (← inside-turned outline from dir stretches.source h, ← inside-turned outline from dir stretches.middle h, ← inside-turned outline from dir stretches.receiver h) refl
-
-pub lengths-straight : (outline : List Pt) (from : Pt) (dir : Dir) (stretches : Stretches) (lengths : Regional)
-    → lengths ≡ advanced (walked_sides (ring outline) from dir) nothing stretches → int_lt (area2_of outline) (pos 0) ≡ false
-    → lengths ≡ of_stretches (λ stretch. enc (length_inside outline from dir (Known stretch.from) (Known stretch.to))) stretches
-lengths-straight outline from dir stretches lengths e h =
-    e ∙ rw (← inside-straight outline from dir stretches.source h, ← inside-straight outline from dir stretches.middle h, ← inside-straight outline from dir stretches.receiver h) refl
+  pub lengths-straight : int_lt (area2_of outline) (pos 0) ≡ false → lengths ≡ lengths_along outline from dir stretches
+  lengths-straight h =
+      walks ∙ rw (← inside-straight outline from dir stretches.source h, ← inside-straight outline from dir stretches.middle h, ← inside-straight outline from dir stretches.receiver h) refl
 
 -- ---- zones
 

@@ -6,6 +6,7 @@ use Rattle.scene_parts.specs.Views.{Zone}
 use Rattle.path_shape.specs.declared.path.Path.{Path}
 use Rattle.term_ground.specs.Zones.{met_zones}
 use Rattle.term_ground.specs.Ground.{ground}
+use Rattle.term_ground.specs.Alternative.{simple_ground, solid_angle}
 
 -- it depends on the plan length by its interval alone
 abbrev pub SameForOneLength : Type 0
@@ -22,3 +23,19 @@ SameForMetZones = (zones others : List Zone) (g0 : ℕ) (path : Path) (dp : Tree
 abbrev pub GroundIsSound : Type 0
 GroundIsSound = (zones : List Zone) (g0 : ℕ) (path : Path) (dp : Tree) → IsSound dp
     → All IsSound (ground zones g0 path dp)
+
+-- ---- the alternative method
+
+-- it depends on the length of the path, and on the square of its plan length, by their intervals alone
+abbrev pub SimpleGroundSame : Type 0
+SimpleGroundSame = (path : Path) (a b : Tree) → enc a ≡ enc b → enc (simple_ground path a) ≡ enc (simple_ground path b)
+
+abbrev pub SolidAngleSame : Type 0
+SolidAngleSame = (path : Path) (a b : Tree) → enc a ≡ enc b → enc (solid_angle path a) ≡ enc (solid_angle path b)
+
+-- both formulas are sound where that of the length or the square is
+abbrev pub SimpleGroundIsSound : Type 0
+SimpleGroundIsSound = (path : Path) (d : Tree) → IsSound d → IsSound (simple_ground path d)
+
+abbrev pub SolidAngleIsSound : Type 0
+SolidAngleIsSound = (path : Path) (q : Tree) → IsSound q → IsSound (solid_angle path q)

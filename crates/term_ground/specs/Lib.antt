@@ -1,3 +1,4 @@
+pub mod Alternative
 pub mod Amounts
 pub mod EndRegions
 pub mod Ground

@@ -6,8 +6,10 @@ use Rattle.scene_parts.specs.Views.{Zone}
 use Rattle.path_shape.specs.declared.path.Path.{Path}
 use Rattle.term_ground.specs.declared.region.Region.{Region}
 use Rattle.term_ground.specs.declared.region.Region.TheVariants.{Source, Middle, Receiver}
-use Rattle.term_ground.specs.Lengths.{zero_form, one_form, factor, thirty, plus_all}
-use Rattle.term_ground.specs.Zones.{met_zones, length_on_legs}
+use Rattle.path_shape.specs.Forms.{zero_form, one_form, plus_all}
+use Rattle.term_ground.specs.Lengths.{factor, thirty}
+use Rattle.path_shape.specs.Outlines.{length_on_legs}
+use Rattle.term_ground.specs.Zones.{met_zones}
 
 -- 30 (h_s + h_r): a path has a middle region where its plan length is greater
 abbrev pub middle_from : Path → Tree

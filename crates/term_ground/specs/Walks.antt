@@ -1,29 +1,30 @@
 -- Scaffolding between the code and the definitions: the ground factors of the three regions are found at once, zone by
 -- zone, leg by leg and side by side.
-use Rattle.std.specs.Prelude.{◌≡◌, Bool, List, map, Option, None, Some, IsSomeAnd}
+use Rattle.std.specs.Prelude.{◌≡◌, List, map, Option, None, Some, IsSomeAnd}
 use Rattle.std.specs.Bool.{then_some}
 use Rattle.fix_interval.specs.Interval.{Interval}
-use Rattle.fix_interval.specs.Tree.{Tree, Known, Add, Sub, Mul, Div, Max, Min, enc}
+use Rattle.fix_interval.specs.Tree.{Tree, Known, Add, Sub, Mul, Div, enc}
 use Rattle.scene_geom.specs.declared.plan.Pt.{Pt}
-use Rattle.scene_geom.specs.declared.plan.Side.{Side}
 use Rattle.scene_geom.specs.declared.direction.Dir.{Dir}
 use Rattle.scene_geom.specs.declared.fraction.Frac.{Frac}
-use Rattle.scene_geom.specs.declared.crossing.Passage.{Passage}
 use Rattle.scene_geom.specs.Fraction.{rest_of}
-use Rattle.scene_geom.specs.Outline.{passages_of, meets_of}
+use Rattle.scene_geom.specs.Outline.{meets_of}
 use Rattle.scene_parts.specs.Views.{Zone}
 use Rattle.path_shape.specs.declared.legs.Legs.{Legs}
 use Rattle.path_shape.specs.declared.legs.Legs.TheVariants.{One, Two}
 use Rattle.path_shape.specs.declared.path.Path.{Path}
 use Rattle.term_ground.specs.declared.region.Region.{Region}
 use Rattle.term_ground.specs.declared.region.Region.TheVariants.{Source, Middle, Receiver}
-use Rattle.term_ground.specs.declared.stretch.Stretch.{Stretch}
+use Rattle.path_shape.specs.declared.stretch.Stretch.{Stretch}
+use Rattle.path_shape.specs.Stretches.{on_first_leg, on_second_leg}
 use Rattle.term_ground.specs.declared.stretch.Stretches.{Stretches}
 use Rattle.term_ground.specs.declared.stretch.Regional.{Regional}
 use Rattle.term_ground.specs.declared.leg.Leg.{Leg}
 use Rattle.term_ground.specs.declared.leg.Route.{Route}
-use Rattle.term_ground.specs.Lengths.{zero_form, one_form, factor, plus_all}
-use Rattle.term_ground.specs.Zones.{place_form, signed, counted, whole, length_inside, meets_legs, met_zones, length_on_legs}
+use Rattle.path_shape.specs.Forms.{zero_form, plus_all}
+use Rattle.term_ground.specs.Lengths.{factor}
+use Rattle.path_shape.specs.Outlines.{whole, length_inside, meets_legs, length_on_legs}
+use Rattle.term_ground.specs.Zones.{met_zones}
 use Rattle.term_ground.specs.Regions.{region_start, region_end}
 
 -- ---- regions
@@ -82,17 +83,6 @@ each_stretch rule stretches = record {
   receiver = rule stretches.receiver;
 }
 
--- a stretch of a path on its first leg, which ends at p
-abbrev pub on_first_leg : Frac → Stretch → Stretch
-on_first_leg p stretch = record { from = stretch.from; to = enc (Min (Known stretch.to) (place_form p)) }
-
--- and on its second leg, whose places count from the receiver
-abbrev pub on_second_leg : Frac → Stretch → Stretch
-on_second_leg p stretch = record {
-  from = enc (Sub one_form (Known stretch.to));
-  to = enc (Min (Sub one_form (Known stretch.from)) (place_form (rest_of p)));
-}
-
 -- the legs of a path, with its regions on them
 abbrev pub HasLegs : Legs → Pt → Pt → Stretches → Leg → Option Leg → Type 0
 HasLegs (One dir) s r stretches first second = IsLeg first s dir whole stretches × (second ≡ None)
@@ -137,20 +127,6 @@ lengths_on_path outline path =
     (of_stretches
     (λ stretch. enc (length_on_legs path.legs path.s path.r outline (Known stretch.from) (Known stretch.to)))
     (stretches_of path))
-
--- ---- sides
-
--- what a place adds or takes off
-abbrev pub part_of : Tree → Bool → Stretch → Tree
-part_of place to_left stretch = signed to_left (Max zero_form (Sub (Min place (Known stretch.to)) (Known stretch.from)))
-
--- a length with what passages add and take off
-abbrev pub walked : List Passage → Interval → Stretch → Interval
-walked passages length stretch =
-    enc (plus_all (Known length) (map (counted (Known stretch.from) (Known stretch.to)) passages))
-
-abbrev pub walked_sides : List Side → Pt → Dir → Interval → Stretch → Interval
-walked_sides sides from dir = walked (passages_of sides from dir)
 
 -- ---- zones
 

@@ -1,22 +1,19 @@
 //! How much of each region of a path lies in a zone of ground.
 
-ghost use Rattle.std.specs.Prelude.{◌≡◌, [], ◌∷◌, pos, int_lt};
-ghost use Rattle.std.specs.Option.{option_to_list};
-ghost use Rattle.fix_interval.specs.Tree.{Known, Add, enc};
+ghost use Rattle.std.specs.Prelude.{◌≡◌, [], ◌∷◌};
 ghost use Rattle.scene_geom.specs.Direction.{FitsDirection};
-ghost use Rattle.scene_geom.specs.Crossing.{passage_of};
-ghost use Rattle.scene_geom.specs.Outline.{ring, area2_of};
-ghost use Rattle.term_ground.specs.Zones.{counted};
 ghost use Rattle.path_shape.specs.declared.path.Path.{Path};
-ghost use Rattle.term_ground.specs.Walks.{lengths_along, advanced, part_of, walked, walked_sides};
+ghost use Rattle.path_shape.specs.Stretches.{walked};
+ghost use Rattle.term_ground.specs.Walks.{lengths_along, advanced};
 ghost use Rattle.term_ground.specs.Walks.{IsRoute, lengths_on_leg, lengths_on_path, joined_lengths};
 ghost use Rattle.term_ground.specs.Walks.{sums_of};
 ghost use Rattle.term_ground.specs.Walks as walks;
 
 use crate::leg::{Leg, Route};
-use crate::stretch::{Regional, Stretch, Stretches};
-use fix_interval::{Iv, add, exact, max, min, neg, ratio, sub};
-use scene_geom::{Dir, Passage, Pt, Side, area2, meets, passes};
+use crate::stretch::{Regional, Stretches};
+use fix_interval::{add, exact, neg};
+use path_shape::{fold_passages, place, turns_right};
+use scene_geom::{Dir, Passage, Pt, meets};
 
 /// How much of each region of a path an outline holds. None where the outline meets no leg.
 pub(crate) fn lengths_on(outline: &[Pt], route: &Route) -> Option<Regional>
@@ -77,7 +74,15 @@ fn lengths_inside(outline: &[Pt], from: Pt, dir: Dir, stretches: &Stretches) -> 
     requires { FitsDirection dir }
     ensures { result ≡ lengths_along outline.now from dir stretches.now }
 {
-    let lengths = left_of_sides(outline, from, dir, stretches);
+    let lengths = fold_passages(
+        outline,
+        from,
+        dir,
+        nothing(),
+        |lengths: Regional, passage: Passage| -> Regional
+            ensures { result ≡ advanced (walked (passage ∷ [])) lengths stretches.entry.now }
+        { with_passage(lengths, passage, stretches) },
+    );
     if turns_right(outline) {
         Regional {
             source: neg(lengths.source),
@@ -89,72 +94,15 @@ fn lengths_inside(outline: &[Pt], from: Pt, dir: Dir, stretches: &Stretches) -> 
     }
 }
 
-/// Whether the corners of an outline go round to the right.
-fn turns_right(outline: &[Pt]) -> bool
-    ensures { result ≡ int_lt (area2_of outline.now) (pos 0) }
-{
-    area2(outline) < 0
-}
-
-/// What the sides of an outline that cross the line add and take off.
-fn left_of_sides(outline: &[Pt], from: Pt, dir: Dir, stretches: &Stretches) -> Regional
-    requires { FitsDirection dir }
-    ensures { result
-        ≡ advanced (walked_sides (ring outline.now) from dir) walks.nothing stretches.now }
-{
-    let mut lengths = nothing();
-    let Some((first, rest)) = outline.split_first() else {
-        return lengths;
-    };
-    let mut corner = *first;
-    for next in rest {
-        let side = Side {
-            from: corner,
-            to: *next,
-        };
-        lengths = with_side(lengths, side, from, dir, stretches);
-        corner = *next;
-    }
-    let closing = Side {
-        from: corner,
-        to: *first,
-    };
-    with_side(lengths, closing, from, dir, stretches)
-}
-
-/// The lengths with what a side adds or takes off where it crosses the line.
-fn with_side(lengths: Regional, side: Side, from: Pt, dir: Dir, stretches: &Stretches) -> Regional
-    requires { FitsDirection dir }
-    ensures { result
-        ≡ advanced (walked (option_to_list (passage_of side from dir))) lengths stretches.now }
-{
-    match passes(side, from, dir) {
-        None => lengths,
-        Some(passage) => with_passage(lengths, passage, stretches),
-    }
-}
-
 /// The lengths with what a passage adds or takes off.
 fn with_passage(lengths: Regional, passage: Passage, stretches: &Stretches) -> Regional
     ensures { result ≡ advanced (walked (passage ∷ [])) lengths stretches.now }
 {
-    let place = ratio(passage.place.n, passage.place.d);
+    let at = place(passage.place);
+    let to_left = passage.to_left;
     Regional {
-        source: with_part(lengths.source, place, passage.to_left, stretches.source),
-        middle: with_part(lengths.middle, place, passage.to_left, stretches.middle),
-        receiver: with_part(lengths.receiver, place, passage.to_left, stretches.receiver),
-    }
-}
-
-/// A length and what lies of a stretch before a place, which is added where the side leads to the left there and else
-/// taken off.
-fn with_part(length: Iv, place: Iv, to_left: bool, stretch: Stretch) -> Iv
-    ensures { result ≡ enc (Add (Known length) (part_of (Known place) to_left stretch)) }
-{
-    let part = max(exact(0), sub(min(place, stretch.to), stretch.from));
-    if to_left {
-        add(length, part)
-    } else {
-        sub(length, part)
+        source: stretches.source.counted(lengths.source, at, to_left),
+        middle: stretches.middle.counted(lengths.middle, at, to_left),
+        receiver: stretches.receiver.counted(lengths.receiver, at, to_left),
     }
 }

@@ -1,7 +1,8 @@
-//! The attenuation by the ground (ISO 9613-2, 7.3.1), as enclosing intervals.
+//! The attenuation by the ground (ISO 9613-2, 7.3), as enclosing intervals.
 //!
 //! A path has a source region, a middle region and a receiver region. Each has a ground factor G, the part of it that is
-//! porous, of which Table 3 makes the attenuation in each octave band.
+//! porous, of which Table 3 makes the attenuation in each octave band. The alternative method (7.3.2) takes the heights of
+//! the path and its length alone.
 #![tactic(auto)]
 
 mod amount;
@@ -15,9 +16,11 @@ mod lengths;
 mod region;
 mod route;
 mod share;
+mod simple;
 mod stretch;
 
 pub use attenuation::{a_gr, a_gr_between};
 pub use decays::{Decays, decays_at};
 pub use region::Region;
 pub use share::region_share;
+pub use simple::{a_gr_simple, d_omega};

@@ -1,19 +1,16 @@
 //! From paths to their legs.
 
 ghost use Rattle.std.specs.Prelude.{◌≡◌};
-ghost use Rattle.fix_interval.specs.Tree.{Known, Min, Sub, enc};
 ghost use Rattle.scene_geom.specs.Direction.{FitsDirection};
 ghost use Rattle.scene_geom.specs.Fraction.{FitsEnd};
 ghost use Rattle.path_shape.specs.Shape.{IsPath};
-ghost use Rattle.term_ground.specs.Lengths.{one_form};
-ghost use Rattle.term_ground.specs.Zones.{place_form};
 ghost use Rattle.term_ground.specs.Walks.{IsRoute, IsLeg};
-ghost use Rattle.term_ground.specs.Walks.{each_stretch, on_first_leg, on_second_leg};
+ghost use Rattle.term_ground.specs.Walks.{each_stretch};
+ghost use Rattle.path_shape.specs.Stretches.{on_first_leg, on_second_leg};
 
 use crate::leg::{Leg, Route};
-use crate::stretch::{Stretch, Stretches, regions_of};
-use fix_interval::{Iv, exact, min, ratio, sub};
-use path_shape::{Legs, Path};
+use crate::stretch::{Stretches, regions_of};
+use path_shape::{Legs, Path, place};
 use scene_geom::{Dir, Frac, Pt, rest_after};
 
 /// The legs of a path.
@@ -55,9 +52,9 @@ fn before_wall(stretches: &Stretches, p: Frac) -> Stretches
 {
     let end = place(p);
     Stretches {
-        source: cut(stretches.source, end),
-        middle: cut(stretches.middle, end),
-        receiver: cut(stretches.receiver, end),
+        source: stretches.source.up_to(end),
+        middle: stretches.middle.up_to(end),
+        receiver: stretches.receiver.up_to(end),
     }
 }
 
@@ -68,37 +65,8 @@ fn behind_wall(stretches: &Stretches, p: Frac) -> Stretches
 {
     let end = place(rest_after(p));
     Stretches {
-        source: cut(turned(stretches.source), end),
-        middle: cut(turned(stretches.middle), end),
-        receiver: cut(turned(stretches.receiver), end),
+        source: stretches.source.turned().up_to(end),
+        middle: stretches.middle.turned().up_to(end),
+        receiver: stretches.receiver.turned().up_to(end),
     }
-}
-
-/// A stretch up to an end.
-fn cut(stretch: Stretch, end: Iv) -> Stretch
-    ensures from { result.from ≡ stretch.from }
-    ensures to { result.to ≡ enc (Min (Known stretch.to) (Known end)) }
-{
-    Stretch {
-        from: stretch.from,
-        to: min(stretch.to, end),
-    }
-}
-
-/// A stretch with its places counted from the other end of the path.
-fn turned(stretch: Stretch) -> Stretch
-    ensures from { result.from ≡ enc (Sub one_form (Known stretch.to)) }
-    ensures to { result.to ≡ enc (Sub one_form (Known stretch.from)) }
-{
-    let one = exact(1);
-    Stretch {
-        from: sub(one, stretch.to),
-        to: sub(one, stretch.from),
-    }
-}
-
-fn place(at: Frac) -> Iv
-    ensures { result ≡ enc (place_form at) }
-{
-    ratio(at.n, at.d)
 }

@@ -4,7 +4,7 @@ ghost use Rattle.std.specs.Prelude.{◌≡◌, [], ◌∷◌};
 ghost use Rattle.fix_interval.specs.Tree.{Known, Pick, Max, Min, Add, enc};
 ghost use Rattle.path_shape.specs.Shape.{IsPath};
 ghost use Rattle.path_shape.specs.declared.path.Path.{Path};
-ghost use Rattle.term_ground.specs.Lengths.{zero_form, one_form};
+ghost use Rattle.path_shape.specs.Forms.{zero_form, one_form};
 ghost use Rattle.term_ground.specs.Lengths as form;
 ghost use Rattle.term_ground.specs.Regions.{share_of, known_share};
 ghost use Rattle.term_ground.specs.Regions as regions;
@@ -16,9 +16,9 @@ use crate::leg::Route;
 use crate::lengths::factor;
 use crate::region::Region;
 use crate::route::route_of;
-use crate::stretch::{Regional, Stretch, Stretches, middle_from};
+use crate::stretch::{Regional, Stretches, middle_from};
 use fix_interval::{Iv, add, div, exact, less, max, min, mul, pick, sub};
-use path_shape::Path;
+use path_shape::{Path, Stretch};
 use scene_parts::Zone;
 
 /// The ground factor G of a region of a path (ISO 9613-2, 7.3.1), from 0 to 1: the part of it that is porous, where a

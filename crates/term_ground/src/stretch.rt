@@ -7,14 +7,7 @@ ghost use Rattle.term_ground.specs.Walks.{stretches_of};
 
 use crate::lengths::thirty;
 use fix_interval::{Iv, div, exact, min, sub};
-use path_shape::Path;
-
-/// A stretch of a path, from one place to another, both fractions of its plan length.
-#[derive(Clone, Copy, Drop)]
-pub(crate) struct Stretch {
-    pub from: Iv,
-    pub to: Iv,
-}
+use path_shape::{Path, Stretch};
 
 /// The stretches that are the regions of a path.
 #[derive(Clone, Copy, Drop)]

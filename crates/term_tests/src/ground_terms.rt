@@ -2,9 +2,9 @@
 
 ghost use Rattle.path_shape.specs.Shape.{IsPath};
 
-use fix_interval::Iv;
+use crate::shared::{has_ends, place};
 use path_shape::Path;
-use scene_geom::{Pt, Side, is_short, on_one_side};
+use scene_geom::{Side, is_short, on_one_side};
 use scene_parts::{Checked, Part, PlainName, RawPart, RawPoints, RawPt, Zone, check};
 use std::alloc::{AllocError, Global};
 use std::process::Abort;
@@ -614,13 +614,6 @@ const REFLECTED: [([(i64, i64); 2], Case); 5] = [
     ),
 ];
 
-fn place(x: i64, y: i64) -> Pt {
-    Pt::new(
-        x.clamp(-4_000_000, 4_000_000),
-        y.clamp(-4_000_000, 4_000_000),
-    )
-}
-
 fn zones(alloc: Global, grounds: &[Ground]) -> Result<Vec<Zone>, AllocError> {
     let mut zones = Vec::new(alloc);
     for (corners, g) in grounds {
@@ -638,10 +631,6 @@ fn zones(alloc: Global, grounds: &[Ground]) -> Result<Vec<Zone>, AllocError> {
         }
     }
     Ok(zones)
-}
-
-fn has_ends(rt: &impl Abort, found: Iv, (lo, hi): (i128, i128)) {
-    assert_eq!(rt; (found.low(), found.high()), (Some(lo), Some(hi)));
 }
 
 /// The ends of a path among zones are those of a case.

@@ -3,7 +3,7 @@ use Rattle.std.proofs.lemmas.List.{nil_from_length}
 use Rattle.fix_interval.specs.Tree.{Known}
 use Rattle.term_ground.specs.declared.region.Region.TheVariants.{Source, Middle, Receiver}
 use Rattle.term_ground.specs.declared.stretch.Regional.{Regional}
-use Rattle.term_ground.specs.Lengths.{zero_form}
+use Rattle.path_shape.specs.Forms.{zero_form}
 use Rattle.term_ground.specs.Regions.{share_of, region_start, region_end, middle_from}
 use Rattle.term_ground.specs.Walks.{summed, stretch_of}
 use Rattle.term_ground.proofs.Same.{share-is}
