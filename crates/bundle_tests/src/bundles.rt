@@ -152,6 +152,7 @@ fn setting(air: Air) -> Edit {
         g: Some(20),
         air: Some(air),
         c0: None,
+        ground: None,
     })
 }
 

@@ -128,6 +128,7 @@ with-part : (part : Part) (a : Book) → SourcesAreApart a → SourcesAreApart (
 with-part (parts.Source source) a apart = put-apart (λ s. s.name) source a.sources apart
 with-part (parts.Obstacle o) a apart = apart
 with-part (parts.Zone z) a apart = apart
+with-part (parts.Foliage f) a apart = apart
 with-part (parts.Receiver r) a apart = apart
 
 without-part : (name : List ℕ) (found old : Option Part) (a b : Book) → taken name found a ≡ Ok (b, old) → SourcesAreApart a → SourcesAreApart b
@@ -136,6 +137,7 @@ without-part name (Some (parts.Source source)) old a b e apart =
     subst SourcesAreApart (last _ (b, old) (taken name (Some (parts.Source source)) a) refl e) (take-apart (λ s. s.name) name a.sources apart)
 without-part name (Some (parts.Obstacle o)) old a b e apart = subst SourcesAreApart (last _ (b, old) (taken name (Some (parts.Obstacle o)) a) refl e) apart
 without-part name (Some (parts.Zone z)) old a b e apart = subst SourcesAreApart (last _ (b, old) (taken name (Some (parts.Zone z)) a) refl e) apart
+without-part name (Some (parts.Foliage f)) old a b e apart = subst SourcesAreApart (last _ (b, old) (taken name (Some (parts.Foliage f)) a) refl e) apart
 without-part name (Some (parts.Receiver r)) old a b e apart = subst SourcesAreApart (last _ (b, old) (taken name (Some (parts.Receiver r)) a) refl e) apart
 
 pub accepted-apart : (edit : Edit) (a b : Book) (old : Option Part) → apply_of edit a ≡ Ok (b, old) → SourcesAreApart a → SourcesAreApart b

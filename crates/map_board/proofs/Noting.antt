@@ -3,7 +3,7 @@ use Rattle.std.proofs.Common.{◌≡◌, ℕ, zero, suc, ◌+◌, ◌<◌, ◌�
 use Rattle.std.specs.Prelude.{nat_lt, bytes_eq, Option, find, ◌||◌, ◌&&◌}
 use Rattle.std.specs.List.{list_any}
 use Rattle.std.specs.Option.{option_map, option_map_or, option_and_then, option_to_list}
-use Rattle.scene_parts.specs.Views.{Source, Obstacle, Zone, Receiver}
+use Rattle.scene_parts.specs.Views.{Source, Obstacle, Zone, Foliage, Receiver}
 use Rattle.scene_parts.specs.declared.parts.Part.{Part}
 use Rattle.scene_parts.specs.declared.parts.Part.TheVariants as parts
 use Rattle.scene_book.specs.Book.{Book, empty_book}
@@ -30,6 +30,7 @@ part-names : (name : List ℕ) (part : Part) → is_receiver name part ≡ has n
 part-names name (parts.Source s) = refl
 part-names name (parts.Obstacle o) = refl
 part-names name (parts.Zone z) = refl
+part-names name (parts.Foliage f) = refl
 part-names name (parts.Receiver r) = refl
 
 old-names : (name : List ℕ) (old : Option Part) → list_any (is_receiver name) (option_to_list old) ≡ has name (option_and_then named_part old)
@@ -53,6 +54,10 @@ replaced-names name (parts.Obstacle s) book = go (named (λ (x : Obstacle). x.na
   go (Some x) = refl
 replaced-names name (parts.Zone s) book = go (named (λ (x : Zone). x.name) s.name book.zones) where
   go : (o : Option Zone) → (false || list_any (is_receiver name) (option_to_list (option_map parts.Zone o))) ≡ false
+  go None = refl
+  go (Some x) = refl
+replaced-names name (parts.Foliage s) book = go (named (λ (x : Foliage). x.name) s.name book.foliage) where
+  go : (o : Option Foliage) → (false || list_any (is_receiver name) (option_to_list (option_map parts.Foliage o))) ≡ false
   go None = refl
   go (Some x) = refl
 replaced-names name (parts.Receiver r) book = go (named (λ (x : Receiver). x.name) r.name book.receivers) refl where

@@ -67,6 +67,7 @@ part-named : (edit : Edit) (a : Book) (part : Part) → ((r : Receiver) → part
 part-named edit a (parts.Source s) named = refl
 part-named edit a (parts.Obstacle o) named = refl
 part-named edit a (parts.Zone z) named = refl
+part-named edit a (parts.Foliage f) named = refl
 part-named edit a (parts.Receiver r) named = none-of-one (is_beside edit a) r (not-true (names r.name edit a) (named r refl))
 
 any-named : (edit : Edit) (a : Book) (part : Option Part) → ((r : Receiver) → part ≡ Some (parts.Receiver r) → names r.name edit a ≡ true)

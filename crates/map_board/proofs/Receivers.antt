@@ -140,6 +140,9 @@ put-fine (parts.Obstacle o) a b old e fine =
 put-fine (parts.Zone z) a b old e fine =
     let part = parts.Zone z in let t = through (in_limits part (with_part part a)) (Ok (with_part part a, replaced part a)) (b, old) e in
     left (with_part part a) b old (replaced part a) _ refl t.1 fine
+put-fine (parts.Foliage f) a b old e fine =
+    let part = parts.Foliage f in let t = through (in_limits part (with_part part a)) (Ok (with_part part a, replaced part a)) (b, old) e in
+    left (with_part part a) b old (replaced part a) _ refl t.1 fine
 put-fine (parts.Receiver r) a b old e fine =
     let part = parts.Receiver r in let t = through (in_limits part (with_part part a)) (Ok (with_part part a, replaced part a)) (b, old) e in
     left (with_part part a) b old (replaced part a) _ refl t.1 (record {
@@ -151,6 +154,7 @@ removed-fine : (name : List ℕ) (part : Part) (a : Book) → AreFine a.receiver
 removed-fine name (parts.Source s) a fine = fine
 removed-fine name (parts.Obstacle o) a fine = fine
 removed-fine name (parts.Zone z) a fine = fine
+removed-fine name (parts.Foliage f) a fine = fine
 removed-fine name (parts.Receiver r) a fine = record {
   apart = taken-apart (λ (x : Receiver). x.name) name a.receivers fine.apart;
   few = omega (arith, fine.few, taken-length (λ (x : Receiver). x.name) name a.receivers);

@@ -54,6 +54,7 @@ piece-other : (name : List ℕ) (part : Part) → is_receiver name part ≡ fals
 piece-other name (parts.Source s) h = refl
 piece-other name (parts.Obstacle o) h = refl
 piece-other name (parts.Zone z) h = refl
+piece-other name (parts.Foliage f) h = refl
 piece-other name (parts.Receiver r) h = one-other name r h
 
 any-other : (name : List ℕ) (part : Option Part) → list_any (is_receiver name) (option_to_list part) ≡ false

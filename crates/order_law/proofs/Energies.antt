@@ -6,7 +6,6 @@ use Rattle.energy_sum.specs.Energies.{energy_form}
 use Rattle.scene_geom.specs.declared.band.Band.{Band}
 use Rattle.scene_geom.specs.Bands.{all_bands}
 use Rattle.scene_parts.specs.Views.{Source, Receiver, Globals}
-use Rattle.scene_book.specs.Orders.{Shuffled}
 use Rattle.scene_book.specs.Book.{Book}
 use Rattle.path_calc.specs.Contributions.{Counting, Always, WhereGreater, Contribution, contributions, emission_in}
 use Rattle.path_calc.specs.Energies.{sum_form, where_counting, long_term, correction_of, energy_of, long_energy_of, band_energy, long_energy_in, long_energy}
@@ -15,8 +14,7 @@ use Rattle.path_calc.proofs.Alike.{same-lists}
 use Rattle.term_barrier.proofs.Lists.{map-map, map-same}
 use Rattle.order_law.proofs.Ends.{NotNegative, IsPositive, ratio-positive, ten-positive, pick-keeps}
 use Rattle.order_law.proofs.Sums.{sums-alike, sum-positive, each-made}
-use Rattle.order_law.proofs.Zones.{AreFew}
-use Rattle.order_law.proofs.Sounds.{sounds-alike}
+use Rattle.order_law.proofs.Sounds.{AreAlike, sounds-alike}
 
 -- ---- the energy of a sound
 
@@ -46,14 +44,14 @@ module _ (globals : Globals) (s : Source) (r : Receiver) (band : Band) where
 
 -- ---- sums over the sounds
 
-module _ (a b : Book) (s : Source) (r : Receiver) (globals : Globals) (outside : globals.g ≤ 100) (obstacles : Shuffled a.obstacles b.obstacles) (zones : Shuffled a.zones b.zones) (few : AreFew a.zones) where
+module _ (a b : Book) (s : Source) (r : Receiver) (globals : Globals) (outside : globals.g ≤ 100) (alike : AreAlike a b) where
   sum-alike : (band : Band) (energy : Contribution → Tree) → ((x y dp : Tree) (counts : Counting) → enc x ≡ enc y → enc (energy (record { level = x; dp = dp; counts = counts })) ≡ enc (energy (record { level = y; dp = dp; counts = counts })))
       → ((sound : Contribution) → IsPositive (enc (energy sound)))
       → enc (sum_form (map energy (contributions globals (surroundings_of a s r) s r band))) ≡ enc (sum_form (map energy (contributions globals (surroundings_of b s r) s r band)))
   sum-alike band energy by-level positive =
       let xs = contributions globals (surroundings_of a s r) s r band in
       let ys = contributions globals (surroundings_of b s r) s r band in
-      let heard = sounds-alike (λ sound. enc (energy sound)) by-level a b s r band globals outside obstacles zones few (emission_in band s) in
+      let heard = sounds-alike (λ sound. enc (energy sound)) by-level a b s r band globals outside alike (emission_in band s) in
       sums-alike (map energy xs) (map energy ys)
       (rw (map-map enc energy xs, map-map enc energy ys) heard)
       (each-made energy positive xs)

@@ -2,8 +2,10 @@ pub mod Shuffles
 pub mod Folds
 pub mod Ends
 pub mod Sums
+pub mod Outlines
 pub mod ZoneTerms
 pub mod Zones
+pub mod Foliage
 pub mod Edges
 pub mod Chains
 pub mod Laterals

@@ -9,7 +9,7 @@ use Rattle.scene_parts.specs.Views.{Source, Receiver}
 use Rattle.scene_parts.specs.Ranges.{AreGlobals}
 use Rattle.scene_book.specs.Orders.{Shuffled, SameParts}
 use Rattle.scene_book.specs.Book.{Book, IsWithin}
-use Rattle.scene_undo.specs.Scenes.{IsScene, IsZoneWithin}
+use Rattle.scene_undo.specs.Scenes.{IsScene, IsZoneWithin, IsFoliageWithin}
 use Rattle.path_calc.specs.Lengths.{is_within}
 use Rattle.path_calc.specs.Energies.{sum_form, band_energy_between, long_energy_between}
 use Rattle.path_calc.specs.Levels.{Levels}
@@ -18,9 +18,9 @@ use Rattle.path_calc.proofs.Showing.{total-shown, bands-shown}
 use Rattle.path_calc.proofs.Eight.{map-same}
 use Rattle.term_barrier.proofs.Lists.{map-map}
 use Rattle.order_law.specs.Laws.{OrderLaw, ShownLaw}
-use Rattle.order_law.proofs.Shuffles.{Each, maps-shuffled, filter-shuffled}
+use Rattle.order_law.proofs.Shuffles.{Each, AreFew, maps-shuffled, filter-shuffled}
 use Rattle.order_law.proofs.Sums.{sums-alike, each-made}
-use Rattle.order_law.proofs.Zones.{AreFew}
+use Rattle.order_law.proofs.Sounds.{AreAlike}
 use Rattle.order_law.proofs.Energies.{band-energy-alike, band-energy-positive, long-energy-alike, long-energy-positive}
 use Rattle.order_law.proofs.Ends.{IsPositive}
 
@@ -46,12 +46,15 @@ levels-alike x y e f = both x.total y.total x.bands y.bands e f where
   both : (t u : Interval) (ts us : List Interval) → t ≡ u → ts ≡ us → ◌≡◌ {A = Levels} (record { total = t; bands = ts }) (record { total = u; bands = us })
   both t u ts us e f = rw (e, f)
 
-module _ (a b : Book) (r : Receiver) (alike : SameParts a b) (outside : a.globals.g ≤ 100) (few : AreFew a.zones) where
+module _ (a b : Book) (r : Receiver) (alike : SameParts a b) (outside : a.globals.g ≤ 100) (few_zones : AreFew IsZoneWithin a.zones) (few_foliage : AreFew IsFoliageWithin a.foliage) where
+  read-alike : AreAlike a b
+  read-alike = record { obstacles = alike.obstacles; zones = alike.zones; foliage = alike.foliage; few_zones = few_zones; few_foliage = few_foliage }
+
   long-between : (s : Source) → enc (long_energy_between a s r) ≡ enc (long_energy_between b s r)
-  long-between s = rw alike.globals (long-energy-alike a b s r a.globals outside alike.obstacles alike.zones few)
+  long-between s = rw alike.globals (long-energy-alike a b s r a.globals outside read-alike)
 
   band-between : (band : Band) (s : Source) → enc (band_energy_between a s r band) ≡ enc (band_energy_between b s r band)
-  band-between band s = rw alike.globals (band-energy-alike a b s r a.globals outside alike.obstacles alike.zones few band)
+  band-between band s = rw alike.globals (band-energy-alike a b s r a.globals outside read-alike band)
 
   total-alike : enc (total_form a r) ≡ enc (total_form b r)
   unfolding total_form
@@ -63,7 +66,7 @@ module _ (a b : Book) (r : Receiver) (alike : SameParts a b) (outside : a.global
   band-alike band =
       rw (sources-alike a b r alike.globals alike.sources (λ s. band_energy_between a s r band) (λ s. band_energy_between b s r band) (band-between band) (λ s. band-energy-positive a s r a.globals band))
 
-  -- with no more of a scene than that its zones are few
+  -- with no more of a scene than that its zones and its foliage are few
   pub show-alike : show_of a r ≡ show_of b r
   show-alike =
       levels-alike (show_of a r) (show_of b r)
@@ -76,13 +79,15 @@ each-of : {A : Type 0} (P : A → Type 0) (xs : List A) → All P xs → Each P 
 each-of P [] all = tt
 each-of P (x ∷ xs) all = (all 0 x (omega arith), each-of P xs (λ k d below. all (suc k) d (omega arith)))
 
--- with the ranges of its zones and its globals
-pub scene-alike : (a b : Book) (r : Receiver) → SameParts a b → IsWithin a → All IsZoneWithin a.zones → AreGlobals a.globals → show_of a r ≡ show_of b r
-scene-alike a b r alike within zones globals =
-    show-alike a b r alike globals.ground_factor (record { count = within.zones; each = each-of IsZoneWithin a.zones zones })
+-- with the ranges of its zones, its foliage and its globals
+pub scene-alike : (a b : Book) (r : Receiver) → SameParts a b → IsWithin a → All IsZoneWithin a.zones → All IsFoliageWithin a.foliage → AreGlobals a.globals → show_of a r ≡ show_of b r
+scene-alike a b r alike within zones foliage globals =
+    show-alike a b r alike globals.ground_factor
+    (record { count = within.zones; each = each-of IsZoneWithin a.zones zones })
+    (record { count = within.foliage; each = each-of IsFoliageWithin a.foliage foliage })
 
 pub order-law : OrderLaw
-order-law a b r scene alike = scene-alike a b r alike scene.within scene.zones scene.globals
+order-law a b r scene alike = scene-alike a b r alike scene.within scene.zones scene.foliage scene.globals
 
 -- rows that are made of receivers and their levels
 pub rows-shuffled : {X : Type 0} (row : Receiver → Levels → X) (a b : Book) → IsScene a → SameParts a b

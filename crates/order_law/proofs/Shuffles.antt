@@ -1,7 +1,7 @@
 -- Lists with the same members in any order.
-use Rattle.std.proofs.Common.{◌≡◌, suc, Bool, true, false, List, [], ◌∷◌, ◌++◌, length, map, filter, refl, ap, subst, ◌∙◌, inl, inr}
-use Rattle.std.specs.Prelude.{flat_map, cond, ◌||◌, ◌&&◌}
-use Rattle.std.specs.List.{list_any, list_all}
+use Rattle.std.proofs.Common.{◌≡◌, suc, ◌≤◌, arith, Bool, true, false, List, [], ◌∷◌, ◌++◌, length, map, filter, refl, ap, subst, ◌∙◌, inl, inr}
+use Rattle.std.specs.Prelude.{Option, Some, None, flat_map, cond, ◌||◌, ◌&&◌}
+use Rattle.std.specs.List.{list_any, list_all, filter_map}
 use Rattle.scene_book.specs.Orders.{Shuffled, same, under, exchange, after}
 use Rattle.edge_chain.proofs.Tight.{In}
 
@@ -105,6 +105,38 @@ module _ {A : Type 0} where
   swapped [] ys zs = same (ys ++ zs)
   swapped (x ∷ xs) ys zs = after (under x (swapped xs ys zs)) (moved-in x ys (xs ++ zs))
 
+-- ---- few things
+
+-- at most 1,024 things, each of which keeps P
+pub record AreFew {A : Type 0} (P : A → Type 0) (xs : List A) : Type 0 where
+  pub count : length xs ≤ 1024
+  pub each : Each P xs
+
+pub length-filter : {X : Type 0} (test : X → Bool) (xs : List X) → length (filter test xs) ≤ length xs
+length-filter test [] = omega arith
+length-filter test (x ∷ xs) = by (test x) (length-filter test xs) where
+  by : (b : Bool) → length (filter test xs) ≤ length xs → length (cond b (x ∷ filter test xs) (filter test xs)) ≤ length (x ∷ xs)
+  by true h = omega (arith, h)
+  by false h = omega (arith, h)
+
+pub each-filter : {X : Type 0} (P : X → Type 0) (test : X → Bool) (xs : List X) → Each P xs → Each P (filter test xs)
+each-filter P test [] h = tt
+each-filter P test (x ∷ xs) h = by (test x) (each-filter P test xs h.1) where
+  by : (b : Bool) → Each P (filter test xs) → Each P (cond b (x ∷ filter test xs) (filter test xs))
+  by true k = (h.0, k)
+  by false k = k
+
+pub length-made : {X Y : Type 0} (f : X → Y) (xs : List X) → length (map f xs) ≡ length xs
+length-made f [] = refl
+length-made f (x ∷ xs) = ap suc (length-made f xs)
+
+pub fewer : {X Y : Type 0} (f : X → Option Y) (xs : List X) → length (filter_map f xs) ≤ length xs
+fewer f [] = omega arith
+fewer {Y = Y} f (x ∷ xs) = by (f x) refl (fewer f xs) where
+  by : (made : Option Y) → f x ≡ made → length (filter_map f xs) ≤ length xs → length (filter_map f (x ∷ xs)) ≤ suc (length xs)
+  by None e h = rw e (omega (arith, h))
+  by (Some y) e h = rw e (omega (arith, h))
+
 -- ---- what is made of things
 
 pub map-shuffled : {A B : Type 0} (f : A → B) {xs ys : List A} → Shuffled xs ys → Shuffled (map f xs) (map f ys)
@@ -125,3 +157,25 @@ flat_map-shuffled f (same xs) = same (flat_map f xs)
 flat_map-shuffled f (under x h) = append-second (f x) (flat_map-shuffled f h)
 flat_map-shuffled f (exchange x y xs) = swapped (f x) (f y) (flat_map f xs)
 flat_map-shuffled f (after h k) = after (flat_map-shuffled f h) (flat_map-shuffled f k)
+
+-- by a rule that makes nothing of some
+module _ {A B : Type 0} (f : A → Option B) where
+  one-made : (x : A) (xs ys : List A) → Shuffled (filter_map f xs) (filter_map f ys) → Shuffled (filter_map f (x ∷ xs)) (filter_map f (x ∷ ys))
+  one-made x xs ys h = by (f x) refl where
+    by : (made : Option B) → f x ≡ made → Shuffled (filter_map f (x ∷ xs)) (filter_map f (x ∷ ys))
+    by None e = rw e h
+    by (Some y) e = rw e (under y h)
+
+  two-made : (x y : A) (xs : List A) → Shuffled (filter_map f (x ∷ y ∷ xs)) (filter_map f (y ∷ x ∷ xs))
+  two-made x y xs = by (f x) (f y) refl refl where
+    by : (one other : Option B) → f x ≡ one → f y ≡ other → Shuffled (filter_map f (x ∷ y ∷ xs)) (filter_map f (y ∷ x ∷ xs))
+    by None None e h = rw (e, h) (same (filter_map f xs))
+    by None (Some b) e h = rw (e, h) (same (b ∷ filter_map f xs))
+    by (Some a) None e h = rw (e, h) (same (a ∷ filter_map f xs))
+    by (Some a) (Some b) e h = rw (e, h) (exchange a b (filter_map f xs))
+
+  pub filter_map-shuffled : {xs ys : List A} → Shuffled xs ys → Shuffled (filter_map f xs) (filter_map f ys)
+  filter_map-shuffled (same xs) = same (filter_map f xs)
+  filter_map-shuffled (under x {xs = xs} {ys = ys} h) = one-made x xs ys (filter_map-shuffled h)
+  filter_map-shuffled (exchange x y xs) = two-made x y xs
+  filter_map-shuffled (after h k) = after (filter_map-shuffled h) (filter_map-shuffled k)

@@ -9,13 +9,14 @@ use Rattle.fix_interval.specs.Values.{end_of, sum_of_ends, add_of}
 use Rattle.fix_interval.specs.Tree.{Tree, Const, Add, enc}
 use Rattle.fix_interval.proofs.Multiplying.{end_of-small, end_of-large}
 use Rattle.scene_book.specs.Orders.{Shuffled}
-use Rattle.order_law.proofs.Shuffles.{Each}
+use Rattle.path_shape.specs.Forms.{plus_all}
+use Rattle.order_law.proofs.Shuffles.{Each, map-shuffled}
 use Rattle.order_law.proofs.Folds.{fold-shuffled}
 use Rattle.order_law.proofs.Ends.{Ends, NotNegative, IsPositive, AtMost, AreWithin, add-positive, add-keeps, ratio-positive}
 
 -- ---- two terms in either order
 
-none-added : (end : Option ℤ) → sum_of_ends end None ≡ None
+pub none-added : (end : Option ℤ) → sum_of_ends end None ≡ None
 none-added None = refl
 none-added (Some x) = refl
 
@@ -87,7 +88,7 @@ each-made f positive (x ∷ xs) = (positive x, each-made f positive xs)
 -- ---- sums of terms that have a bound
 
 -- there is room in a total for so many more terms of a bound
-abbrev pub HasRoom : ℕ → ℕ → Interval → Type 0
+abbrev HasRoom : ℕ → ℕ → Interval → Type 0
 HasRoom m n total = Ends (λ z. unsigned_abs z + n * m < 2 ^ 126) total
 
 module _ (m : ℕ) where
@@ -106,5 +107,36 @@ module _ (m : ℕ) where
       more : (n : ℕ) → m ≤ suc (suc n) * m
       more n = omega arith
 
-  pub bounded-sums-alike : (total : Interval) {xs ys : List Interval} → Shuffled xs ys → HasRoom m (length xs) total → Each (AreWithin m) xs → fold add_of total xs ≡ fold add_of total ys
+  bounded-sums-alike : (total : Interval) {xs ys : List Interval} → Shuffled xs ys → HasRoom m (length xs) total → Each (AreWithin m) xs → fold add_of total xs ≡ fold add_of total ys
   bounded-sums-alike total h room within = fold-shuffled add_of (HasRoom m) (AreWithin m) room-step room-turned total h room within
+
+-- ---- sums of few terms
+
+enc-plus_all : (total : Tree) (terms : List Tree) → enc (plus_all total terms) ≡ fold add_of (enc total) (map enc terms)
+enc-plus_all total [] = refl
+enc-plus_all total (term ∷ terms) = enc-plus_all (Add total term) terms
+
+room-for : (n : ℕ) (total : Interval) → n ≤ 1024 → AreWithin (2 ^ 32) total → HasRoom (2 ^ 108) n total
+room-for n total few within = (room total.lo within.0, room total.hi within.1) where
+  room : (end : Option ℤ) → IfSome end (AtMost (2 ^ 32)) → IfSome end (λ z. unsigned_abs z + n * 2 ^ 108 < 2 ^ 126)
+  room None h = tt
+  room (Some z) h = omega (arith, h, few)
+
+-- a term of a sum of few
+abbrev pub IsTerm : Tree → Type 0
+IsTerm t = AreWithin (2 ^ 108) (enc t)
+
+each-enc : (ts : List Tree) → Each IsTerm ts → Each (AreWithin (2 ^ 108)) (map enc ts)
+each-enc [] each = tt
+each-enc (t ∷ ts) each = (each.0, each-enc ts each.1)
+
+length-enc : (ts : List Tree) → length (map enc ts) ≡ length ts
+length-enc [] = refl
+length-enc (t ∷ ts) = ap suc (length-enc ts)
+
+pub few-sums-alike : (total : Tree) {ts us : List Tree} → Shuffled ts us → length ts ≤ 1024 → AreWithin (2 ^ 32) (enc total) → Each IsTerm ts
+    → enc (plus_all total ts) ≡ enc (plus_all total us)
+few-sums-alike total {ts = ts} {us = us} h few small each =
+    enc-plus_all total ts
+    ∙ bounded-sums-alike (2 ^ 108) (enc total) (map-shuffled enc h) (room-for _ (enc total) (omega (arith, length-enc ts, few)) small) (each-enc ts each)
+    ∙ sym (enc-plus_all total us)

@@ -8,10 +8,11 @@ use Rattle.scene_geom.specs.declared.band.Band.{Band}
 use Rattle.path_calc.specs.declared.lateral.LateralScreening.{LateralScreening}
 use Rattle.path_calc.specs.declared.paths.Paths.{Paths}
 use Rattle.path_calc.specs.Propagations.{Reflected}
+use Rattle.path_calc.specs.Losses.{loss_in}
 use Rattle.path_calc.specs.Energies.{sum_form}
 use Rattle.path_calc.specs.Ranges.{IsSumOf}
 use Rattle.path_calc.specs.Strings.{both_of}
-use Rattle.path_calc.specs.Hearing.{level_before, past, with_energy, screening_at, lateral_at, screenings_at, reflected_energy, sum_after}
+use Rattle.path_calc.specs.Hearing.{power_at, level_before, past, with_energy, screening_at, lateral_at, screenings_at, reflected_energy, sum_after}
 use Rattle.path_calc.proofs.Alike.{sum-on}
 use Rattle.path_calc.proofs.Sums.{sound-and-more}
 
@@ -19,15 +20,15 @@ use Rattle.path_calc.proofs.Sums.{sound-and-more}
 module _ (energy : Tree → Tree → Tree) (paths : Paths) (band : Band) (emission : Interval) where
   -- the energy of a level past what screens it
   abbrev past_screen : Interval → Interval → Tree
-  past_screen level screening = energy (Known paths.direct.correction) (past level screening)
+  past_screen level screening = energy (Known paths.direct.correction) (past level screening (loss_in paths.direct.foliage band))
 
   abbrev more : Interval → Interval → Option Interval → Interval
   more level heard screening = with_energy heard (option_map (λ i. enc (past_screen level i)) screening)
 
   direct-and-lateral : (level over : Interval) (lateral : LateralScreening) (heard : Interval)
-      → level ≡ enc (level_before paths.direct band emission) → over ≡ screening_at paths.direct band → both_of lateral ≡ lateral_at paths band
+      → level ≡ enc (level_before paths.direct band (power_at paths.direct emission)) → over ≡ screening_at paths.direct band → both_of lateral ≡ lateral_at paths band
       → IsSumOf 1 (enc (past_screen level over)) → heard ≡ more level (more level (enc (past_screen level over)) lateral.left) lateral.right
-      → heard ≡ enc (sum_form (map (past_screen (enc (level_before paths.direct band emission))) (screenings_at paths band)))
+      → heard ≡ enc (sum_form (map (past_screen (enc (level_before paths.direct band (power_at paths.direct emission)))) (screenings_at paths band)))
   direct-and-lateral level over lateral heard level-is over-is lateral-is small is =
       sound-and-more (past_screen level) over lateral.left lateral.right heard small is
       ∙ ap (λ (is : List Interval). enc (sum_form (map (past_screen level) (over ∷ is)))) lateral-is
@@ -35,7 +36,7 @@ module _ (energy : Tree → Tree → Tree) (paths : Paths) (band : Band) (emissi
       ∙ ap (λ (l : Interval). enc (sum_form (map (past_screen l) (screenings_at paths band)))) level-is
 
   pub all-sounds : (level over : Interval) (lateral : LateralScreening) (walls : List Reflected) (first left right all : Interval)
-      → level ≡ enc (level_before paths.direct band emission) → over ≡ screening_at paths.direct band → both_of lateral ≡ lateral_at paths band → walls ≡ paths.reflected.items
+      → level ≡ enc (level_before paths.direct band (power_at paths.direct emission)) → over ≡ screening_at paths.direct band → both_of lateral ≡ lateral_at paths band → walls ≡ paths.reflected.items
       → first ≡ enc (past_screen level over) → IsSumOf 1 first → left ≡ more level first lateral.left → right ≡ more level left lateral.right
       → all ≡ enc (fold Add (Known right) (map (reflected_energy energy band emission) walls))
       → all ≡ sum_after energy paths band (Some emission)
@@ -44,5 +45,5 @@ module _ (energy : Tree → Tree → Tree) (paths : Paths) (band : Band) (emissi
       (right-is ∙ ap (λ (i : Interval). more level i lateral.right) (left-is ∙ ap (λ (i : Interval). more level i lateral.left) first-is)) in
       is
       ∙ ap (λ (ms : List Reflected). enc (fold Add (Known right) (map (reflected_energy energy band emission) ms))) walls-are
-      ∙ sum-on (Const (pos 0) 1) (Known right) (map (past_screen (enc (level_before paths.direct band emission))) (screenings_at paths band))
+      ∙ sum-on (Const (pos 0) 1) (Known right) (map (past_screen (enc (level_before paths.direct band (power_at paths.direct emission)))) (screenings_at paths band))
       (map (reflected_energy energy band emission) paths.reflected.items) heard

@@ -1,6 +1,6 @@
 -- The ends of the quantities of a path are bounded.
-use Rattle.std.proofs.Common.{◌≡◌, ℕ, ◌+◌, ◌*◌, ◌/◌, ◌<◌, ◌≤◌, ◌^◌, ℤ, pos, negsuc, neg_ℤ, ◌*ℤ◌, ◌≤ℤ◌, unsigned_abs, Option, refl, sym, ◌∙◌, arith, inl, inr, lit<}
-use Rattle.std.specs.Prelude.{◌⊎◌, ◌<ℤ◌, Some, None, IfSome, IsTrue, IsSomeAnd, List, length, get_or, Bool, true, false, nat_le}
+use Rattle.std.proofs.Common.{◌≡◌, subst, ℕ, ◌+◌, ◌*◌, ◌/◌, ◌<◌, ◌≤◌, ◌^◌, ℤ, pos, negsuc, neg_ℤ, ◌*ℤ◌, ◌≤ℤ◌, unsigned_abs, Option, refl, sym, ◌∙◌, arith, inl, inr, lit<}
+use Rattle.std.specs.Prelude.{◌⊎◌, ◌+ℤ◌, ◌<ℤ◌, Some, None, IfSome, IsTrue, IsSomeAnd, All, List, length, get_or, Bool, true, false, nat_le}
 use Rattle.std.specs.Int.{div_ceil}
 use Rattle.std.proofs.lemmas.Grind.{div_ceil_times}
 use Rattle.std.proofs.lemmas.Nat.{mul-le}
@@ -8,13 +8,20 @@ use Rattle.std.proofs.lemmas.Bool.{cases_lt}
 use Rattle.std.specs.List.{list_all}
 use Rattle.std.proofs.lemmas.Int.{ints}
 use Rattle.std.proofs.lemmas.List.Folds.{list_all_at}
+use Rattle.std.proofs.lemmas.List.Elements.{All-get_or}
 use Rattle.std.proofs.lemmas.Bool.{false≢true}
 use Rattle.fix_interval.specs.Units.{unit, unit-is}
 use Rattle.fix_interval.specs.Interval.{Interval}
 use Rattle.fix_interval.specs.Bounds.{IsBetween, AreBetween}
 use Rattle.fix_interval.specs.Round.{floor_of, ceil_of}
 use Rattle.fix_interval.specs.Values.{ratio_of, add_of, neg_of, mul_of}
-use Rattle.fix_interval.specs.Tree.{Known, Const, Add, Sub, Mul, Root, Lg, enc}
+use Rattle.fix_interval.specs.Tree.{Tree, Known, Const, Add, Sub, Mul, Root, Lg, enc}
+use Rattle.scene_geom.specs.Fraction.{over}
+use Rattle.scene_parts.specs.declared.kinds.Ground.{Ground}
+use Rattle.scene_parts.specs.declared.kinds.Ground.TheVariants as methods
+use Rattle.path_shape.specs.declared.path.Path.{Path}
+use Rattle.path_shape.specs.Shape.{IsPlanSquare}
+use Rattle.path_calc.specs.Hearing.{omega_along}
 use Rattle.fix_interval.specs.Lg.{lg_of, lg_low, lg_high, greatest, decade_of, digits_low, digits_high, turns}
 use Rattle.fix_interval.specs.Ranges.{is_inside, from_to, constant, sum, negation, product, square_root, logarithm, sum_range, root_limit, root_range, logarithm_range}
 use Rattle.enclose_log.proofs.LgRange.{logarithm-ranged}
@@ -29,11 +36,11 @@ use Rattle.term_div_atm.specs.Terms.{divergence, absorption}
 use Rattle.term_div_atm.proofs.Ends.{divergence-between, absorption-between}
 use Rattle.term_barrier.specs.Limits.{IsDistance, IsGroundEffect, IsScreening}
 use Rattle.path_calc.specs.Contributions.{unscreened_level, reflection_level}
-use Rattle.path_calc.specs.Propagations.{IsReflectionLevel}
-use Rattle.path_calc.specs.Prepared.{IsEmission, IsSent}
+use Rattle.path_calc.specs.Propagations.{IsReflectionLevel, IsSolidAngle, IsSimpleGround, IsRaised, IsGroundBy}
+use Rattle.path_calc.specs.Losses.{IsFoliageLoss}
+use Rattle.path_calc.specs.Prepared.{IsEmission, IsSent, IsSentOn}
 use Rattle.energy_sum.specs.Weather.{IsWeatherCorrection}
-use Rattle.path_calc.specs.Ranges.{IsPower, IsDirectivity, IsCorrection, IsWeight, IsOnMap, IsReflectedSquare, IsUnscreened, IsAtReceiver, IsHearable, IsSmall, IsSumOf}
-use Rattle.path_calc.specs.Hearing.{past}
+use Rattle.path_calc.specs.Ranges.{IsPower, IsDirectivity, IsCorrection, IsWeight, IsOnMap, IsPathSquare, IsUnscreened, IsScreened, IsAtReceiver, IsHearable, IsSmall, IsSumOf}
 use Rattle.path_calc.specs.Levels.{IsLevel, IsLevelEnd}
 
 -- ---- constants
@@ -74,16 +81,33 @@ unfolding sum_range
 emission-within p directivity hp hd =
     between _ _ {t = Add (Const p 100) (Known directivity)} (sum (part-between _ _ {t = Const p 100} (power-within p hp)) (part-between _ _ hd)) refl
 
-pub unscreened-within : (emission d : Interval) (alpha10 : ℕ) (ground : Interval) → IsSent emission → IsDistance d → alpha10 < 4096 → IsGroundEffect ground
+-- by the general method for ground, and by the alternative one, which raises what is sent
+general-within : (emission d : Interval) (alpha10 : ℕ) (ground : Interval) → IsSentOn None emission → IsDistance d → alpha10 < 4096 → IsGroundEffect ground
     → IsUnscreened (enc (unscreened_level (Known emission) (Known d) alpha10 (Known ground)))
 unfolding sum_range neg_of
-unscreened-within emission d alpha10 ground he hd few hg =
+general-within emission d alpha10 ground he hd few hg =
     between _ _ {t = unscreened_level (Known emission) (Known d) alpha10 (Known ground)}
     (sum (sum (sum (part-between _ _ he) (negation (part-between _ _ {t = divergence (Known d)} (divergence-between d hd)))) (negation (part-between _ _ {t = absorption (Known d) alpha10} (absorption-between d alpha10 few hd)))) (negation (part-between _ _ hg))) refl
 
-pub past-within : (level screening : Interval) → IsUnscreened level → IsScreening screening → IsAtReceiver (enc (past level screening))
+simple-within : (emission d : Interval) (alpha10 : ℕ) (ground : Interval) → AreBetween (neg_ℤ (pos (60 * 2 ^ 32))) (pos (190 * 2 ^ 32)) emission → IsDistance d → alpha10 < 4096 → IsSimpleGround ground
+    → IsUnscreened (enc (unscreened_level (Known emission) (Known d) alpha10 (Known ground)))
 unfolding sum_range neg_of
-past-within level screening h k = between _ _ {t = past level screening} (sum (part-between _ _ h) (negation (part-between _ _ k))) refl
+simple-within emission d alpha10 ground he hd few hg =
+    between _ _ {t = unscreened_level (Known emission) (Known d) alpha10 (Known ground)}
+    (sum (sum (sum (part-between _ _ he) (negation (part-between _ _ {t = divergence (Known d)} (divergence-between d hd)))) (negation (part-between _ _ {t = absorption (Known d) alpha10} (absorption-between d alpha10 few hd)))) (negation (part-between _ _ hg))) refl
+
+pub unscreened-within : (omega : Option Interval) (power d : Interval) (alpha10 : ℕ) (ground : Interval) → IsSentOn omega power → IsDistance d → alpha10 < 4096 → IsGroundBy omega ground
+    → IsUnscreened (enc (unscreened_level (Known power) (Known d) alpha10 (Known ground)))
+unscreened-within None power d alpha10 ground hp hd few hg = general-within power d alpha10 ground hp hd few hg
+unscreened-within (Some omega) power d alpha10 ground hp hd few hg = simple-within power d alpha10 ground hp hd few hg
+
+pub screened-within : (level screening : Interval) → IsUnscreened level → IsScreening screening → IsScreened (enc (Sub (Known level) (Known screening)))
+unfolding sum_range neg_of
+screened-within level screening h k = between _ _ {t = Sub (Known level) (Known screening)} (sum (part-between _ _ h) (negation (part-between _ _ k))) refl
+
+pub past-within : (level foliage : Interval) → IsScreened level → IsFoliageLoss foliage → IsAtReceiver (enc (Sub (Known level) (Known foliage)))
+unfolding sum_range neg_of
+past-within level foliage h k = between _ _ {t = Sub (Known level) (Known foliage)} (sum (part-between _ _ h) (negation (part-between _ _ k))) refl
 
 -- a level with the A-weight and less C_met has an energy
 pub weighted-level : (level weight c_met : Interval) → IsAtReceiver level → IsWeight weight → IsWeatherCorrection c_met → IsHearable (add_of (add_of level weight) (neg_of c_met))
@@ -103,17 +127,33 @@ small-divergence d h = small _ _ (enc (divergence (Known d))) (divergence-betwee
 pub small-absorption : (d : Interval) (alpha10 : ℕ) → alpha10 < 4096 → IsDistance d → IsSmall (enc (absorption (Known d) alpha10))
 small-absorption d alpha10 few h = small _ _ (enc (absorption (Known d) alpha10)) (absorption-between d alpha10 few h) refl
 
--- the levels on the way to that before screening
-pub small-spread : (emission d : Interval) → IsSent emission → IsDistance d → IsSmall (enc (Sub (Known emission) (divergence (Known d))))
-unfolding sum_range neg_of
-small-spread emission d he hd =
-    between _ _ {t = Sub (Known emission) (divergence (Known d))} (sum (part-between _ _ he) (negation (part-between _ _ {t = divergence (Known d)} (divergence-between d hd)))) refl
+-- wider bounds
+wider-end : (l h k m : ℤ) (end : Option ℤ) → k ≤ℤ l → h ≤ℤ m → IsBetween l h end → IsBetween k m end
+wider-end l h k m None low high p = absurd p
+wider-end l h k m (Some z) low high p = (omega (arith, ints, p.0, low), omega (arith, ints, p.1, high))
 
-pub small-in_the_open : (emission d : Interval) (alpha10 : ℕ) → IsSent emission → IsDistance d → alpha10 < 4096 → IsSmall (enc (Sub (Sub (Known emission) (divergence (Known d))) (absorption (Known d) alpha10)))
+wider : (l h k m : ℤ) (i : Interval) → k ≤ℤ l → h ≤ℤ m → AreBetween l h i → AreBetween k m i
+wider l h k m i low high p = record { lo = wider-end l h k m i.lo low high p.lo; hi = wider-end l h k m i.hi low high p.hi }
+
+-- what is sent by either method
+sent-wide : (omega : Option Interval) (power : Interval) → IsSentOn omega power → AreBetween (neg_ℤ (pos (60 * 2 ^ 32))) (pos (190 * 2 ^ 32)) power
+sent-wide None power h = wider _ _ _ _ power (omega (arith, ints)) (omega (arith, ints)) h
+sent-wide (Some o) power h = h
+
+pub small-sent : (o : Option Interval) (power : Interval) → IsSentOn o power → IsSmall power
+small-sent o power h = small _ _ power (sent-wide o power h) refl
+
+-- the levels on the way to that before screening
+pub small-spread : (o : Option Interval) (power d : Interval) → IsSentOn o power → IsDistance d → IsSmall (enc (Sub (Known power) (divergence (Known d))))
 unfolding sum_range neg_of
-small-in_the_open emission d alpha10 he hd few =
-    between _ _ {t = Sub (Sub (Known emission) (divergence (Known d))) (absorption (Known d) alpha10)}
-    (sum (sum (part-between _ _ he) (negation (part-between _ _ {t = divergence (Known d)} (divergence-between d hd)))) (negation (part-between _ _ {t = absorption (Known d) alpha10} (absorption-between d alpha10 few hd)))) refl
+small-spread o power d he hd =
+    between _ _ {t = Sub (Known power) (divergence (Known d))} (sum (part-between _ _ (sent-wide o power he)) (negation (part-between _ _ {t = divergence (Known d)} (divergence-between d hd)))) refl
+
+pub small-in_the_open : (o : Option Interval) (power d : Interval) (alpha10 : ℕ) → IsSentOn o power → IsDistance d → alpha10 < 4096 → IsSmall (enc (Sub (Sub (Known power) (divergence (Known d))) (absorption (Known d) alpha10)))
+unfolding sum_range neg_of
+small-in_the_open o power d alpha10 he hd few =
+    between _ _ {t = Sub (Sub (Known power) (divergence (Known d))) (absorption (Known d) alpha10)}
+    (sum (sum (part-between _ _ (sent-wide o power he)) (negation (part-between _ _ {t = divergence (Known d)} (divergence-between d hd)))) (negation (part-between _ _ {t = absorption (Known d) alpha10} (absorption-between d alpha10 few hd)))) refl
 
 -- a level with the A-weight of its band
 pub small-weighted : (level weight : Interval) → IsAtReceiver level → IsWeight weight → IsSmall (add_of level weight)
@@ -122,20 +162,44 @@ small-weighted level weight p q = between _ _ {t = Add (Known level) (Known weig
 
 -- ---- what walls reflect
 
-wider-end : (l h k m : ℤ) (end : Option ℤ) → k ≤ℤ l → h ≤ℤ m → IsBetween l h end → IsBetween k m end
-wider-end l h k m None low high p = absurd p
-wider-end l h k m (Some z) low high p = (omega (arith, ints, p.0, low), omega (arith, ints, p.1, high))
+-- what is sent is sent on, and so is what a wall reflects of it
+pub sent : (o : Option Interval) (power : Interval) → IsSent o power → IsSentOn o power
+sent None power h = wider _ _ _ _ power (omega (arith, ints)) (omega (arith, ints)) h
+sent (Some o) power h = wider _ _ _ _ power (omega (arith, ints)) (omega (arith, ints)) h
 
-wider : (l h k m : ℤ) (i : Interval) → k ≤ℤ l → h ≤ℤ m → AreBetween l h i → AreBetween k m i
-wider l h k m i low high p = record { lo = wider-end l h k m i.lo low high p.lo; hi = wider-end l h k m i.hi low high p.hi }
-
--- what is emitted is sent, and so is what a wall reflects of it
-pub sent : (emission : Interval) → IsEmission emission → IsSent emission
-sent emission h = wider _ _ _ _ emission (omega (arith, ints)) (omega (arith, ints)) h
-
-pub reflected-sent : (emission level : Interval) → IsEmission emission → IsReflectionLevel level → IsSent (add_of emission level)
+emission-reflected : (emission level : Interval) → IsEmission emission → IsReflectionLevel level → IsSentOn None (add_of emission level)
 unfolding sum_range
-reflected-sent emission level h k = between _ _ {t = Add (Known emission) (Known level)} (sum (part-between _ _ h) (part-between _ _ k)) refl
+emission-reflected emission level h k = between _ _ {t = Add (Known emission) (Known level)} (sum (part-between _ _ h) (part-between _ _ k)) refl
+
+raised-reflected : (o power level : Interval) → IsSent (Some o) power → IsReflectionLevel level → IsSentOn (Some o) (add_of power level)
+unfolding sum_range
+raised-reflected o power level h k = between _ _ {t = Add (Known power) (Known level)} (sum (part-between _ _ h) (part-between _ _ k)) refl
+
+pub reflected-sent : (o : Option Interval) (power level : Interval) → IsSent o power → IsReflectionLevel level → IsSentOn o (add_of power level)
+reflected-sent None power level h k = emission-reflected power level h k
+reflected-sent (Some o) power level h k = raised-reflected o power level h k
+
+-- D_Omega raises what is emitted
+pub small-emission : (emission : Interval) → IsEmission emission → IsSmall emission
+small-emission emission h = small _ _ emission h refl
+
+pub small-omega : (o : Interval) → IsSolidAngle o → IsSmall o
+small-omega o h = small _ _ o h refl
+
+pub raised-within : (emission o : Interval) → IsEmission emission → IsSolidAngle o → IsSent (Some o) (add_of emission o)
+unfolding sum_range
+raised-within emission o h k = between _ _ {t = Add (Known emission) (Known o)} (sum (part-between _ _ h) (part-between _ _ k)) refl
+
+pub power-raised : (o : Option Interval) (grounds : List Interval) (emission w : Interval) → IsRaised o grounds → o ≡ Some w → IsEmission emission → IsSent o (add_of emission w)
+power-raised None grounds emission w raised is h = absurd (cc)
+power-raised (Some v) grounds emission w raised is h =
+    let same : v ≡ w = cc in
+    subst (λ (u : Interval). IsSent (Some v) (add_of emission u)) same (raised-within emission v h raised.0)
+
+-- the attenuation by the ground in a band is one of its method
+pub ground-by : (o : Option Interval) (grounds : List Interval) (i : ℕ) (d : Interval) → i < length grounds → All IsGroundEffect grounds → IsRaised o grounds → IsGroundBy o (get_or grounds i d)
+ground-by None grounds i d below all raised = All-get_or IsGroundEffect grounds i d below all
+ground-by (Some o) grounds i d below all raised = All-get_or IsSimpleGround grounds i d below raised.1
 
 -- what a wall reflects per mille, as a ratio: it isn't 0, and its logarithm isn't above that of 1
 ratio-of-wall : (low high : ℕ) (rho : ℕ) → low ≤ rho → rho ≤ high → high ≤ 1000 → AreBetween (floor_of (pos low *ℤ pos unit) 1000) (ceil_of (pos high *ℤ pos unit) 1000) (ratio_of (pos rho) 1000)
@@ -258,7 +322,39 @@ plan-square (negsuc n) d some from few wall = absurd (omega (arith, ints))
 plan-square (pos n) (negsuc d) some from few wall = absurd (omega (arith, ints))
 plan-square (pos n) (pos d) some from few wall = plan-ratio n (d * 1000000) (omega (arith, ints)) (omega (arith, few)) (omega (arith, few, wall))
 
-pub reflected-distance-bounded : (square : Frac) (m : ℕ) → IsReflectedSquare square → m < 2 ^ 48 → IsDistance (enc (Root (Add (Const square.n (unsigned_abs square.d * 1000000)) (Const (pos m) 1000000))))
+-- both ends of a fraction are at most one unit apart
+plan-close : (n q : ℕ) → 0 < q → n < 2 ^ 94 → IsSomeAnd (ratio_of (pos n) q).lo (λ low. IsSomeAnd (ratio_of (pos n) q).hi (λ high. (low ≤ℤ high) × (high ≤ℤ (low +ℤ pos 1))))
+plan-close n q some small =
+    let fraction = ratio_of-small (pos n) q small in
+    let high : ceil_of (pos n *ℤ pos unit) q ≡ pos (div_ceil (n * unit) q) = ceil_of-pos (pos n *ℤ pos unit) q some (rw (units-is n) (omega (arith, ints))) in
+    let near : div_ceil (n * unit) q ≤ n * unit / q + 1 = omega arith in
+    let ordered : n * unit / q ≤ div_ceil (n * unit) q = omega arith in
+    rw fraction (rw high (omega (arith, ints, ordered), omega (arith, ints, near)))
+
+square-close : (n d : ℤ) → pos 0 <ℤ d → pos 0 ≤ℤ n → unsigned_abs n ≤ 640000000000000 * unsigned_abs d → unsigned_abs d ≤ 68718952449
+    → IsSomeAnd (ratio_of n (unsigned_abs d * 1000000)).lo (λ low. IsSomeAnd (ratio_of n (unsigned_abs d * 1000000)).hi (λ high. (low ≤ℤ high) × (high ≤ℤ (low +ℤ pos 1))))
+square-close (negsuc n) d some from few wall = absurd (omega (arith, ints))
+square-close (pos n) (negsuc d) some from few wall = absurd (omega (arith, ints))
+square-close (pos n) (pos d) some from few wall = plan-close n (d * 1000000) (omega (arith, ints)) (omega (arith, few, wall))
+
+pub is-plan_square : (square : Frac) → IsPathSquare square → IsPlanSquare (ratio_of square.n (unsigned_abs square.d * 1000000))
+is-plan_square square h = record {
+  bounds = wider _ _ _ _ (ratio_of square.n (unsigned_abs square.d * 1000000)) (omega (arith, ints)) (omega (arith, ints)) (plan-square square.n square.d square.positive h.from_zero h.length h.wall);
+  close = square-close square.n square.d square.positive h.from_zero h.length h.wall;
+}
+
+-- the square of the plan length of the direct path
+pub direct-square : (n : ℕ) → n ≤ 128000000000000 → IsPathSquare (over (pos n) (pos 1))
+direct-square n h = record { from_zero = omega (arith, ints); length = omega (arith, h); wall = omega arith }
+
+-- where there is D_Omega the ground goes by the alternative method
+pub raised-by : (method : Ground) (path : Path) (square : Tree) (o : Option Interval) (grounds : List Interval) → o ≡ omega_along method path square → IfSome o IsSolidAngle
+    → (method ≡ methods.Simple → All IsSimpleGround grounds) → IsRaised o grounds
+raised-by methods.General path square o grounds is bounds simple = subst (λ (w : Option Interval). IsRaised w grounds) (sym is) tt
+raised-by methods.Simple path square None grounds is bounds simple = absurd (cc)
+raised-by methods.Simple path square (Some w) grounds is bounds simple = (bounds, simple refl)
+
+pub reflected-distance-bounded : (square : Frac) (m : ℕ) → IsPathSquare square → m < 2 ^ 48 → IsDistance (enc (Root (Add (Const square.n (unsigned_abs square.d * 1000000)) (Const (pos m) 1000000))))
 unfolding unit sum_range root_limit root_range
 reflected-distance-bounded square m h small =
     let along = plan-square square.n square.d square.positive h.from_zero h.length h.wall in

@@ -12,7 +12,7 @@ use Rattle.fix_interval.specs.Tree.{Tree, Known, Const, Add, Sub, enc}
 use Rattle.energy_sum.specs.Energies.{energy_form}
 use Rattle.scene_geom.specs.declared.band.Band.{Band}
 use Rattle.scene_geom.specs.Bands.{all_bands, place_of}
-use Rattle.scene_parts.specs.Views.{Source, Receiver, Zone, Globals}
+use Rattle.scene_parts.specs.Views.{Source, Receiver, Zone, Foliage, Globals}
 use Rattle.scene_parts.specs.declared.kinds.Air.{Air}
 use Rattle.scene_book.specs.Book.{Book}
 use Rattle.path_shape.specs.declared.path.Path.{Path}
@@ -22,11 +22,17 @@ use Rattle.scene_parts.specs.declared.crossing.Crossing.{Crossing}
 use Rattle.sight_cut.specs.Cuts.{edges_in, crossings_of}
 use Rattle.image_source.specs.Dimensions.{dimension_squared, needed_squared}
 use Rattle.term_div_atm.specs.Terms.{divergence}
-use Rattle.term_ground.specs.Ground.{ground}
+use Rattle.scene_parts.specs.declared.kinds.Ground.{Ground}
+use Rattle.scene_parts.specs.declared.kinds.Ground.TheVariants as methods
+use Rattle.path_shape.specs.Shape.{plan_square_form, square_form}
 use Rattle.term_ground.proofs.Same.{same-ground}
+use Rattle.term_ground.proofs.SimpleMethod.{simple-same}
+use Rattle.term_foliage.specs.Foliage.{foliage_attenuation}
+use Rattle.term_foliage.proofs.Lawful.{same-length}
 use Rattle.term_barrier.specs.Screening.{screening}
 use Rattle.path_calc.specs.declared.propagation.Propagation.{Propagation}
 use Rattle.path_calc.specs.Propagations.{Reflected, counts_at}
+use Rattle.path_calc.specs.Losses.{loss_in, losses_along}
 use Rattle.path_calc.specs.declared.paths.Paths.{Paths}
 use Rattle.path_calc.specs.Weights.{weight_in}
 use Rattle.path_calc.specs.Absorption.{coefficient_in}
@@ -35,19 +41,19 @@ use Rattle.path_calc.specs.LateralPaths.{LateralPath, lateral_paths}
 use Rattle.path_calc.specs.ReflectedPaths.{ReflectedPath, path_along}
 use Rattle.path_calc.specs.Strings.{d_z_along, d_z_over}
 use Rattle.path_calc.specs.Surroundings.{Surroundings, path_of, ends_of, edges_at, laterals_at, surroundings_of}
-use Rattle.path_calc.specs.Contributions.{Contribution, emission_in, unscreened_level, ground_in, screening_in, lateral_screening_in, sound_past, direct_sound, lateral_sound, leading, reflected_ground_in, reflected_screening_in, reflection_level, reflected_sound, sounds_of}
+use Rattle.path_calc.specs.Contributions.{Contribution, emission_in, power_along, power_between, unscreened_level, ground_along, ground_in, screening_in, lateral_screening_in, sound_past, direct_sound, lateral_sound, leading, reflected_power, reflected_ground_in, reflected_screening_in, reflected_foliage_in, reflection_level, reflected_sound, sounds_of}
 use Rattle.path_calc.specs.Energies.{sum_form, weighted, correction_of, band_energy, band_energy_between, long_energy_in}
 use Rattle.path_calc.specs.Bundles.{bundle_of}
 use Rattle.path_calc.specs.Prepared.{PreparedSource, prepared_of, emission_at}
 use Rattle.path_calc.specs.Ranges.{IsAtReceiver}
-use Rattle.path_calc.specs.Hearing.{IsDirect, ArePaths, propagation_along, bar_over, bars_over, ground_at, screening_at, lateral_at, reflected_of, screenings_at, level_before, past, downwind_energy, long_term_energy, reflected_energy, sum_after, energy_after, long_energy_after}
+use Rattle.path_calc.specs.Hearing.{IsDirect, ArePaths, direct_square, omega_along, grounds_along, raised, power_at, propagation_along, bar_over, bars_over, ground_at, screening_at, lateral_at, reflected_of, screenings_at, level_before, past, downwind_energy, long_term_energy, reflected_energy, sum_after, energy_after, long_energy_after}
 use Rattle.path_calc.proofs.Alike.{same-needed, same-dimension, same-correction, energy_by, same-each, same-through, same-lists}
 use Rattle.path_calc.proofs.Sums.{are-small, and-nothing, less-nothing}
 use Rattle.path_calc.proofs.Eight.{at-place, map-same, place-below}
 use Rattle.path_calc.proofs.SameScreening.{same-screening}
 use Rattle.path_calc.proofs.Screened.{bars-are, edges-there}
 use Rattle.path_calc.proofs.Stretching.{same-side}
-use Rattle.path_calc.proofs.Zones.{ground-eight, same-surroundings}
+use Rattle.path_calc.proofs.Zones.{ground-eight, same-ground_along, same-foliage_on}
 
 -- a level with a weight and a correction of 0 is that level
 pub unweighted : (band : Band) (level c_met energy : Interval) → IsAtReceiver level → weight_in band ≡ pos 0 → c_met ≡ enc (Const (pos 0) 1) → energy ≡ enc (energy_form (Known level))
@@ -71,12 +77,32 @@ unscreened-known p air d gr emission sent band air-is distance-is ground-is sent
     ∙ ap (λ (i : Interval). enc (unscreened_level emission d (coefficient_in p.air band) (Known i))) ground-is
     ∙ ap (λ (a : Air). enc (unscreened_level emission d (coefficient_in a band) gr)) air-is
 
--- the attenuation by the ground in a band is what the formula says
-ground-known : (zones : List Zone) (g0 : ℕ) (path : Path) (dp : Tree) (band : Band) (default : Interval) → path.dp ≡ enc dp
-    → get_or (map enc (ground zones g0 path (Known path.dp))) (place_of band) default ≡ enc (get_or (ground zones g0 path dp) (place_of band) (Const (pos 0) 1))
-ground-known zones g0 path dp band default is =
-    ap (λ (es : List Interval). get_or es (place_of band) default) (same-ground zones g0 path (Known path.dp) dp is)
-    ∙ get_or-map enc (ground zones g0 path dp) (place_of band) (Const (pos 0) 1) default (rw (ground-eight zones g0 path dp) (place-below band))
+-- the attenuations by the ground, by either method, depend on both lengths by their intervals alone
+same-grounds : (method : Ground) (zones : List Zone) (g0 : ℕ) (path : Path) (dp d : Tree) → path.dp ≡ enc dp
+    → map enc (ground_along method zones g0 path (Known path.dp) (Known (enc d))) ≡ map enc (ground_along method zones g0 path dp d)
+same-grounds methods.General zones g0 path dp d is = same-ground zones g0 path (Known path.dp) dp is
+same-grounds methods.Simple zones g0 path dp d is =
+    ap (λ (i : Interval). map (λ (b : Band). i) all_bands) (simple-same path (Known (enc d)) d refl)
+
+-- that in a band is what the formula says
+ground-known : (globals : Globals) (zones : List Zone) (path : Path) (dp d : Tree) (band : Band) (default : Interval) → path.dp ≡ enc dp
+    → get_or (grounds_along globals zones path (enc d)) (place_of band) default ≡ enc (get_or (ground_along globals.method zones globals.g path dp d) (place_of band) (Const (pos 0) 1))
+ground-known globals zones path dp d band default is =
+    ap (λ (es : List Interval). get_or es (place_of band) default) (same-grounds globals.method zones globals.g path dp d is)
+    ∙ get_or-map enc (ground_along globals.method zones globals.g path dp d) (place_of band) (Const (pos 0) 1) default (rw (ground-eight globals.method zones globals.g path dp d) (place-below band))
+
+-- and so is what is sent
+power-known : (method : Ground) (path : Path) (square emission : Tree)
+    → enc (raised (omega_along method path square) (Known (enc emission))) ≡ enc (power_along method path square emission)
+power-known methods.General path square emission = refl
+power-known methods.Simple path square emission = refl
+
+-- and what foliage takes off
+loss-known : (foliage : List Foliage) (path : Path) (d : Tree) (band : Band)
+    → loss_in (losses_along foliage path (enc d)) band ≡ enc (foliage_attenuation foliage path d band)
+loss-known foliage path d band =
+    ap (λ (is : List Interval). loss_in is band) (same-length foliage path (Known (enc d)) d refl)
+    ∙ at-place (λ band. enc (foliage_attenuation foliage path d band)) (enc (Const (pos 0) 1)) band
 
 -- and so is that by screening
 screening-known : (path : Path) (edges : Band → List Edge) (dp d gr : Tree) (ground : List Interval) (band : Band) (default : Interval) → path.dp ≡ enc dp
@@ -91,37 +117,55 @@ screening-known path edges dp d gr ground band default length-is ground-is =
 
 -- what the code knows of it
 pub direct-is : (p : Propagation) (book : Book) (s : Source) (r : Receiver) (d : Interval) (crossings : List Crossing) → d ≡ enc (distance s.at s.h r.at r.h) → crossings ≡ crossings_of (ends_of s r) book.obstacles
-    → p ≡ propagation_along book.globals book.zones (path_of s r) d crossings → IsDirect p book s r
+    → p ≡ propagation_along book (path_of s r) (direct_square s r) d crossings → IsDirect p book s r
 direct-is p book s r d crossings distance-is crossings-are is =
     let path = path_of s r in
+    let globals = book.globals in
     let dp = plan_length s.at r.at in
     let dist = distance s.at s.h r.at r.h in
-    let found = map enc (ground book.zones book.globals.g path (Known path.dp)) in
+    let around = surroundings_of book s r in
+    let found = grounds_along globals book.zones path (enc dist) in
     let in_band = λ (band : Band). edges_in band (ends_of s r) book.obstacles in
-    let known : p ≡ propagation_along book.globals book.zones path (enc dist) crossings =
-    is ∙ ap (λ (i : Interval). propagation_along book.globals book.zones path i crossings) distance-is in
-    let there : (band : Band) (default : Interval) → get_or found (place_of band) default ≡ enc (ground_in (surroundings_of book s r).zones book.globals.g s r band) =
+    let known : p ≡ propagation_along book path (direct_square s r) (enc dist) crossings =
+    is ∙ ap (λ (i : Interval). propagation_along book path (direct_square s r) i crossings) distance-is in
+    let there : (band : Band) (default : Interval) → get_or found (place_of band) default ≡ enc (ground_in globals around.zones s r band) =
     λ (band : Band) (default : Interval).
-    ground-known book.zones book.globals.g path dp band default refl
-    ∙ ap (λ (ts : List Tree). enc (get_or ts (place_of band) (Const (pos 0) 1))) (same-surroundings book.zones book.globals.g path dp) in
+    ground-known globals book.zones path dp dist band default refl
+    ∙ ap (λ (ts : List Tree). enc (get_or ts (place_of band) (Const (pos 0) 1))) (same-ground_along globals.method book.zones globals.g path dp dist) in
     record {
       air = ap (λ (q : Propagation). q.air) known;
       distance = ap (λ (q : Propagation). q.distance) known;
       ground = λ (band : Band). ap (λ (q : Propagation). ground_at q band) known ∙ there band _;
+      omega = ap (λ (q : Propagation). q.omega) known;
       screening = λ (band : Band).
-          let gr = ground_in (surroundings_of book s r).zones book.globals.g s r band in
+          let gr = ground_in globals around.zones s r band in
           ap (λ (q : Propagation). screening_at q band) known
           ∙ ap (λ (is : List Interval). get_or is (place_of band) (enc (divergence (Known (enc dist))))) (bars-are path (enc dist) found crossings (ends_of s r) book.obstacles crossings-are)
           ∙ screening-known path in_band dp dist gr found band _ refl (there band (enc dist))
           ∙ ap (λ (es : List Edge). enc (screening_in es s r gr band)) (sym (edges-there book s r band));
-      correction = ap (λ (q : Propagation). q.correction) known ∙ same-correction dp s.h r.h book.globals.c0;
+      foliage = λ (band : Band).
+          ap (λ (q : Propagation). loss_in q.foliage band) known
+          ∙ loss-known book.foliage path dist band
+          ∙ ap (λ (t : Tree). enc t) (same-foliage_on book.foliage path dist band);
+      correction = ap (λ (q : Propagation). q.correction) known ∙ same-correction dp s.h r.h globals.c0;
     }
 
+-- what is sent along it
+direct-power : (p : Propagation) (book : Book) (s : Source) (r : Receiver) (emission : Tree) → IsDirect p book s r
+    → power_at p (enc emission) ≡ enc (power_between book.globals s r emission)
+direct-power p book s r emission is =
+    ap (λ (o : Option Interval). enc (raised o (Known (enc emission)))) is.omega
+    ∙ power-known book.globals.method (path_of s r) (plan_square_form s.at r.at) emission
+
 level-is : (p : Propagation) (book : Book) (s : Source) (r : Receiver) (band : Band) (emission screening : Tree) → IsDirect p book s r
-    → enc (past (enc (level_before p band (enc emission))) (enc screening)) ≡ enc (sound_past book.globals (surroundings_of book s r) s r band emission screening).level
+    → enc (past (enc (level_before p band (power_at p (enc emission)))) (enc screening) (loss_in p.foliage band))
+    ≡ enc (sound_past book.globals (surroundings_of book s r) s r band emission screening).level
 level-is p book s r band emission screening is =
-    ap (λ (i : Interval). enc (past i (enc screening)))
-    (unscreened-known p book.globals.air (distance s.at s.h r.at r.h) (ground_in (surroundings_of book s r).zones book.globals.g s r band) emission (enc emission) band is.air is.distance (is.ground band) refl)
+    let around = surroundings_of book s r in
+    ap (λ (i : Interval). enc (past i (enc screening) (loss_in p.foliage band)))
+    (unscreened-known p book.globals.air (distance s.at s.h r.at r.h) (ground_in book.globals around.zones s r band) (power_between book.globals s r emission) (power_at p (enc emission)) band
+    is.air is.distance (is.ground band) (direct-power p book s r emission is))
+    ∙ ap (λ (i : Interval). enc (Sub (Sub (unscreened_level (power_between book.globals s r emission) (distance s.at s.h r.at r.h) (coefficient_in book.globals.air band) (ground_in book.globals around.zones s r band)) screening) (Known i))) (is.foliage band)
 
 -- what is known of the screening round the sides is what the formulas say
 pub lateral-is : (paths : Paths) (book : Book) (s : Source) (r : Receiver) (d : Interval) (band : Band) → d ≡ enc (distance s.at s.h r.at r.h)
@@ -147,25 +191,32 @@ reflected-is f same globals s r band emission path =
     let unfolded = path_along ends path.unfolded in
     let dp = length_of path.unfolded.square in
     let d = reflected_distance path.unfolded.square s.h r.h in
-    let gr = reflected_ground_in path globals.g s r band in
+    let gr = reflected_ground_in globals path s r band in
     let bar = reflected_screening_in path s r gr band in
+    let fol = reflected_foliage_in path s r band in
     let sound = reflected_sound globals s r band emission path in
     let in_band = λ (band : Band). get_or path.edges (place_of band) [] in
-    let known = map enc (ground path.zones globals.g unfolded (Known unfolded.dp)) in
-    let there : (default : Interval) → get_or known (place_of band) default ≡ enc gr = λ (default : Interval). ground-known path.zones globals.g unfolded dp band default refl in
+    let known = grounds_along globals path.zones unfolded (enc d) in
+    let sent = Add (reflected_power globals path s r emission) (reflection_level path.rho) in
+    let power : add_of (power_at m.path (enc emission)) m.level ≡ enc sent =
+    ap (λ (i : Interval). add_of i m.level) (power-known globals.method unfolded (square_form path.unfolded.square) emission) in
+    let there : (default : Interval) → get_or known (place_of band) default ≡ enc gr = λ (default : Interval). ground-known globals path.zones unfolded dp d band default refl in
     let screened : screening_at m.path band ≡ enc bar = screening-known unfolded in_band dp d gr known band m.path.divergence refl (there (enc d)) in
-    let before : enc (level_before m.path band (add_of (enc emission) m.level)) ≡ enc (unscreened_level (Add emission (reflection_level path.rho)) d (coefficient_in globals.air band) gr) =
-    unscreened-known m.path globals.air d gr (Add emission (reflection_level path.rho)) (add_of (enc emission) m.level) band refl refl (there m.path.divergence) refl in
-    let level : enc (past (enc (level_before m.path band (add_of (enc emission) m.level))) (screening_at m.path band)) ≡ enc sound.level =
-    ap (λ (i : Interval). enc (past i (screening_at m.path band))) before
-    ∙ ap (λ (i : Interval). enc (Sub (unscreened_level (Add emission (reflection_level path.rho)) d (coefficient_in globals.air band) gr) (Known i))) screened in
+    let lost : loss_in m.path.foliage band ≡ enc fol = loss-known path.foliage unfolded d band in
+    let before : enc (level_before m.path band (add_of (power_at m.path (enc emission)) m.level)) ≡ enc (unscreened_level sent d (coefficient_in globals.air band) gr) =
+    unscreened-known m.path globals.air d gr sent (add_of (power_at m.path (enc emission)) m.level) band refl refl (there m.path.divergence) power in
+    let here = past (enc (level_before m.path band (add_of (power_at m.path (enc emission)) m.level))) (screening_at m.path band) (loss_in m.path.foliage band) in
+    let level : enc here ≡ enc sound.level =
+    ap (λ (i : Interval). enc (past i (screening_at m.path band) (loss_in m.path.foliage band))) before
+    ∙ ap (λ (i : Interval). enc (Sub (Sub (unscreened_level sent d (coefficient_in globals.air band) gr) (Known i)) (Known (loss_in m.path.foliage band)))) screened
+    ∙ ap (λ (i : Interval). enc (Sub (Sub (unscreened_level sent d (coefficient_in globals.air band) gr) bar) (Known i))) lost in
     let decided : counts_at m band ≡ less_of (enc (needed_squared path.unfolded.p d band)) (enc (dimension_squared path.side path.h path.unfolded.p d)) =
     at-place (λ band. less_of (enc (needed_squared path.unfolded.p (Known (enc d)) band)) (enc (dimension_squared path.side path.h path.unfolded.p (Known (enc d))))) Unsure band
     ∙ ap (λ (i : Interval). less_of i (enc (dimension_squared path.side path.h path.unfolded.p (Known (enc d))))) (same-needed path.unfolded.p d band)
     ∙ ap (less_of (enc (needed_squared path.unfolded.p d band))) (same-dimension path.side path.h path.unfolded.p d) in
-    ap (λ (truth : Truth). pick_of truth (enc (f (Known m.path.correction) (past (enc (level_before m.path band (add_of (enc emission) m.level))) (screening_at m.path band)))) (enc (Const (pos 0) 1))) decided
+    ap (λ (truth : Truth). pick_of truth (enc (f (Known m.path.correction) here)) (enc (Const (pos 0) 1))) decided
     ∙ ap (λ (i : Interval). pick_of (less_of (enc (needed_squared path.unfolded.p d band)) (enc (dimension_squared path.side path.h path.unfolded.p d))) i (enc (Const (pos 0) 1)))
-    (same (Known m.path.correction) (correction_of globals s r sound) (past (enc (level_before m.path band (add_of (enc emission) m.level))) (screening_at m.path band)) sound.level
+    (same (Known m.path.correction) (correction_of globals s r sound) here sound.level
     (same-correction dp s.h r.h globals.c0) level)
 
 -- ---- the energies of all sounds
@@ -180,16 +231,16 @@ map-twice f g [] = refl
 map-twice f g (x ∷ xs) = ap (λ zs. f (g x) ∷ zs) (map-twice f g xs)
 
 screenings-are : (paths : Paths) (book : Book) (s : Source) (r : Receiver) (band : Band) → ArePaths paths book s r
-    → screenings_at paths band ≡ map enc (screenings (surroundings_of book s r) s r band (ground_in (surroundings_of book s r).zones book.globals.g s r band))
+    → screenings_at paths band ≡ map enc (screenings (surroundings_of book s r) s r band (ground_in book.globals (surroundings_of book s r).zones s r band))
 screenings-are paths book s r band are =
     let round = leading (laterals_at band (surroundings_of book s r)) in
-    let bar = screening_in (edges_at band (surroundings_of book s r)) s r (ground_in (surroundings_of book s r).zones book.globals.g s r band) band in
+    let bar = screening_in (edges_at band (surroundings_of book s r)) s r (ground_in book.globals (surroundings_of book s r).zones s r band) band in
     ap (λ (i : Interval). i ∷ lateral_at paths band) (are.direct.screening band)
     ∙ ap (λ (es : List Interval). enc bar ∷ es) (are.lateral band ∙ map-twice enc (λ (path : LateralPath). lateral_screening_in path s r band) round)
 
 -- the sounds over the top and round the sides are those past such attenuations
 unreflected-are : (globals : Globals) (around : Surroundings) (s : Source) (r : Receiver) (band : Band) (emission : Tree) (f : Contribution → Tree)
-    → map (λ (t : Tree). f (sound_past globals around s r band emission t)) (screenings around s r band (ground_in around.zones globals.g s r band))
+    → map (λ (t : Tree). f (sound_past globals around s r band emission t)) (screenings around s r band (ground_in globals around.zones s r band))
     ≡ map f (direct_sound globals around s r band emission ∷ map (lateral_sound globals around s r band emission) (leading (laterals_at band around)))
 unreflected-are globals around s r band emission f =
     let paths = leading (laterals_at band around) in
@@ -204,19 +255,20 @@ energies-are f same paths book s r band None are = refl
 energies-are f same paths book s r band (Some emission) are =
     let globals = book.globals in
     let around = surroundings_of book s r in
-    let level = enc (level_before paths.direct band (enc emission)) in
+    let level = enc (level_before paths.direct band (power_at paths.direct (enc emission))) in
     let c_met = Known paths.direct.correction in
-    let over = λ (i : Interval). f c_met (past level i) in
+    let lost = loss_in paths.direct.foliage band in
+    let over = λ (i : Interval). f c_met (past level i lost) in
     let by = energy_by globals s r f in
     let by_wall = reflected_energy f band (enc emission) in
-    let gr = ground_in around.zones globals.g s r band in
+    let gr = ground_in globals around.zones s r band in
     let ts = screenings around s r band gr in
     let past_it = λ (t : Tree). by (sound_past globals around s r band emission t) in
     let unreflected = direct_sound globals around s r band emission ∷ map (lateral_sound globals around s r band emission) (leading (laterals_at band around)) in
     let reflected = map (reflected_sound globals s r band emission) around.reflected in
     let first : map enc (map over (screenings_at paths band)) ≡ map enc (map by unreflected) =
     ap (λ (es : List Interval). map enc (map over es)) (screenings-are paths book s r band are)
-    ∙ same-each over past_it (λ (t : Tree). same c_met (correction_of globals s r (sound_past globals around s r band emission t)) (past level (enc t)) (sound_past globals around s r band emission t).level are.direct.correction (level-is paths.direct book s r band emission t are.direct)) ts
+    ∙ same-each over past_it (λ (t : Tree). same c_met (correction_of globals s r (sound_past globals around s r band emission t)) (past level (enc t) lost) (sound_past globals around s r band emission t).level are.direct.correction (level-is paths.direct book s r band emission t are.direct)) ts
     ∙ ap (λ (us : List Tree). map enc us) (unreflected-are globals around s r band emission by) in
     let second : map enc (map by_wall paths.reflected.items) ≡ map enc (map by reflected) =
     ap (λ (ms : List Reflected). map enc (map by_wall ms)) are.reflected

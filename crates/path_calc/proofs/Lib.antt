@@ -8,6 +8,7 @@ pub mod AllSounds
 pub mod Reflecting
 pub mod Adding
 pub mod Sound
+pub mod Losing
 pub mod Showing
 pub mod SameScreening
 pub mod Screened

@@ -1,6 +1,6 @@
 -- Paths by way of walls that are found one after another, and what is known of each.
 use Rattle.std.proofs.Common.{◌≡◌, ℕ, zero, suc, ◌^◌, pos, ◌≤ℤ◌, subst, ◌+◌, ◌≤◌, ◌<◌, List, [], ◌∷◌, ◌++◌, length, drop, get_or, map, filter, refl, sym, ap, ◌∙◌, arith, append_assoc, append-nil}
-use Rattle.std.specs.Prelude.{Option, Some, None, Bool, true, false, All, flat_map, slice_get}
+use Rattle.std.specs.Prelude.{Option, Some, None, Bool, true, false, IsTrue, All, flat_map, slice_get}
 use Rattle.std.specs.List.{filter_map}
 use Rattle.std.specs.Bool.{then_some}
 use Rattle.std.specs.Option.{option_to_list}
@@ -19,9 +19,10 @@ use Rattle.scene_geom.specs.declared.plan.Side.{Side}
 use Rattle.scene_geom.specs.Reflection.{off_wall, along_wall, squared_length, unfolded}
 use Rattle.scene_geom.proofs.Walls.{over-n}
 use Rattle.scene_geom.specs.declared.reflection.Reflection.{Reflection}
-use Rattle.scene_parts.specs.Views.{Obstacle, Zone, Globals}
+use Rattle.scene_parts.specs.Views.{Obstacle, Globals}
 use Rattle.scene_parts.specs.Sides.{sides_of}
-use Rattle.scene_book.specs.Book.{side_total}
+use Rattle.scene_parts.specs.Ranges.{is_mirror}
+use Rattle.scene_book.specs.Book.{Book, side_total}
 use Rattle.scene_parts.specs.declared.edge.Edge.{Edge}
 use Rattle.scene_parts.specs.declared.ends.Ends.{Ends}
 use Rattle.scene_parts.specs.declared.crossing.Crossing.{Crossing}
@@ -34,20 +35,20 @@ use Rattle.image_source.specs.declared.leg.Leg.TheVariants.{First, Second}
 use Rattle.image_source.proofs.Edges.{leg-crossings-are-edges}
 use Rattle.image_source.proofs.Fitting.{leg-edges-fit}
 use Rattle.image_source.specs.Laws.{FitsLegEdge}
-use Rattle.term_ground.specs.Ground.{ground}
 use Rattle.term_barrier.specs.Edges.{FitsEdge}
 use Rattle.path_calc.specs.declared.propagation.Propagation.{Propagation}
 use Rattle.path_calc.specs.Propagations.{Reflected}
+use Rattle.path_calc.specs.Losses.{losses_along}
 use Rattle.path_calc.specs.declared.segments.Seg.{Seg}
 use Rattle.path_calc.specs.declared.segments.Seg.TheVariants.{Legs}
 use Rattle.path_calc.specs.Lengths.{reflected_distance}
 use Rattle.path_calc.specs.Contributions.{reflection_level}
-use Rattle.path_calc.specs.Ranges.{IsReflectedSquare}
+use Rattle.path_calc.specs.Ranges.{IsPathSquare}
 use Rattle.path_calc.specs.Laws.{ReflectedEdgesAreCuts}
 use Rattle.path_calc.specs.ReflectedPaths.{ReflectedPath, path_along, along_legs, reflected_in, reflected_by, reflected_paths}
-use Rattle.path_calc.specs.Hearing.{edges_among, bar_over, bars_over, propagation_along, crossings_on, reflected_of}
+use Rattle.path_calc.specs.Hearing.{edges_among, bar_over, bars_over, grounds_along, propagation_over, propagation_along, crossings_on, reflected_of}
 use Rattle.path_calc.proofs.Eight.{at-place, map-same}
-use Rattle.path_calc.proofs.Zones.{same-surroundings}
+use Rattle.path_calc.proofs.Zones.{same-ground_along, same-losses}
 
 -- ---- crossings of legs
 
@@ -92,21 +93,25 @@ leg-crossings-fit path ends obstacles is =
 
 -- the edges that are read are those of the cuts
 pub reflected-edges-are-cuts : ReflectedEdgesAreCuts
-reflected-edges-are-cuts obstacles zones ends o side laid band = record {
-  crossings = filter (is_leg_crossing_in band) (leg_crossings_of laid ends obstacles);
-  edges = at-place (λ band. edges_in band laid ends obstacles) [] band ∙ sym (leg-crossings-are-edges band laid ends obstacles);
+reflected-edges-are-cuts book ends o side laid band = record {
+  crossings = filter (is_leg_crossing_in band) (leg_crossings_of laid ends book.obstacles);
+  edges = at-place (λ band. edges_in band laid ends book.obstacles) [] band ∙ sym (leg-crossings-are-edges band laid ends book.obstacles);
   cuts = refl;
 }
 
 -- ---- one path
 
 -- what the square of the plan length keeps
-pub square-kept : (side : Side) (s r : Pt) (m : Reflection) → m ≡ unfolded side s r → IsMirror m → IsReflectedSquare m.square
+pub square-kept : (side : Side) (s r : Pt) (m : Reflection) → m ≡ unfolded side s r → IsMirror m → IsPathSquare m.square
 square-kept side s r m is kept = record {
   from_zero = subst (λ (q : Reflection). pos 0 ≤ℤ q.square.n) (sym is) (rw (over-n (pos ((off_wall side s + off_wall side r) ^ 2 + along_wall side s r ^ 2)) (squared_length side)) (omega (arith, ints)));
   length = kept.fits.square;
   wall = kept.fits.wall;
 }
+
+-- a wall that reflects is a mirror
+pub strong-mirror : (rho : ℕ) → 0 < rho → IsTrue (is_mirror rho) → 200 < rho
+strong-mirror rho some mirror = grind arith
 
 -- a reflection that is there is the unfolded path
 pub unfolded-there : (o : Obstacle) (side : Side) (ends : Ends) (m : Reflection) → Some m ≡ mirror_of o side ends → m ≡ unfolded side ends.s ends.r
@@ -116,34 +121,37 @@ unfolded-there o side ends m is = by (has_mirror o side ends) is where
   by false e = absurd (cc)
 
 -- what the code knows of a path by way of a wall is what is read along it
-pub by-way-is : (m : Reflected) (globals : Globals) (obstacles : List Obstacle) (zones : List Zone) (ends : Ends) (o : Obstacle) (side : Side) (laid : Reflection) (legs : List (Leg × Crossing)) (d : Interval)
-    → d ≡ enc (reflected_distance laid.square ends.hs ends.hr) → legs ≡ leg_crossings_of laid ends obstacles
+pub by-way-is : (m : Reflected) (book : Book) (ends : Ends) (o : Obstacle) (side : Side) (laid : Reflection) (legs : List (Leg × Crossing)) (d : Interval)
+    → d ≡ enc (reflected_distance laid.square ends.hs ends.hr) → legs ≡ leg_crossings_of laid ends book.obstacles
     → m.wall ≡ Legs side ends.s ends.r
-    → m.path ≡ propagation_along globals zones (path_along ends laid) d (crossings_on legs)
+    → m.path ≡ propagation_along book (path_along ends laid) laid.square d (crossings_on legs)
     → m.level ≡ enc (reflection_level o.rho)
     → m.counts ≡ map (λ band. less_of (enc (needed_squared laid.p (Known d) band)) (enc (dimension_squared side o.h laid.p (Known d)))) all_bands
-    → m ≡ reflected_of globals ends (along_legs obstacles zones ends o side laid)
-by-way-is m globals obstacles zones ends o side laid legs d distance-is legs-are wall-is path-is level-is counts-are =
+    → m ≡ reflected_of book.globals ends (along_legs book ends o side laid)
+by-way-is m book ends o side laid legs d distance-is legs-are wall-is path-is level-is counts-are =
+    let globals = book.globals in
     let path = path_along ends laid in
-    let read = along_legs obstacles zones ends o side laid in
+    let read = along_legs book ends o side laid in
     let want = reflected_of globals ends read in
+    let far = want.path.distance in
     let edges = λ (band : Band). edges_among band (crossings_on legs) in
     let there = λ (band : Band). get_or read.edges (place_of band) [] in
     let same-edges : (band : Band) → edges band ≡ there band = λ (band : Band).
     among-legs band legs
     ∙ ap (λ (ls : List (Leg × Crossing)). map (λ (c : Leg × Crossing). c.1.edge) (filter (is_leg_crossing_in band) ls)) legs-are
-    ∙ leg-crossings-are-edges band laid ends obstacles
-    ∙ sym (at-place (λ band. edges_in band laid ends obstacles) [] band) in
-    let grounds : map enc (ground zones globals.g path (Known path.dp)) ≡ want.path.ground = ap (λ ts. map enc ts) (same-surroundings zones globals.g path (Known path.dp)) in
-    let bars : bars_over path edges want.path.distance (map enc (ground zones globals.g path (Known path.dp))) ≡ want.path.screening =
-    ap (bars_over path edges want.path.distance) grounds
-    ∙ map-same (λ band. bar_over path (edges band) want.path.distance want.path.ground band) (λ band. bar_over path (there band) want.path.distance want.path.ground band)
-    (λ band. ap (λ (es : List Edge). bar_over path es want.path.distance want.path.ground band) (same-edges band)) all_bands in
+    ∙ leg-crossings-are-edges band laid ends book.obstacles
+    ∙ sym (at-place (λ band. edges_in band laid ends book.obstacles) [] band) in
+    let grounds : grounds_along globals book.zones path far ≡ want.path.grounds = ap (λ ts. map enc ts) (same-ground_along globals.method book.zones globals.g path (Known path.dp) (Known far)) in
+    let losses : losses_along book.foliage path far ≡ want.path.foliage = same-losses book.foliage path far in
+    let bars : bars_over path edges far want.path.grounds ≡ want.path.screening =
+    map-same (λ band. bar_over path (edges band) far want.path.grounds band) (λ band. bar_over path (there band) far want.path.grounds band)
+    (λ band. ap (λ (es : List Edge). bar_over path es far want.path.grounds band) (same-edges band)) all_bands in
     let paths : m.path ≡ want.path =
     path-is
-    ∙ ap (λ (i : Interval). propagation_along globals zones path i (crossings_on legs)) distance-is
-    ∙ ap (λ (is : List Interval). record { air = globals.air; distance = want.path.distance; divergence = want.path.divergence; ground = is; screening = bars_over path edges want.path.distance (map enc (ground zones globals.g path (Known path.dp))); correction = want.path.correction }) grounds
-    ∙ ap (λ (is : List Interval). record { air = globals.air; distance = want.path.distance; divergence = want.path.divergence; ground = want.path.ground; screening = is; correction = want.path.correction }) bars in
+    ∙ ap (λ (i : Interval). propagation_along book path laid.square i (crossings_on legs)) distance-is
+    ∙ ap (λ (is : List Interval). propagation_over globals book.foliage path laid.square far is edges) grounds
+    ∙ ap (λ (is : List Interval). record want.path { foliage = is; screening = bars_over path edges far want.path.grounds }) losses
+    ∙ ap (λ (is : List Interval). record want.path { screening = is }) bars in
     let tests : m.counts ≡ want.counts = counts-are ∙ ap (λ (i : Interval). map (λ band. less_of (enc (needed_squared laid.p (Known i) band)) (enc (dimension_squared side o.h laid.p (Known i)))) all_bands) distance-is in
     ap (λ (w : Seg). record m { wall = w }) wall-is
     ∙ ap (λ (p : Propagation). record { wall = want.wall; path = p; level = m.level; counts = m.counts }) paths
@@ -153,8 +161,8 @@ by-way-is m globals obstacles zones ends o side laid legs d distance-is legs-are
 -- ---- paths found one after another
 
 -- the paths by way of some sides
-abbrev pub by_sides : List Obstacle → List Zone → Ends → Obstacle → List Side → List ReflectedPath
-by_sides obstacles zones ends o sides = filter_map (reflected_in obstacles zones ends o) sides
+abbrev pub by_sides : Book → Ends → Obstacle → List Side → List ReflectedPath
+by_sides book ends o sides = filter_map (reflected_in book ends o) sides
 
 -- what a list gives for a thing before others
 filter_map-cons : {X Y : Type 0} (f : X → Option Y) (x : X) (xs : List X) → filter_map f (x ∷ xs) ≡ option_to_list (f x) ++ filter_map f xs
@@ -167,55 +175,55 @@ here : (sides : List Side) (i : ℕ) (side : Side) → slice_get sides i ≡ Som
 here sides i side e = drop_more sides i side (slice_get_within sides i side e) ∙ ap (λ x. x ∷ drop (i + 1) sides) (get_or_from_slice_get sides i side side e)
 
 -- a path for a side, where there is one
-pub one-added : (globals : Globals) (obstacles : List Obstacle) (zones : List Zone) (ends : Ends) (o : Obstacle) (side : Side) (laid : Reflection) (m : Reflected) (found : List Reflected)
-    → mirror_of o side ends ≡ Some laid → m ≡ reflected_of globals ends (along_legs obstacles zones ends o side laid)
-    → found ++ m ∷ [] ≡ found ++ map (reflected_of globals ends) (option_to_list (reflected_in obstacles zones ends o side))
-one-added globals obstacles zones ends o side laid m found some is = rw (some, is) refl
+pub one-added : (globals : Globals) (book : Book) (ends : Ends) (o : Obstacle) (side : Side) (laid : Reflection) (m : Reflected) (found : List Reflected)
+    → mirror_of o side ends ≡ Some laid → m ≡ reflected_of globals ends (along_legs book ends o side laid)
+    → found ++ m ∷ [] ≡ found ++ map (reflected_of globals ends) (option_to_list (reflected_in book ends o side))
+one-added globals book ends o side laid m found some is = rw (some, is) refl
 
-pub none-added : (globals : Globals) (obstacles : List Obstacle) (zones : List Zone) (ends : Ends) (o : Obstacle) (side : Side) (found : List Reflected)
-    → mirror_of o side ends ≡ None → found ≡ found ++ map (reflected_of globals ends) (option_to_list (reflected_in obstacles zones ends o side))
-none-added globals obstacles zones ends o side found none = rw none (sym (append-nil found))
+pub none-added : (globals : Globals) (book : Book) (ends : Ends) (o : Obstacle) (side : Side) (found : List Reflected)
+    → mirror_of o side ends ≡ None → found ≡ found ++ map (reflected_of globals ends) (option_to_list (reflected_in book ends o side))
+none-added globals book ends o side found none = rw none (sym (append-nil found))
 
 -- what is found, and what the sides behind give, is the same after a side
-pub side-added : (globals : Globals) (obstacles : List Obstacle) (zones : List Zone) (ends : Ends) (o : Obstacle) (sides : List Side) (i : ℕ) (side : Side) (found new all : List Reflected)
-    → slice_get sides i ≡ Some side → new ≡ found ++ map (reflected_of globals ends) (option_to_list (reflected_in obstacles zones ends o side))
-    → found ++ map (reflected_of globals ends) (by_sides obstacles zones ends o (drop i sides)) ≡ all
-    → new ++ map (reflected_of globals ends) (by_sides obstacles zones ends o (drop (i + 1) sides)) ≡ all
-side-added globals obstacles zones ends o sides i side found new all e added h =
+pub side-added : (globals : Globals) (book : Book) (ends : Ends) (o : Obstacle) (sides : List Side) (i : ℕ) (side : Side) (found new all : List Reflected)
+    → slice_get sides i ≡ Some side → new ≡ found ++ map (reflected_of globals ends) (option_to_list (reflected_in book ends o side))
+    → found ++ map (reflected_of globals ends) (by_sides book ends o (drop i sides)) ≡ all
+    → new ++ map (reflected_of globals ends) (by_sides book ends o (drop (i + 1) sides)) ≡ all
+side-added globals book ends o sides i side found new all e added h =
     let made = reflected_of globals ends in
-    let these = option_to_list (reflected_in obstacles zones ends o side) in
-    let rest = by_sides obstacles zones ends o (drop (i + 1) sides) in
-    let next : by_sides obstacles zones ends o (drop i sides) ≡ these ++ rest =
-    ap (by_sides obstacles zones ends o) (here sides i side e) ∙ filter_map-cons (reflected_in obstacles zones ends o) side (drop (i + 1) sides) in
+    let these = option_to_list (reflected_in book ends o side) in
+    let rest = by_sides book ends o (drop (i + 1) sides) in
+    let next : by_sides book ends o (drop i sides) ≡ these ++ rest =
+    ap (by_sides book ends o) (here sides i side e) ∙ filter_map-cons (reflected_in book ends o) side (drop (i + 1) sides) in
     ap (λ xs. xs ++ map made rest) added
     ∙ append_assoc found (map made these) (map made rest)
     ∙ ap (λ xs. found ++ xs) (sym (map-append made these rest))
     ∙ ap (λ paths. found ++ map made paths) (sym next) ∙ h
 
 -- an obstacle that doesn't reflect
-none-of-sides : (obstacles : List Obstacle) (zones : List Zone) (ends : Ends) (o : Obstacle) (sides : List Side) → o.rho ≡ 0 → by_sides obstacles zones ends o sides ≡ []
-none-of-sides obstacles zones ends o [] is = refl
-none-of-sides obstacles zones ends o (side ∷ sides) is =
+none-of-sides : (book : Book) (ends : Ends) (o : Obstacle) (sides : List Side) → o.rho ≡ 0 → by_sides book ends o sides ≡ []
+none-of-sides book ends o [] is = refl
+none-of-sides book ends o (side ∷ sides) is =
     let none : mirror_of o side ends ≡ None = rw is refl in
-    rw none (none-of-sides obstacles zones ends o sides is)
+    rw none (none-of-sides book ends o sides is)
 
 -- adds nothing
-pub nothing-reflected : (globals : Globals) (obstacles : List Obstacle) (zones : List Zone) (ends : Ends) (o : Obstacle) (found : List Reflected) → o.rho ≡ 0
-    → found ≡ found ++ map (reflected_of globals ends) (reflected_by obstacles zones ends o)
-nothing-reflected globals obstacles zones ends o found none =
-    sym (append-nil found) ∙ ap (λ paths. found ++ map (reflected_of globals ends) paths) (sym (none-of-sides obstacles zones ends o (sides_of o) none))
+pub nothing-reflected : (globals : Globals) (book : Book) (ends : Ends) (o : Obstacle) (found : List Reflected) → o.rho ≡ 0
+    → found ≡ found ++ map (reflected_of globals ends) (reflected_by book ends o)
+nothing-reflected globals book ends o found none =
+    sym (append-nil found) ∙ ap (λ paths. found ++ map (reflected_of globals ends) paths) (sym (none-of-sides book ends o (sides_of o) none))
 
 obstacle-here : (obstacles : List Obstacle) (i : ℕ) (o : Obstacle) → i < length obstacles → o ≡ get_or obstacles i o → drop i obstacles ≡ o ∷ drop (i + 1) obstacles
 obstacle-here obstacles i o below is = drop_more obstacles i o below ∙ ap (λ x. x ∷ drop (i + 1) obstacles) (sym is)
 
-pub obstacle-added : (globals : Globals) (obstacles : List Obstacle) (zones : List Zone) (ends : Ends) (os : List Obstacle) (i : ℕ) (o : Obstacle) (found new all : List Reflected)
-    → i < length os → o ≡ get_or os i o → new ≡ found ++ map (reflected_of globals ends) (reflected_by obstacles zones ends o)
-    → found ++ map (reflected_of globals ends) (flat_map (reflected_by obstacles zones ends) (drop i os)) ≡ all
-    → new ++ map (reflected_of globals ends) (flat_map (reflected_by obstacles zones ends) (drop (i + 1) os)) ≡ all
-obstacle-added globals obstacles zones ends os i o found new all below is added h =
-    let rest = flat_map (reflected_by obstacles zones ends) (drop (i + 1) os) in
-    let these = reflected_by obstacles zones ends o in
-    let next : flat_map (reflected_by obstacles zones ends) (drop i os) ≡ these ++ rest = ap (flat_map (reflected_by obstacles zones ends)) (obstacle-here os i o below is) in
+pub obstacle-added : (globals : Globals) (book : Book) (ends : Ends) (os : List Obstacle) (i : ℕ) (o : Obstacle) (found new all : List Reflected)
+    → i < length os → o ≡ get_or os i o → new ≡ found ++ map (reflected_of globals ends) (reflected_by book ends o)
+    → found ++ map (reflected_of globals ends) (flat_map (reflected_by book ends) (drop i os)) ≡ all
+    → new ++ map (reflected_of globals ends) (flat_map (reflected_by book ends) (drop (i + 1) os)) ≡ all
+obstacle-added globals book ends os i o found new all below is added h =
+    let rest = flat_map (reflected_by book ends) (drop (i + 1) os) in
+    let these = reflected_by book ends o in
+    let next : flat_map (reflected_by book ends) (drop i os) ≡ these ++ rest = ap (flat_map (reflected_by book ends)) (obstacle-here os i o below is) in
     ap (λ xs. xs ++ map (reflected_of globals ends) rest) added
     ∙ append_assoc found (map (reflected_of globals ends) these) (map (reflected_of globals ends) rest)
     ∙ ap (λ xs. found ++ xs) (sym (map-append (reflected_of globals ends) these rest))
@@ -230,15 +238,15 @@ few-of-sides f (x ∷ xs) = by (f x) refl (few-of-sides f xs) where
   by None e h = rw e (omega (arith, h))
   by (Some y) e h = rw e (omega (arith, h))
 
-few-of-obstacles : (obstacles : List Obstacle) (zones : List Zone) (ends : Ends) (os : List Obstacle) → length (flat_map (reflected_by obstacles zones ends) os) ≤ side_total os
-few-of-obstacles obstacles zones ends [] = omega arith
-few-of-obstacles obstacles zones ends (o ∷ os) =
-    let both = length-append (reflected_by obstacles zones ends o) (flat_map (reflected_by obstacles zones ends) os) in
-    omega (arith, both, few-of-sides (reflected_in obstacles zones ends o) (sides_of o), few-of-obstacles obstacles zones ends os)
+few-of-obstacles : (book : Book) (ends : Ends) (os : List Obstacle) → length (flat_map (reflected_by book ends) os) ≤ side_total os
+few-of-obstacles book ends [] = omega arith
+few-of-obstacles book ends (o ∷ os) =
+    let both = length-append (reflected_by book ends o) (flat_map (reflected_by book ends) os) in
+    omega (arith, both, few-of-sides (reflected_in book ends o) (sides_of o), few-of-obstacles book ends os)
 
-pub few-paths : (obstacles : List Obstacle) (zones : List Zone) (ends : Ends) → length (reflected_paths obstacles zones ends) ≤ side_total obstacles
-few-paths obstacles zones ends = few-of-obstacles obstacles zones ends obstacles
+pub few-paths : (book : Book) (ends : Ends) → length (reflected_paths book ends) ≤ side_total book.obstacles
+few-paths book ends = few-of-obstacles book ends book.obstacles
 
 -- so are those that are found
-pub few-found : (globals : Globals) (obstacles : List Obstacle) (zones : List Zone) (ends : Ends) (found : List Reflected) → found ≡ map (reflected_of globals ends) (reflected_paths obstacles zones ends) → length found ≤ side_total obstacles
-few-found globals obstacles zones ends found is = rw (is, length-map (reflected_paths obstacles zones ends) (reflected_of globals ends)) (few-paths obstacles zones ends)
+pub few-found : (globals : Globals) (book : Book) (ends : Ends) (found : List Reflected) → found ≡ map (reflected_of globals ends) (reflected_paths book ends) → length found ≤ side_total book.obstacles
+few-found globals book ends found is = rw (is, length-map (reflected_paths book ends) (reflected_of globals ends)) (few-paths book ends)

@@ -1,5 +1,5 @@
 -- The formulas of energies and levels are sound: no divisor of a constant is 0.
-use Rattle.std.proofs.Common.{ℕ, ◌*◌, ◌<◌, ℤ, pos, negsuc, lit<, List, [], ◌∷◌, ◌++◌, map, Option, arith}
+use Rattle.std.proofs.Common.{subst, ℕ, ◌*◌, ◌<◌, ℤ, pos, negsuc, lit<, List, [], ◌∷◌, ◌++◌, length, get_or, map, Option, arith}
 use Rattle.std.specs.Prelude.{Some, None, fold, ◌<ℤ◌, unsigned_abs, slice_index_or}
 use Rattle.std.proofs.lemmas.Int.{ints}
 use Rattle.std.specs.Option.{option_map}
@@ -12,17 +12,27 @@ use Rattle.scene_geom.specs.declared.fraction.Frac.{Frac}
 use Rattle.path_shape.specs.Shape.{plan_length, length_of}
 use Rattle.image_source.proofs.Sound.{condition-is-sound}
 use Rattle.term_ground.proofs.Sound.{ground-sound}
+use Rattle.scene_parts.specs.declared.kinds.Ground.{Ground}
+use Rattle.scene_parts.specs.declared.kinds.Ground.TheVariants as methods
+use Rattle.path_shape.specs.declared.path.Path.{Path}
+use Rattle.path_shape.specs.Shape.{plan_square_form, square_form}
+use Rattle.term_ground.specs.Alternative.{simple_ground}
+use Rattle.term_ground.proofs.SimpleMethod.{simple-sound, angle-sound}
+use Rattle.term_foliage.specs.Foliage.{foliage_attenuation, attenuations}
+use Rattle.term_foliage.proofs.Lawful.{foliage-sound}
+use Rattle.scene_parts.specs.Views.{Foliage}
+use Rattle.std.proofs.lemmas.List.Elements.{All-get_or, All-map}
 use Rattle.term_barrier.specs.Laws.{ScreeningIsSound, SideAttenuationIsSound}
 use Rattle.scene_geom.specs.declared.band.Band.{Band}
 use Rattle.scene_geom.specs.Bands.{all_bands, place_of}
 use Rattle.path_calc.specs.LateralPaths.{LateralPath}
 use Rattle.path_calc.specs.ReflectedPaths.{ReflectedPath, path_along}
 use Rattle.path_calc.specs.Surroundings.{Surroundings, path_of, ends_of, edges_at, laterals_at, surroundings_of}
-use Rattle.path_calc.specs.Contributions.{Counting, Always, WhereGreater, Contribution, power_in, emission, ground_in, screening_in, sound_past, lateral_sound, leading, reflected_ground_in, reflection_level, reflected_sound, sounds_of, contributions}
+use Rattle.path_calc.specs.Contributions.{Counting, Always, WhereGreater, Contribution, power_in, emission, power_along, ground_along, ground_in, screening_in, sound_past, lateral_sound, leading, reflected_ground_in, reflection_level, reflected_sound, sounds_of, contributions}
 use Rattle.path_calc.specs.Lengths.{distance, reflected_distance}
 use Rattle.path_calc.specs.Energies.{where_counting, long_term, correction_of, energy_of, long_energy_of, band_energy, long_energy_in, long_energy, band_energy_between, long_energy_between}
 use Rattle.path_calc.specs.Show.{sources_within, total_form, band_form}
-use Rattle.path_calc.proofs.Eight.{place-below}
+use Rattle.path_calc.proofs.Eight.{at-place, place-below}
 use Rattle.path_calc.proofs.Zones.{ground-eight}
 
 -- ---- contributions
@@ -61,23 +71,45 @@ unfolding AllSound
 sound-all f each total h [] all = h
 sound-all f each total h (c ∷ cs) all = sound-all f each (Add total (f c)) (h, each c all.0) cs all.1
 
-sound-ground : (zones : List Zone) (g0 : ℕ) (s : Source) (r : Receiver) (band : Band) → IsSound (ground_in zones g0 s r band)
-sound-ground zones g0 s r band =
-    ground-sound zones g0 (path_of s r) (plan_length s.at r.at) (lit< tt) (place_of band) (Const (pos 0) 1) (rw (ground-eight zones g0 (path_of s r) (plan_length s.at r.at)) (place-below band))
+-- what is sent along a path
+sound-power : (method : Ground) (path : Path) (square : Tree) (power directivity : ℤ) → IsSound square → IsSound (power_along method path square (emission power directivity))
+sound-power methods.General path square power directivity h = (lit< tt, lit< tt)
+sound-power methods.Simple path square power directivity h = ((lit< tt, lit< tt), angle-sound path square h)
 
-sound-screening_in : ScreeningIsSound → (globals : Globals) (around : Surroundings) (s : Source) (r : Receiver) (band : Band) → IsSound (screening_in (edges_at band around) s r (ground_in around.zones globals.g s r band) band)
+-- the attenuation by foliage in a band
+sound-foliage : (foliage : List Foliage) (path : Path) (d : Tree) (band : Band) → IsSound d → IsSound (foliage_attenuation foliage path d band)
+sound-foliage foliage path d band h =
+    subst IsSound (at-place (foliage_attenuation foliage path d) (Const (pos 0) 1) band)
+    (All-get_or IsSound (attenuations foliage path d) (place_of band) (Const (pos 0) 1) (place-below band) (foliage-sound foliage path d h))
+
+-- the attenuation by the ground in a band, by either method
+sound-grounds : (method : Ground) (zones : List Zone) (g0 : ℕ) (path : Path) (dp d : Tree) → IsSound dp → IsSound d → (i : ℕ) (t : Tree) → i < length (ground_along method zones g0 path dp d) → IsSound (get_or (ground_along method zones g0 path dp d) i t)
+sound-grounds methods.General zones g0 path dp d hp hd i t below = ground-sound zones g0 path dp hp i t below
+sound-grounds methods.Simple zones g0 path dp d hp hd i t below =
+    All-get_or IsSound (map (λ (b : Band). simple_ground path d) all_bands) i t below
+    (All-map IsSound (λ (b : Band). simple_ground path d) all_bands (λ j b k. simple-sound path d hd))
+
+sound-ground : (globals : Globals) (zones : List Zone) (s : Source) (r : Receiver) (band : Band) → IsSound (ground_in globals zones s r band)
+sound-ground globals zones s r band =
+    sound-grounds globals.method zones globals.g (path_of s r) (plan_length s.at r.at) (distance s.at s.h r.at r.h) (lit< tt) (lit< tt) (place_of band) (Const (pos 0) 1)
+    (rw (ground-eight globals.method zones globals.g (path_of s r) (plan_length s.at r.at) (distance s.at s.h r.at r.h)) (place-below band))
+
+sound-screening_in : ScreeningIsSound → (globals : Globals) (around : Surroundings) (s : Source) (r : Receiver) (band : Band) → IsSound (screening_in (edges_at band around) s r (ground_in globals around.zones s r band) band)
 sound-screening_in sound globals around s r band =
-    sound (path_of s r) (plan_length s.at r.at) (edges_at band around) (distance s.at s.h r.at r.h) (ground_in around.zones globals.g s r band) band
-    (lit< tt) (lit< tt) (sound-ground around.zones globals.g s r band)
+    sound (path_of s r) (plan_length s.at r.at) (edges_at band around) (distance s.at s.h r.at r.h) (ground_in globals around.zones s r band) band
+    (lit< tt) (lit< tt) (sound-ground globals around.zones s r band)
 
 sound-one : (globals : Globals) (around : Surroundings) (s : Source) (r : Receiver) (band : Band) (power : ℤ) (screening : Tree) → IsSound screening
     → IsSoundOne (sound_past globals around s r band (emission power s.dc) screening)
 unfolding CountsSoundly
-sound-one globals around s r band power screening h = record {
-  level = (((((lit< tt, lit< tt), ((lit< tt, (lit< tt, lit< tt)), lit< tt)), (((lit< tt, lit< tt), lit< tt), lit< tt)), sound-ground around.zones globals.g s r band), h);
-  length = lit< tt;
-  counts = tt;
-}
+sound-one globals around s r band power screening h =
+    let d = distance s.at s.h r.at r.h in
+    let sent = sound-power globals.method (path_of s r) (plan_square_form s.at r.at) power s.dc (lit< tt) in
+    record {
+      level = (((((sent, ((lit< tt, (lit< tt, lit< tt)), lit< tt)), (((lit< tt, lit< tt), lit< tt), lit< tt)), sound-ground globals around.zones s r band), h), sound-foliage around.foliage (path_of s r) d band (lit< tt));
+      length = lit< tt;
+      counts = tt;
+    }
 
 sound-laterals : SideAttenuationIsSound → (globals : Globals) (around : Surroundings) (s : Source) (r : Receiver) (band : Band) (power : ℤ) (paths : List LateralPath)
     → AllSound (map (lateral_sound globals around s r band (emission power s.dc)) paths)
@@ -104,11 +136,13 @@ sound-level_of : (rho : ℕ) → IsSound (reflection_level rho)
 unfolding reflection_level
 sound-level_of rho = (lit< tt, lit< tt)
 
-sound-reflected_ground : (path : ReflectedPath) (g0 : ℕ) (s : Source) (r : Receiver) (band : Band) → IsSound (reflected_ground_in path g0 s r band)
-sound-reflected_ground path g0 s r band =
+sound-reflected_ground : (globals : Globals) (path : ReflectedPath) (s : Source) (r : Receiver) (band : Band) → IsSound (reflected_ground_in globals path s r band)
+sound-reflected_ground globals path s r band =
     let along = path_along (ends_of s r) path.unfolded in
     let dp = length_of path.unfolded.square in
-    ground-sound path.zones g0 along dp (sound-length path.unfolded.square) (place_of band) (Const (pos 0) 1) (rw (ground-eight path.zones g0 along dp) (place-below band))
+    let d = reflected_distance path.unfolded.square s.h r.h in
+    sound-grounds globals.method path.zones globals.g along dp d (sound-length path.unfolded.square) (sound-distance path.unfolded.square s.h r.h) (place_of band) (Const (pos 0) 1)
+    (rw (ground-eight globals.method path.zones globals.g along dp d) (place-below band))
 
 sound-reflected : ScreeningIsSound → (globals : Globals) (s : Source) (r : Receiver) (band : Band) (power : ℤ) (path : ReflectedPath)
     → IsSoundOne (reflected_sound globals s r band (emission power s.dc) path)
@@ -117,12 +151,13 @@ sound-reflected screened globals s r band power path =
     let along = path_along (ends_of s r) path.unfolded in
     let dp = length_of path.unfolded.square in
     let d = reflected_distance path.unfolded.square s.h r.h in
-    let gr = reflected_ground_in path globals.g s r band in
+    let gr = reflected_ground_in globals path s r band in
     let distant : IsSound d = sound-distance path.unfolded.square s.h r.h in
-    let grounded : IsSound gr = sound-reflected_ground path globals.g s r band in
+    let grounded : IsSound gr = sound-reflected_ground globals path s r band in
+    let sent = sound-power globals.method along (square_form path.unfolded.square) power s.dc (sound-length path.unfolded.square) in
     let condition = condition-is-sound path.side path.h path.unfolded.p d band distant in
     record {
-      level = ((((((lit< tt, lit< tt), sound-level_of path.rho), ((lit< tt, (lit< tt, distant)), lit< tt)), (((lit< tt, distant), lit< tt), lit< tt)), grounded), screened along dp (slice_index_or path.edges (place_of band) []) d gr band (sound-length path.unfolded.square) distant grounded);
+      level = ((((((sent, sound-level_of path.rho), ((lit< tt, (lit< tt, distant)), lit< tt)), (((lit< tt, distant), lit< tt), lit< tt)), grounded), screened along dp (slice_index_or path.edges (place_of band) []) d gr band (sound-length path.unfolded.square) distant grounded), sound-foliage path.foliage along d band distant);
       length = sound-length path.unfolded.square;
       counts = (condition.first, condition.second);
     }

@@ -27,7 +27,7 @@ use Rattle.path_calc.specs.Ranges.{IsSumOf, sound_limit}
 abbrev nothing : Interval
 nothing = record { lo = Some (pos 0); hi = Some (pos 0) }
 
-nothing-is : ratio_of (pos 0) 1 ≡ nothing
+pub nothing-is : ratio_of (pos 0) 1 ≡ nothing
 nothing-is = ratio_of-one (pos 0) (lit< tt) ∙ ap (λ (z : ℤ). record { lo = Some z; hi = Some z }) (zero-*ℤ (pos unit))
 
 nothing-tenth : ratio_of (pos 0) 10 ≡ nothing

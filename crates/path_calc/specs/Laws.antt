@@ -3,7 +3,7 @@ use Rattle.std.specs.Prelude.{◌≡◌, List, [], map, slice_index_or}
 use Rattle.std.specs.List.{list_any}
 use Rattle.fix_interval.specs.Encloses.{Encloses}
 use Rattle.fix_interval.specs.Tree.{enc}
-use Rattle.scene_parts.specs.Views.{Source, Receiver, Obstacle, Zone, Globals}
+use Rattle.scene_parts.specs.Views.{Source, Receiver, Obstacle, Globals}
 use Rattle.scene_book.specs.Book.{Book}
 use Rattle.scene_geom.specs.declared.band.Band.{Band}
 use Rattle.scene_geom.specs.declared.plan.Side.{Side}
@@ -61,6 +61,5 @@ pub record LegEdgesAreCuts (obstacles : List Obstacle) (path : ReflectedPath) (e
   pub cuts : leg_cuts_of band path.unfolded ends obstacles ≡ map leg_cut_of crossings
 
 abbrev pub ReflectedEdgesAreCuts : Type 0
-ReflectedEdgesAreCuts = (obstacles : List Obstacle) (zones : List Zone) (ends : Ends) (o : Obstacle) (side : Side)
-    (unfolded : Reflection) (band : Band)
-    → LegEdgesAreCuts obstacles (along_legs obstacles zones ends o side unfolded) ends band
+ReflectedEdgesAreCuts = (book : Book) (ends : Ends) (o : Obstacle) (side : Side) (unfolded : Reflection) (band : Band)
+    → LegEdgesAreCuts book.obstacles (along_legs book ends o side unfolded) ends band

@@ -20,4 +20,5 @@ pub mod Strings
 pub mod Tracing
 pub mod Propagations
 pub mod Ranges
+pub mod Losses
 pub mod Hearing

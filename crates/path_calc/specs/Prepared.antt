@@ -1,5 +1,5 @@
 -- What all paths of a source share.
-use Rattle.std.specs.Prelude.{◌≡◌, ℕ, pos, neg_ℤ, ◌*◌, ◌^◌, List, length, map, All, Option, None, IfSome, slice_index_or}
+use Rattle.std.specs.Prelude.{◌≡◌, ℕ, pos, neg_ℤ, ◌*◌, ◌^◌, List, length, map, All, Option, None, Some, IfSome, slice_index_or}
 use Rattle.std.specs.Option.{option_map}
 use Rattle.fix_interval.specs.Interval.{Interval}
 use Rattle.fix_interval.specs.Bounds.{AreBetween}
@@ -25,9 +25,15 @@ emission_at source band = slice_index_or source.emissions (place_of band) None
 abbrev pub IsEmission : Interval → Type 0
 IsEmission emission = AreBetween (neg_ℤ (pos (50 * 2 ^ 32))) (pos (180 * 2 ^ 32)) emission
 
--- what is emitted, or what a wall sends on of it, from -60 dB to 180 dB
-abbrev pub IsSent : Interval → Type 0
-IsSent emission = AreBetween (neg_ℤ (pos (60 * 2 ^ 32))) (pos (180 * 2 ^ 32)) emission
+-- what is sent along a path of what is emitted: more by D_Omega, which is from 0 dB to 10 dB, where there is one
+abbrev pub IsSent : Option Interval → Interval → Type 0
+IsSent None power = IsEmission power
+IsSent (Some omega) power = AreBetween (neg_ℤ (pos (50 * 2 ^ 32))) (pos (190 * 2 ^ 32)) power
+
+-- and that, or what a wall, of which the level of a reflection is from -10 dB to 0 dB, sends on of it
+abbrev pub IsSentOn : Option Interval → Interval → Type 0
+IsSentOn None power = AreBetween (neg_ℤ (pos (60 * 2 ^ 32))) (pos (180 * 2 ^ 32)) power
+IsSentOn (Some omega) power = AreBetween (neg_ℤ (pos (60 * 2 ^ 32))) (pos (190 * 2 ^ 32)) power
 
 pub record IsPrepared (source : PreparedSource) : Type 0 where
   pub bands : length source.emissions ≡ 8

@@ -1,5 +1,5 @@
 -- What the bands share of a path: how its quantities are bounded, and what a path by way of a wall has beside them.
-use Rattle.std.specs.Prelude.{◌≡◌, ◌*◌, ◌^◌, pos, neg_ℤ, List, All, length, slice_index_or}
+use Rattle.std.specs.Prelude.{◌≡◌, ◌*◌, ◌^◌, pos, neg_ℤ, List, All, Option, None, Some, length, slice_index_or}
 use Rattle.fix_interval.specs.Interval.{Interval}
 use Rattle.fix_interval.specs.Bounds.{AreBetween}
 use Rattle.fix_interval.specs.declared.truth.Truth.{Truth}
@@ -12,16 +12,38 @@ use Rattle.term_div_atm.specs.Terms.{divergence}
 use Rattle.term_barrier.specs.Limits.{IsDistance, IsGroundEffect, IsScreening}
 use Rattle.path_calc.specs.declared.propagation.Propagation.{Propagation}
 use Rattle.path_calc.specs.declared.segments.Seg.{Seg}
+use Rattle.path_calc.specs.Losses.{AreLosses}
 use Rattle.path_calc.specs.Segments.{FitsSegment}
 
--- the divergence at the distance, the attenuations by the ground and by screening in each band, and C_met
+-- D_Omega is from 0 dB to 10 dB
+abbrev pub IsSolidAngle : Interval → Type 0
+IsSolidAngle omega = AreBetween (pos 0) (pos (10 * 2 ^ 32)) omega
+
+-- an attenuation by the ground by the alternative method is from 0 dB to 8 dB
+abbrev pub IsSimpleGround : Interval → Type 0
+IsSimpleGround attenuation = AreBetween (pos 0) (pos (8 * 2 ^ 32)) attenuation
+
+-- an attenuation by the ground by the general method, or by the alternative one, where D_Omega is there
+abbrev pub IsGroundBy : Option Interval → Interval → Type 0
+IsGroundBy None attenuation = IsGroundEffect attenuation
+IsGroundBy (Some omega) attenuation = IsSimpleGround attenuation
+
+-- where D_Omega raises what is sent, the ground attenuates by the alternative method
+abbrev pub IsRaised : Option Interval → List Interval → Type 0
+IsRaised None grounds = Unit {0}
+IsRaised (Some omega) grounds = IsSolidAngle omega × All IsSimpleGround grounds
+
+-- the divergence at the distance, D_Omega where there is one, the attenuations by the ground, by screening and by
+-- foliage in each band, and C_met
 pub record IsPropagation (propagation : Propagation) : Type 0 where
   pub distance : IsDistance propagation.distance
   pub divergence : propagation.divergence ≡ enc (divergence (Known propagation.distance))
-  pub ground : All IsGroundEffect propagation.ground
-  pub bands : length propagation.ground ≡ 8
+  pub grounds : All IsGroundEffect propagation.grounds
+  pub bands : length propagation.grounds ≡ 8
+  pub omega : IsRaised propagation.omega propagation.grounds
   pub screening : All IsScreening propagation.screening
   pub screened_bands : length propagation.screening ≡ 8
+  pub foliage : AreLosses propagation.foliage
   pub correction : IsWeatherCorrection propagation.correction
 
 -- a path by way of a wall (ISO 9613-2, 7.5): its legs, 10 lg of what the wall reflects, in dB, and for each band

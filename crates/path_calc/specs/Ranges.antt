@@ -57,15 +57,19 @@ pub record AreInRange (paths : Paths) : Type 0 where
   pub right_bands : length paths.right ≡ 8
   pub few : length paths.reflected.items ≤ most_sides
 
--- the square of the plan length of a path by way of a wall, in mm²: of at most 25,299 m
-pub record IsReflectedSquare (square : Frac) : Type 0 where
+-- the square of the plan length of a path, in mm²: of at most 25,299 m
+pub record IsPathSquare (square : Frac) : Type 0 where
   pub from_zero : pos 0 ≤ℤ square.n
   pub length : unsigned_abs square.n ≤ 640000000000000 * unsigned_abs square.d
   pub wall : unsigned_abs square.d ≤ longest_wall ^ 2
 
 -- a level before screening and one at a receiver, at most 185 dB, and one of which there is an energy, at most 189 dB
 abbrev pub IsUnscreened : Interval → Type 0
-IsUnscreened level = AreBetween (neg_ℤ (pos (2 ^ 60 - 48 * 2 ^ 32))) (pos (185 * 2 ^ 32)) level
+IsUnscreened level = AreBetween (neg_ℤ (pos (2 ^ 60 - 80 * 2 ^ 32))) (pos (185 * 2 ^ 32)) level
+
+-- one past what screens it, from which foliage takes off 25 dB at most
+abbrev pub IsScreened : Interval → Type 0
+IsScreened level = AreBetween (neg_ℤ (pos (2 ^ 60 - 32 * 2 ^ 32))) (pos (185 * 2 ^ 32)) level
 
 abbrev pub IsAtReceiver : Interval → Type 0
 IsAtReceiver level = AreBetween (neg_ℤ (pos (2 ^ 60))) (pos (185 * 2 ^ 32)) level

@@ -7,8 +7,9 @@ use Rattle.fix_interval.specs.Tree.{enc}
 use Rattle.scene_geom.specs.declared.plan.Side.{Side}
 use Rattle.scene_geom.specs.declared.reflection.Reflection.{Reflection}
 use Rattle.scene_geom.specs.Bands.{all_bands}
-use Rattle.scene_parts.specs.Views.{Obstacle, Zone}
+use Rattle.scene_parts.specs.Views.{Obstacle, Zone, Foliage}
 use Rattle.scene_parts.specs.Sides.{sides_of}
+use Rattle.scene_book.specs.Book.{Book}
 use Rattle.path_shape.specs.Shape.{length_of}
 use Rattle.scene_parts.specs.declared.edge.Edge.{Edge}
 use Rattle.path_shape.specs.declared.path.Path.{Path}
@@ -16,11 +17,11 @@ use Rattle.path_shape.specs.declared.legs.Legs.TheVariants.{Two}
 use Rattle.scene_parts.specs.declared.ends.Ends.{Ends}
 use Rattle.image_source.specs.Mirrors.{mirror_of}
 use Rattle.image_source.specs.LegCuts.{edges_in}
-use Rattle.path_calc.specs.GroundZones.{zones_on}
+use Rattle.path_calc.specs.GroundZones.{zones_on, foliage_on}
 
 -- a reflected path: the side of the wall, what it reflects per mille, its height in mm, and the unfolded path with its
--- two legs; for each band the edges on them, of the obstacles that are large enough in it; and the zones of ground that
--- a leg meets
+-- two legs; for each band the edges on them, of the obstacles that are large enough in it; and the zones of ground and
+-- the foliage that a leg meets
 pub record ReflectedPath : Type 0 where
   pub side : Side
   pub rho : ℕ
@@ -28,6 +29,7 @@ pub record ReflectedPath : Type 0 where
   pub unfolded : Reflection
   pub edges : List (List Edge)
   pub zones : List Zone
+  pub foliage : List Foliage
 
 -- an unfolded path between the ends of a line of sight, with its own plan length
 abbrev pub path_along : Ends → Reflection → Path
@@ -40,25 +42,25 @@ path_along ends unfolded = record {
   legs = Two unfolded.first unfolded.second unfolded.p;
 }
 
--- a reflection in a side of an obstacle, with what is read along it
-abbrev pub along_legs : List Obstacle → List Zone → Ends → Obstacle → Side → Reflection → ReflectedPath
-along_legs obstacles zones ends o side unfolded = record {
+-- a reflection in a side of an obstacle, with what is read of the parts of a scene along it
+abbrev pub along_legs : Book → Ends → Obstacle → Side → Reflection → ReflectedPath
+along_legs book ends o side unfolded = record {
   side = side;
   rho = o.rho;
   h = o.h;
   unfolded = unfolded;
-  edges = map (λ band. edges_in band unfolded ends obstacles) all_bands;
-  zones = zones_on (path_along ends unfolded) zones;
+  edges = map (λ band. edges_in band unfolded ends book.obstacles) all_bands;
+  zones = zones_on (path_along ends unfolded) book.zones;
+  foliage = foliage_on (path_along ends unfolded) book.foliage;
 }
 
 -- the path by way of a side of an obstacle, where it reflects
-abbrev pub reflected_in : List Obstacle → List Zone → Ends → Obstacle → Side → Option ReflectedPath
-reflected_in obstacles zones ends o side =
-    option_map (along_legs obstacles zones ends o side) (mirror_of o side ends)
+abbrev pub reflected_in : Book → Ends → Obstacle → Side → Option ReflectedPath
+reflected_in book ends o side = option_map (along_legs book ends o side) (mirror_of o side ends)
 
 -- those by way of the sides of an obstacle, and of all obstacles
-abbrev pub reflected_by : List Obstacle → List Zone → Ends → Obstacle → List ReflectedPath
-reflected_by obstacles zones ends o = filter_map (reflected_in obstacles zones ends o) (sides_of o)
+abbrev pub reflected_by : Book → Ends → Obstacle → List ReflectedPath
+reflected_by book ends o = filter_map (reflected_in book ends o) (sides_of o)
 
-abbrev pub reflected_paths : List Obstacle → List Zone → Ends → List ReflectedPath
-reflected_paths obstacles zones ends = flat_map (reflected_by obstacles zones ends) obstacles
+abbrev pub reflected_paths : Book → Ends → List ReflectedPath
+reflected_paths book ends = flat_map (reflected_by book ends) book.obstacles

@@ -3,14 +3,14 @@
 use Rattle.std.specs.Prelude.{Bool, false, List, [], map, slice_index_or}
 use Rattle.scene_geom.specs.declared.band.Band.{Band}
 use Rattle.scene_geom.specs.Bands.{all_bands, place_of}
-use Rattle.scene_parts.specs.Views.{Source, Receiver, Obstacle, Zone}
+use Rattle.scene_parts.specs.Views.{Source, Receiver, Obstacle, Zone, Foliage}
 use Rattle.scene_book.specs.Book.{Book}
 use Rattle.path_shape.specs.Shape.{direct_path}
 use Rattle.path_shape.specs.declared.path.Path.{Path}
 use Rattle.scene_parts.specs.declared.edge.Edge.{Edge}
 use Rattle.scene_parts.specs.declared.ends.Ends.{Ends}
 use Rattle.sight_cut.specs.Cuts.{edges_in}
-use Rattle.path_calc.specs.GroundZones.{zones_on}
+use Rattle.path_calc.specs.GroundZones.{zones_on, foliage_on}
 use Rattle.path_calc.specs.LateralPaths.{LateralPath, lateral_paths_round}
 use Rattle.path_calc.specs.ReflectedPaths.{ReflectedPath, reflected_paths}
 use Rattle.path_calc.specs.ScreeningSets.{renewals}
@@ -18,6 +18,8 @@ use Rattle.path_calc.specs.ScreeningSets.{renewals}
 pub record Surroundings : Type 0 where
   -- the zones of ground that the direct path meets
   pub zones : List Zone
+  -- the foliage that it meets
+  pub foliage : List Foliage
   -- for each band the edges on the direct path, of the obstacles that are large enough in it
   pub edges : List (List Edge)
   -- for each band the paths round the sides of the obstacles that screen in it
@@ -54,8 +56,9 @@ renewed_at band around = slice_index_or around.renewed (place_of band) false
 abbrev pub surroundings_of : Book → Source → Receiver → Surroundings
 surroundings_of book s r = record {
   zones = zones_on (path_of s r) book.zones;
+  foliage = foliage_on (path_of s r) book.foliage;
   edges = edges_on (ends_of s r) book.obstacles;
   laterals = lateral_paths_round (ends_of s r) book.obstacles;
   renewed = renewals (ends_of s r) book.obstacles;
-  reflected = reflected_paths book.obstacles book.zones (ends_of s r);
+  reflected = reflected_paths book (ends_of s r);
 }

@@ -1,15 +1,16 @@
 //! What a receiver hears at the end of a path, in one band.
 ghost use Rattle.std.specs.Prelude.{◌≡◌, ℕ, ◌+◌, ◌<◌, ◌≤◌, length, map, pos, fold, true, Some, IfSome};
 ghost use Rattle.std.specs.Option.{option_map};
-ghost use Rattle.fix_interval.specs.Values.{add_of};
+ghost use Rattle.fix_interval.specs.Values.{add_of, sub_of};
 ghost use Rattle.term_barrier.specs.Limits.{IsScreening};
 ghost use Rattle.fix_interval.specs.Tree.{Known, Const, Add, enc};
 ghost use Rattle.energy_sum.specs.Energies.{energy_form};
 ghost use Rattle.energy_sum.specs.Weather.{IsWeatherCorrection};
 ghost use Rattle.path_calc.specs.Weights.{weight_in};
-ghost use Rattle.path_calc.specs.Prepared.{IsEmission, IsSent};
-ghost use Rattle.path_calc.specs.Ranges.{IsUnscreened, IsAtReceiver, IsHearable};
+ghost use Rattle.path_calc.specs.Prepared.{IsEmission, IsSentOn};
+ghost use Rattle.path_calc.specs.Ranges.{IsUnscreened, IsScreened, IsAtReceiver, IsHearable};
 ghost use Rattle.path_calc.specs.Propagations.{IsPropagation};
+ghost use Rattle.path_calc.specs.Losses.{loss_in};
 ghost use Rattle.path_calc.specs.Ranges.{AreInRange, IsWeight, IsSmall, IsSumOf, most_sounds};
 ghost use Rattle.scene_book.specs.Limits.{most_sides};
 ghost use Rattle.path_calc.specs.Hearing.{energy_after, long_energy_after, sum_after, past, with_energy};
@@ -60,12 +61,12 @@ fn heard_of(paths: &Paths, band: Band, emission: Iv) -> Heard
     ensures energy_bounds { IsSumOf most_sounds result.energy }
     ensures long_bounds { IsSumOf most_sounds result.long }
 {
-    let level = level_before(&paths.direct, band, emission);
-    let c_met = paths.direct.correction;
+    let direct = &paths.direct;
+    let level = level_before(direct, band, direct.power_of(emission));
     let lateral = paths.lateral_in(band);
-    let over = heard_past(level, paths.direct.screening_in(band), c_met, band);
-    let left = with_lateral(over, level, lateral.left, c_met, band);
-    let right = with_lateral(left, level, lateral.right, c_met, band);
+    let over = heard_past(level, direct.screening_in(band), direct, band);
+    let left = with_lateral(over, level, lateral.left, direct, band);
+    let right = with_lateral(left, level, lateral.right, direct, band);
     with_reflected(right, paths.reflected.as_slice(), band, emission)
 }
 
@@ -99,8 +100,8 @@ fn heard_by_way(reflected: &Reflected, band: Band, emission: Iv) -> Heard
     ensures long_bounds { IsSumOf 1 result.long }
 {
     let path = reflected.path();
-    let level = level_before(path, band, reflected.sends(emission));
-    let heard = heard_past(level, path.screening_in(band), path.correction, band);
+    let level = level_before(path, band, reflected.sends(path.power_of(emission)));
+    let heard = heard_past(level, path.screening_in(band), path, band);
     let counts = reflected.counts_in(band);
     Heard {
         energy: pick(counts, heard.energy, exact(0)),
@@ -108,22 +109,30 @@ fn heard_by_way(reflected: &Reflected, band: Band, emission: Iv) -> Heard
     }
 }
 
-/// What is heard, and beside it the sound of a level that goes round a side, where it does.
-fn with_lateral(heard: Heard, level: Iv, screening: Option<Iv>, c_met: Iv, band: Band) -> Heard
+/// What is heard, and beside it the sound of a level that goes round a side, where it does, with the quantities of the
+/// direct path.
+fn with_lateral(
+    heard: Heard,
+    level: Iv,
+    screening: Option<Iv>,
+    direct: &Propagation,
+    band: Band,
+) -> Heard
     requires energy { IsSmall heard.energy }
     requires long { IsSmall heard.long }
     requires level { IsUnscreened level }
     requires screening { IfSome screening IsScreening }
-    requires weather { IsWeatherCorrection c_met }
+    requires direct { IsPropagation direct.now }
     ensures energy { result.energy ≡ with_energy heard.energy
-        (option_map (λ i. enc (energy_form (past level i))) screening) }
+        (option_map (λ i. enc (energy_form (past level i (loss_in direct.now.foliage band)))) screening) }
     ensures long { result.long ≡ with_energy heard.long
-        (option_map (λ i. enc (long_term_energy band (Known c_met) (past level i))) screening) }
+        (option_map (λ i. enc (long_term_energy band (Known direct.now.correction)
+        (past level i (loss_in direct.now.foliage band)))) screening) }
     ensures energy_bounds { (n : ℕ) → n < 8 → IsSumOf n heard.energy → IsSumOf (n + 1) result.energy }
     ensures long_bounds { (n : ℕ) → n < 8 → IsSumOf n heard.long → IsSumOf (n + 1) result.long }
 {
     match screening {
-        Some(screening) => both(heard, heard_past(level, screening, c_met, band)),
+        Some(screening) => both(heard, heard_past(level, screening, direct, band)),
         None => heard,
     }
 }
@@ -143,29 +152,42 @@ fn both(a: Heard, b: Heard) -> Heard
     }
 }
 
-/// The level of what is emitted in a band, at the end of a path, before what screens it is taken off, in dB.
-fn level_before(propagation: &Propagation, band: Band, emission: Iv) -> Iv
+/// The level of what is sent in a band, at the end of a path, before what screens it and foliage are taken off, in dB.
+fn level_before(propagation: &Propagation, band: Band, power: Iv) -> Iv
     requires propagation { IsPropagation propagation.now }
-    requires emission { IsSent emission }
-    ensures value { result ≡ enc (level_form propagation.now band emission) }
+    requires power { IsSentOn propagation.now.omega power }
+    ensures value { result ≡ enc (level_form propagation.now band power) }
     ensures range { IsUnscreened result }
 {
     let absorption = a_atm(propagation.distance, coefficient(propagation.air, band));
-    let in_the_open = minus(minus(emission, propagation.divergence), absorption);
+    let in_the_open = minus(minus(power, propagation.divergence), absorption);
     minus(in_the_open, propagation.ground_in(band))
 }
 
-/// The energies of a level in a band, past what screens it, where C_met is this.
-fn heard_past(level: Iv, screening: Iv, c_met: Iv, band: Band) -> Heard
+/// The energies of a level in a band, past what screens it, with the foliage and the weather of a path.
+fn heard_past(level: Iv, screening: Iv, path: &Propagation, band: Band) -> Heard
     requires level { IsUnscreened level }
     requires screening { IsScreening screening }
-    requires weather { IsWeatherCorrection c_met }
-    ensures energy { result.energy ≡ enc (energy_form (past level screening)) }
-    ensures long { result.long ≡ enc (long_term_energy band (Known c_met) (past level screening)) }
+    requires path { IsPropagation path.now }
+    ensures energy { result.energy
+        ≡ enc (energy_form (past level screening (loss_in path.now.foliage band))) }
+    ensures long { result.long ≡ enc (long_term_energy band (Known path.now.correction)
+        (past level screening (loss_in path.now.foliage band))) }
     ensures energy_bounds { IsSumOf 1 result.energy }
     ensures long_bounds { IsSumOf 1 result.long }
 {
-    heard_at(minus(level, screening), c_met, band)
+    let screened = past_screens(level, screening);
+    heard_at(path.foliage.off(screened, band), path.correction, band)
+}
+
+/// A level less what screens it.
+fn past_screens(level: Iv, screening: Iv) -> Iv
+    requires level { IsUnscreened level }
+    requires screening { IsScreening screening }
+    ensures value { result ≡ sub_of level screening }
+    ensures range { IsScreened result }
+{
+    minus(level, screening)
 }
 
 /// The energies of a level in a band, where C_met is this.

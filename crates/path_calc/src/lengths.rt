@@ -1,13 +1,15 @@
 //! Distances between a source and a receiver.
 ghost use Rattle.std.specs.Prelude.{◌≡◌, ◌≤◌, ◌<◌, ◌^◌, ◌*◌, ◌-ℤ◌, pos, unsigned_abs};
 ghost use Rattle.scene_geom.specs.Plan.{InPlan};
+ghost use Rattle.scene_geom.specs.Fraction.{over};
 ghost use Rattle.scene_parts.specs.Ranges.{IsHeight};
 ghost use Rattle.std.specs.Int.{abs_diff};
 ghost use Rattle.fix_interval.specs.Tree.{Const, enc};
 ghost use Rattle.path_shape.specs.Shape as shape;
+ghost use Rattle.path_shape.specs.Shape.{square_form};
 ghost use Rattle.path_calc.specs.Lengths as lengths;
 ghost use Rattle.term_barrier.specs.Limits.{IsDistance};
-ghost use Rattle.path_calc.specs.Ranges.{IsOnMap, IsReflectedSquare};
+ghost use Rattle.path_calc.specs.Ranges.{IsOnMap, IsPathSquare};
 
 use fix_interval::{Iv, add, ratio, root};
 use scene_geom::{Frac, Pt};
@@ -18,6 +20,17 @@ fn square(mm: u32) -> u64
     ensures small { mm ≤ 8000000 → result ≤ 64000000000000 }
 {
     u64::from(mm) * u64::from(mm)
+}
+
+/// The square of the plan length of the direct path, in mm².
+pub(crate) fn direct_square(s: Pt, r: Pt) -> Frac
+    ensures value { result ≡ over (pos (shape.plan_square s r)) (pos 1) }
+    ensures range { IsPathSquare result }
+{
+    Frac {
+        n: plan_square(s, r).into(),
+        d: 1,
+    }
 }
 
 /// How far two coordinates are apart, in mm.
@@ -74,7 +87,7 @@ pub(crate) fn distance(s: Pt, hs: u32, r: Pt, hr: u32) -> Iv
 pub(crate) fn reflected_distance(plan2: Frac, hs: u32, hr: u32) -> Iv
     requires source_height { IsHeight hs }
     requires receiver_height { IsHeight hr }
-    requires plan { IsReflectedSquare plan2 }
+    requires plan { IsPathSquare plan2 }
     ensures value { result ≡ enc (lengths.reflected_distance plan2 hs hr) }
     ensures bounds { IsDistance result }
 {
@@ -82,9 +95,9 @@ pub(crate) fn reflected_distance(plan2: Frac, hs: u32, hr: u32) -> Iv
 }
 
 /// A square of so many mm², in m².
-fn square_in_metres(plan2: Frac) -> Iv
+pub(crate) fn square_in_metres(plan2: Frac) -> Iv
     requires { unsigned_abs plan2.d ≤ 68718952449 }
-    ensures { result ≡ enc (Const plan2.n (unsigned_abs plan2.d * 1000000)) }
+    ensures { result ≡ enc (square_form plan2) }
 {
     ratio(plan2.n, plan2.d * 1_000_000)
 }

@@ -7,6 +7,7 @@ mod addition;
 mod bundles;
 mod calculation;
 mod energies;
+mod foliage;
 mod hearing;
 mod lateral;
 pub mod laws;

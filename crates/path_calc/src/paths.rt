@@ -6,7 +6,7 @@ ghost use Rattle.path_calc.specs.Strings.{both_of};
 ghost use Rattle.path_calc.specs.Trace.{trace_of};
 
 use crate::lateral::{LateralBands, LateralScreening, lateral_screening};
-use crate::lengths::distance;
+use crate::lengths::{direct_square, distance};
 use crate::prepared::{PreparedReceiver, PreparedSource};
 use crate::propagation::{Between, Propagation};
 use crate::reflected::Reflected;
@@ -63,7 +63,8 @@ pub(crate) fn paths_between(
     let distance = distance(source.at, source.h, receiver.at, receiver.h);
     let obstacles = scene.obstacles();
     let crossings = crossings(alloc, obstacles, ends)?;
-    let direct = between.along(&path, distance, crossings.as_slice())?;
+    let square = direct_square(source.at, receiver.at);
+    let direct = between.along(&path, square, distance, crossings.as_slice())?;
     trace.push(Seg::Straight(source.at, receiver.at))?;
     let LateralBands { left, right } = lateral_screening(
         alloc,

@@ -1,23 +1,30 @@
 //! What all bands share of a path.
-ghost use Rattle.std.specs.Prelude.{◌≡◌, All, IfOk};
+ghost use Rattle.std.specs.Prelude.{◌≡◌, All, IfOk, IfSome};
 ghost use Rattle.path_shape.specs.Shape.{IsPath};
 ghost use Rattle.scene_parts.specs.Ranges.{IsHeight};
-ghost use Rattle.path_calc.specs.Hearing.{propagation_along, ground_at, screening_at};
-ghost use Rattle.path_calc.specs.Propagations.{IsPropagation};
+ghost use Rattle.scene_parts.specs.declared.kinds.Ground.TheVariants as methods;
+ghost use Rattle.path_calc.specs.Hearing.{propagation_along, grounds_along, omega_along, ground_at, screening_at, power_at};
+ghost use Rattle.path_calc.specs.Prepared.{IsEmission, IsSent};
+ghost use Rattle.path_calc.specs.Propagations.{IsPropagation, IsGroundBy, IsSimpleGround, IsSolidAngle};
+ghost use Rattle.path_calc.specs.Ranges.{IsPathSquare};
+ghost use Rattle.path_shape.specs.Shape.{square_form};
 ghost use Rattle.term_barrier.specs.Edges.{FitsEdge};
 ghost use Rattle.term_barrier.specs.Limits.{IsDistance, IsGroundEffect, IsScreening};
 
+use crate::foliage::Losses;
+use crate::lengths::square_in_metres;
 use crate::prepared::{PreparedReceiver, PreparedSource};
 use crate::screening::over_top;
+use crate::small_sums::plus;
 use energy_sum::c_met;
 use fix_interval::Iv;
 use path_shape::Path;
 use scene_book::Scene;
-use scene_geom::Band;
-use scene_parts::{Air, Crossing, Ends, NoMemory};
+use scene_geom::{Band, Frac};
+use scene_parts::{Air, Crossing, Ends, Ground, NoMemory};
 use std::alloc::Global;
 use term_div_atm::a_div;
-use term_ground::a_gr_between;
+use term_ground::{a_gr_between, a_gr_simple, d_omega};
 
 /// What all paths from a source to a receiver share: the scene, both ends, and what is prepared of them.
 #[derive(Clone, Copy, Drop)]
@@ -30,22 +37,27 @@ pub(crate) struct Between<'a> {
 }
 
 /// What the bands share of a path: the air, the distance in metres, the divergence there in dB, beside it the
-/// attenuations by the ground and by screening over the top in each band in dB, and C_met in dB.
+/// attenuations by the ground, by screening over the top and by foliage in each band in dB, D_Omega in dB where the ground
+/// goes by the alternative method, and C_met in dB.
 #[derive(Drop)]
 pub(crate) struct Propagation {
     pub(crate) air: Air,
     pub(crate) distance: Iv,
     pub(crate) divergence: Iv,
-    pub(crate) ground: [Iv; 8],
+    pub(crate) grounds: [Iv; 8],
+    pub(crate) omega: Option<Iv>,
     pub(crate) screening: [Iv; 8],
+    pub(crate) foliage: Losses,
     pub(crate) correction: Iv,
 }
 
 impl<'a> Between<'a> {
-    /// The quantities of a path over a distance in metres, where these sides cross it.
+    /// The quantities of a path, of which the square of the plan length in mm² is this, over a distance in metres, where
+    /// these sides cross it.
     pub(crate) fn along(
         &self,
         path: &Path,
+        square: Frac,
         distance: Iv,
         crossings: &[Crossing],
     ) -> Result<Propagation, NoMemory>
@@ -54,35 +66,88 @@ impl<'a> Between<'a> {
         requires receiver { self.now.to.now ≡ path.now.hr }
         requires source_height { IsHeight path.now.hs }
         requires receiver_height { IsHeight path.now.hr }
+        requires square { IsPathSquare square }
         requires distance { IsDistance distance }
         requires edges { All (λ crossing. FitsEdge crossing.edge) crossings.now }
-        ensures value { IfOk result (λ found. let book = self.now.scene.now in found
-            ≡ propagation_along book.globals book.zones path.now distance crossings.now) }
+        ensures value { IfOk result (λ found. found
+            ≡ propagation_along self.now.scene.now path.now square distance crossings.now) }
         ensures range { IfOk result IsPropagation }
     {
         let globals = self.scene.globals();
-        let (source, receiver) = (self.from.decays(), self.to.decays());
-        let ground = a_gr_between(self.scene.zones(), globals.g, path, source, receiver);
-        let screening = over_top(self.alloc, crossings, path, distance, &ground)?;
+        let grounds = self.grounds_along(path, distance);
+        let screening = over_top(self.alloc, crossings, path, distance, &grounds)?;
         Ok(Propagation {
             air: globals.air,
             distance,
             divergence: a_div(distance),
-            ground,
+            grounds,
+            omega: omega(globals.ground, path, square),
             screening,
+            foliage: Losses::along(self.scene.foliage(), path, distance),
             correction: c_met(path.dp, path.hs, path.hr, globals.c0),
         })
+    }
+
+    /// The attenuation of a path by the ground in each band, by the method of the scene.
+    fn grounds_along(&self, path: &Path, distance: Iv) -> [Iv; 8]
+        requires path { IsPath path.now }
+        requires source { self.now.from.now.h ≡ path.now.hs }
+        requires receiver { self.now.to.now ≡ path.now.hr }
+        requires source_height { IsHeight path.now.hs }
+        requires receiver_height { IsHeight path.now.hr }
+        requires distance { IsDistance distance }
+        ensures value { result
+            ≡ grounds_along self.now.scene.now.globals self.now.scene.now.zones path.now distance }
+        ensures bounds { All IsGroundEffect result }
+        ensures simple { self.now.scene.now.globals.method ≡ methods.Simple → All IsSimpleGround result }
+    {
+        let globals = self.scene.globals();
+        match globals.ground {
+            Ground::General => {
+                let (source, receiver) = (self.from.decays(), self.to.decays());
+                a_gr_between(self.scene.zones(), globals.g, path, source, receiver)
+            }
+            Ground::Simple => [a_gr_simple(path, distance); 8],
+        }
+    }
+}
+
+/// D_Omega of a path in dB, where the ground goes by the alternative method.
+fn omega(method: Ground, path: &Path, square: Frac) -> Option<Iv>
+    requires source_height { IsHeight path.now.hs }
+    requires receiver_height { IsHeight path.now.hr }
+    requires square { IsPathSquare square }
+    ensures value { result ≡ omega_along method path.now (square_form square) }
+    ensures bounds { IfSome result IsSolidAngle }
+{
+    match method {
+        Ground::General => None,
+        Ground::Simple => Some(d_omega(path, square_in_metres(square))),
     }
 }
 
 impl Propagation {
+    /// What is sent along the path of what is emitted, in dB: D_Omega is added, where there is one.
+    pub(crate) fn power_of(&self, emission: Iv) -> Iv
+        requires propagation { IsPropagation self.now }
+        requires emission { IsEmission emission }
+        ensures value { result ≡ power_at self.now emission }
+        ensures bounds { IsSent self.now.omega result }
+    {
+        match self.omega {
+            Some(omega) => plus(emission, omega),
+            None => emission,
+        }
+    }
+
     /// The attenuation by the ground in a band.
     pub(crate) fn ground_in(&self, band: Band) -> Iv
         requires { IsPropagation self.now }
         ensures value { result ≡ ground_at self.now band }
-        ensures bounds { IsGroundEffect result }
+        ensures effect { IsGroundEffect result }
+        ensures bounds { IsGroundBy self.now.omega result }
     {
-        self.ground[band.place()]
+        self.grounds[band.place()]
     }
 
     /// The attenuation by screening over the top in a band.

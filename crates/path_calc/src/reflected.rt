@@ -1,7 +1,7 @@
 //! What the bands share of a path by way of a wall.
 ghost use Rattle.std.specs.Prelude.{◌≡◌};
 ghost use Rattle.fix_interval.specs.Values.{add_of};
-ghost use Rattle.path_calc.specs.Prepared.{IsEmission, IsSent};
+ghost use Rattle.path_calc.specs.Prepared.{IsSent, IsSentOn};
 ghost use Rattle.path_calc.specs.Segments.{FitsSegment};
 ghost use Rattle.path_calc.specs.Propagations.{IsPropagation, IsReflectionLevel, counts_at};
 
@@ -64,13 +64,13 @@ impl Reflected {
         &self.path
     }
 
-    /// What the wall sends on of an emission in dB.
-    pub(crate) fn sends(&self, emission: Iv) -> Iv
-        requires { IsEmission emission }
-        ensures value { result ≡ add_of emission self.now.level }
-        ensures bounds { IsSent result }
+    /// What the wall sends on of what is sent along the path, in dB.
+    pub(crate) fn sends(&self, power: Iv) -> Iv
+        requires { IsSent self.now.path.omega power }
+        ensures value { result ≡ add_of power self.now.level }
+        ensures bounds { IsSentOn self.now.path.omega result }
     {
-        add(emission, self.level)
+        add(power, self.level)
     }
 
     /// Whether the wall is large enough in a band.

@@ -32,8 +32,7 @@ impl<'a> Between<'a> {
         requires source_height { IsHeight self.now.ends.hs }
         requires receiver_height { IsHeight self.now.ends.hr }
         ensures value { IfOk result (λ found. let book = self.now.scene.now in found.items
-            ≡ map (reflected_of book.globals self.now.ends)
-            (reflected_paths book.obstacles book.zones self.now.ends)) }
+            ≡ map (reflected_of book.globals self.now.ends) (reflected_paths book self.now.ends)) }
         ensures few { IfOk result (λ found. length found.items ≤ most_sides) }
     {
         let mut found = Vec::new(self.alloc);
@@ -51,7 +50,7 @@ impl<'a> Between<'a> {
         requires receiver_height { IsHeight self.now.ends.hr }
         ensures { OnOk result (let book = self.now.scene.now in found.new.items
             ≡ found.old.items ++ map (reflected_of book.globals self.now.ends)
-            (reflected_by book.obstacles book.zones self.now.ends obstacle.now)) }
+            (reflected_by book self.now.ends obstacle.now)) }
     {
         if obstacle.rho == 0 {
             return Ok(());
@@ -79,7 +78,7 @@ impl<'a> Between<'a> {
         requires side { slice_get (sides_of obstacle.now) i ≡ Some side }
         ensures { OnOk result (let book = self.now.scene.now in found.new.items
             ≡ found.old.items ++ map (reflected_of book.globals self.now.ends)
-            (option_to_list (reflected_in book.obstacles book.zones self.now.ends obstacle.now side))) }
+            (option_to_list (reflected_in book self.now.ends obstacle.now side))) }
     {
         let Ends { s, hs, r, hr } = self.ends;
         match mirror(obstacle, i, s, hs, r, hr) {
@@ -107,14 +106,14 @@ impl<'a> Between<'a> {
         requires mirror { mirror.now ≡ unfolded side self.now.ends.s self.now.ends.r }
         ensures value { IfOk result (λ found. let book = self.now.scene.now in found
             ≡ reflected_of book.globals self.now.ends
-            (along_legs book.obstacles book.zones self.now.ends obstacle.now side mirror.now)) }
+            (along_legs book self.now.ends obstacle.now side mirror.now)) }
     {
         let ends = self.ends;
         let path = Path::reflected(side, ends.s, ends.hs, ends.r, ends.hr);
         let distance = reflected_distance(mirror.plan2, ends.hs, ends.hr);
         let legs = leg_crossings(self.alloc, self.scene.obstacles(), mirror, ends)?;
         let crossings = crossings_on_legs(self.alloc, legs.as_slice())?;
-        let path = self.along(&path, distance, crossings.as_slice())?;
+        let path = self.along(&path, mirror.plan2, distance, crossings.as_slice())?;
         let level = reflection_level(obstacle.rho);
         let counts = big_enough_in_bands(side, obstacle.h, mirror, distance);
         let wall = Seg::Legs(side, ends.s, ends.r);

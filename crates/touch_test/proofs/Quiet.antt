@@ -11,8 +11,9 @@ use Rattle.scene_geom.specs.Crossing.{crosses_of, blocks_of}
 use Rattle.scene_geom.specs.Fraction.{rest_of}
 use Rattle.scene_geom.specs.Reflection.{unfolded}
 use Rattle.scene_geom.specs.Laws.{UncrossedIsUnblocked}
-use Rattle.scene_parts.specs.Views.{Obstacle, Zone}
+use Rattle.scene_parts.specs.Views.{Obstacle}
 use Rattle.scene_parts.specs.Sides.{sides_of}
+use Rattle.scene_book.specs.Book.{Book}
 use Rattle.scene_parts.specs.declared.edge.Edge.{Edge}
 use Rattle.scene_parts.specs.declared.ends.Ends.{Ends}
 use Rattle.scene_parts.specs.Crossings.{counts_in}
@@ -89,7 +90,7 @@ module _ (ends : Ends) (trace : List Seg) (o : Obstacle) (quiet : obstacle_touch
       none leg side i = rw (no_place leg side i) refl
 
   -- and reflects nothing
-  pub no-reflections : (obstacles : List Obstacle) (zones : List Zone) → reflected_by obstacles zones ends o ≡ []
-  no-reflections obstacles zones =
-      none-there (reflected_in obstacles zones ends o) (sides_of o) (λ side i.
-      ap (option_map (along_legs obstacles zones ends o side)) (no_mirror side i))
+  pub no-reflections : (book : Book) → reflected_by book ends o ≡ []
+  no-reflections book =
+      none-there (reflected_in book ends o) (sides_of o) (λ side i.
+      ap (option_map (along_legs book ends o side)) (no_mirror side i))

@@ -12,7 +12,7 @@ use Rattle.scene_geom.specs.Bands.{all_bands}
 use Rattle.scene_geom.specs.Crossing.{differ}
 use Rattle.scene_geom.specs.Reflection.{unfolded}
 use Rattle.scene_geom.specs.Laws.{UncrossedIsUnblocked}
-use Rattle.scene_parts.specs.Views.{Source, Receiver, Obstacle, Zone}
+use Rattle.scene_parts.specs.Views.{Source, Receiver, Obstacle, Zone, Foliage}
 use Rattle.scene_parts.specs.Sides.{sides_of}
 use Rattle.scene_book.specs.Book.{Book}
 use Rattle.scene_book.specs.Laws.{Edited, Pieces, ListsEdited}
@@ -29,23 +29,26 @@ use Rattle.image_source.specs.Mirrors.{has_mirror}
 use Rattle.image_source.specs.LegCuts as legs
 use Rattle.path_calc.specs.declared.segments.Seg.{Seg}
 use Rattle.path_calc.specs.declared.segments.Seg.TheVariants.{Legs}
-use Rattle.path_calc.specs.GroundZones.{unnamed, zones_on}
+use Rattle.path_shape.specs.Outlines.{met}
+use Rattle.term_foliage.specs.Laws.{unnamed as nameless}
+use Rattle.path_calc.specs.GroundZones.{unnamed, zones_on, foliage_on}
 use Rattle.path_calc.specs.LateralPaths.{LateralPath, lateral_path, lateral_paths, lateral_paths_round, screening_corners, leads_in, is_in_the_way}
 use Rattle.path_calc.specs.ReflectedPaths.{ReflectedPath, path_along, along_legs, reflected_in, reflected_by}
 use Rattle.path_calc.specs.ScreeningSets.{screens_before, changes_in, is_renewed, renewals}
 use Rattle.path_calc.specs.Surroundings.{Surroundings, path_of, ends_of, edges_on, surroundings_of}
 use Rattle.path_calc.specs.Trace.{straight, string_segments, trace_of}
 use Rattle.touch_test.specs.Crossings.{meets_leg, meets_line}
-use Rattle.touch_test.specs.Touches.{TracedPath, traced, obstacle_touches, zone_touches}
+use Rattle.touch_test.specs.Touches.{TracedPath, traced, obstacle_touches, outline_touches}
 use Rattle.touch_test.proofs.Lists.{In, in-map, neither, fails-at, map-agrees, flat-agrees, options-agree, flat-stays, filter-stays, any-stays, kept-stays}
 use Rattle.touch_test.proofs.Trace.{in-line, in-legs, in-strings}
 use Rattle.touch_test.proofs.Quiet.{no-edges, no-screen, not-in-the-way, no-leg-edges, no-reflections}
 
 -- records of what is read are one where their fields are
-same-fields : (x y : Surroundings) → x.zones ≡ y.zones → x.edges ≡ y.edges → x.laterals ≡ y.laterals → x.renewed ≡ y.renewed
+same-fields : (x y : Surroundings) → x.zones ≡ y.zones → x.foliage ≡ y.foliage → x.edges ≡ y.edges → x.laterals ≡ y.laterals → x.renewed ≡ y.renewed
     → x.reflected ≡ y.reflected → x ≡ y
-same-fields x y z e l n f =
+same-fields x y z w e l n f =
     ap (λ (v : List Zone). record x { zones = v }) z
+    ∙ ap (λ (v : List Foliage). record y { foliage = v; edges = x.edges; laterals = x.laterals; renewed = x.renewed; reflected = x.reflected }) w
     ∙ ap (λ (v : List (List Edge)). record y { edges = v; laterals = x.laterals; renewed = x.renewed; reflected = x.reflected }) e
     ∙ ap (λ (v : List (List LateralPath)). record y { laterals = v; renewed = x.renewed; reflected = x.reflected }) l
     ∙ ap (λ (v : List Bool). record y { renewed = v; reflected = x.reflected }) n
@@ -170,37 +173,38 @@ module _ (unblocked : UncrossedIsUnblocked) (a b : Book) (s : Source) (r : Recei
       (same-leg-edges wall stands Second band))
 
   -- what the sides of other obstacles reflect
-  pub obstacles-stay : (obstacles : List Obstacle) (zones : List Zone)
-      → flat_map (reflected_by obstacles zones (ends_of s r)) a.obstacles
-      ≡ flat_map (reflected_by obstacles zones (ends_of s r)) b.obstacles
-  obstacles-stay obstacles zones =
-      flat-stays old new a.obstacles b.obstacles e (reflected_by obstacles zones (ends_of s r))
-      (λ o i. no-reflections (ends_of s r) (trace_of a s r) o (quiet_old o i) obstacles zones)
-      (λ o i. no-reflections (ends_of s r) (trace_of a s r) o (quiet_new o i) obstacles zones)
+  pub obstacles-stay : (book : Book)
+      → flat_map (reflected_by book (ends_of s r)) a.obstacles
+      ≡ flat_map (reflected_by book (ends_of s r)) b.obstacles
+  obstacles-stay book =
+      flat-stays old new a.obstacles b.obstacles e (reflected_by book (ends_of s r))
+      (λ o i. no-reflections (ends_of s r) (trace_of a s r) o (quiet_old o i) book)
+      (λ o i. no-reflections (ends_of s r) (trace_of a s r) o (quiet_new o i) book)
 
-module _ (a b : Book) (s : Source) (r : Receiver) (old new : List Zone) (e : Edited old new a.zones b.zones)
-    (quiet_old : (z : Zone) → In z old → zone_touches (ends_of s r) (trace_of a s r) z ≡ false)
-    (quiet_new : (z : Zone) → In z new → zone_touches (ends_of s r) (trace_of a s r) z ≡ false) where
-  -- the zones that the direct line meets, and those that a leg of a reflection meets
-  pub line-zones-stay : zones_on (path_of s r) a.zones ≡ zones_on (path_of s r) b.zones
-  line-zones-stay =
-      ap (map unnamed) (filter-stays old new a.zones b.zones e (λ (z : Zone). meets_line z.points s.at r.at)
-      (λ z i. off z (quiet_old z i)) (λ z i. off z (quiet_new z i)))
+-- things with outlines, as they are read
+module _ {A : Type 0} (outline_of : A → List Pt) (read : A → A) (a : Book) (s : Source) (r : Receiver) (old new xs ys : List A) (e : Edited old new xs ys)
+    (quiet_old : (x : A) → In x old → outline_touches (ends_of s r) (trace_of a s r) (outline_of x) ≡ false)
+    (quiet_new : (x : A) → In x new → outline_touches (ends_of s r) (trace_of a s r) (outline_of x) ≡ false) where
+  -- those that the direct line meets, and those that a leg of a reflection meets
+  pub line-outlines-stay : map read (met outline_of (path_of s r) xs) ≡ map read (met outline_of (path_of s r) ys)
+  line-outlines-stay =
+      ap (map read) (filter-stays old new xs ys e (λ (x : A). meets_line (outline_of x) s.at r.at)
+      (λ x i. off x (quiet_old x i)) (λ x i. off x (quiet_new x i)))
     where
-      off : (z : Zone) → zone_touches (ends_of s r) (trace_of a s r) z ≡ false → meets_line z.points s.at r.at ≡ false
-      off z quiet = (neither (meets_line z.points s.at r.at) (list_any (meets_leg z.points) (trace_of a s r)) quiet).0
+      off : (x : A) → outline_touches (ends_of s r) (trace_of a s r) (outline_of x) ≡ false → meets_line (outline_of x) s.at r.at ≡ false
+      off x quiet = (neither (meets_line (outline_of x) s.at r.at) (list_any (meets_leg (outline_of x)) (trace_of a s r)) quiet).0
 
-  pub leg-zones-stay : (wall : Side) → In (Legs wall s.at r.at) (trace_of a s r)
-      → zones_on (path_along (ends_of s r) (unfolded wall s.at r.at)) a.zones
-      ≡ zones_on (path_along (ends_of s r) (unfolded wall s.at r.at)) b.zones
-  leg-zones-stay wall stands =
-      ap (map unnamed) (filter-stays old new a.zones b.zones e (λ (z : Zone). meets_leg z.points (Legs wall s.at r.at))
-      (λ z i. off z (quiet_old z i)) (λ z i. off z (quiet_new z i)))
+  pub leg-outlines-stay : (wall : Side) → In (Legs wall s.at r.at) (trace_of a s r)
+      → map read (met outline_of (path_along (ends_of s r) (unfolded wall s.at r.at)) xs)
+      ≡ map read (met outline_of (path_along (ends_of s r) (unfolded wall s.at r.at)) ys)
+  leg-outlines-stay wall stands =
+      ap (map read) (filter-stays old new xs ys e (λ (x : A). meets_leg (outline_of x) (Legs wall s.at r.at))
+      (λ x i. off x (quiet_old x i)) (λ x i. off x (quiet_new x i)))
     where
-      off : (z : Zone) → zone_touches (ends_of s r) (trace_of a s r) z ≡ false → meets_leg z.points (Legs wall s.at r.at) ≡ false
-      off z quiet =
-          fails-at (meets_leg z.points) (Legs wall s.at r.at) (trace_of a s r) stands
-          (neither (meets_line z.points s.at r.at) (list_any (meets_leg z.points) (trace_of a s r)) quiet).1
+      off : (x : A) → outline_touches (ends_of s r) (trace_of a s r) (outline_of x) ≡ false → meets_leg (outline_of x) (Legs wall s.at r.at) ≡ false
+      off x quiet =
+          fails-at (meets_leg (outline_of x)) (Legs wall s.at r.at) (trace_of a s r) stands
+          (neither (meets_line (outline_of x) s.at r.at) (list_any (meets_leg (outline_of x)) (trace_of a s r)) quiet).1
 
 -- what is read along the legs of reflections
 module _ (a b : Book) (s : Source) (r : Receiver)
@@ -209,50 +213,57 @@ module _ (a b : Book) (s : Source) (r : Receiver)
     ≡ map (λ band. legs.edges_in band (unfolded wall s.at r.at) (ends_of s r) b.obstacles) all_bands)
     (same_zones : (wall : Side) → In (Legs wall s.at r.at) (trace_of a s r)
     → zones_on (path_along (ends_of s r) (unfolded wall s.at r.at)) a.zones
-    ≡ zones_on (path_along (ends_of s r) (unfolded wall s.at r.at)) b.zones) where
+    ≡ zones_on (path_along (ends_of s r) (unfolded wall s.at r.at)) b.zones)
+    (same_foliage : (wall : Side) → In (Legs wall s.at r.at) (trace_of a s r)
+    → foliage_on (path_along (ends_of s r) (unfolded wall s.at r.at)) a.foliage
+    ≡ foliage_on (path_along (ends_of s r) (unfolded wall s.at r.at)) b.foliage) where
   same-along : (o : Obstacle) (side : Side) → In (Legs side s.at r.at) (trace_of a s r)
-      → along_legs a.obstacles a.zones (ends_of s r) o side (unfolded side s.at r.at)
-      ≡ along_legs b.obstacles b.zones (ends_of s r) o side (unfolded side s.at r.at)
+      → along_legs a (ends_of s r) o side (unfolded side s.at r.at)
+      ≡ along_legs b (ends_of s r) o side (unfolded side s.at r.at)
   same-along o side stands =
-      let before : ReflectedPath = along_legs a.obstacles a.zones (ends_of s r) o side (unfolded side s.at r.at) in
-      let after : ReflectedPath = along_legs b.obstacles b.zones (ends_of s r) o side (unfolded side s.at r.at) in
+      let before : ReflectedPath = along_legs a (ends_of s r) o side (unfolded side s.at r.at) in
+      let after : ReflectedPath = along_legs b (ends_of s r) o side (unfolded side s.at r.at) in
       ap (λ (edges : List (List Edge)). record before { edges = edges }) (same_edges side stands)
-      ∙ ap (λ (zones : List Zone). record after { zones = zones }) (same_zones side stands)
+      ∙ ap (λ (zones : List Zone). record after { zones = zones; foliage = before.foliage }) (same_zones side stands)
+      ∙ ap (λ (foliage : List Foliage). record after { foliage = foliage }) (same_foliage side stands)
 
   same-reflected : (o : Obstacle) → In o a.obstacles → (side : Side) → In side (sides_of o)
-      → reflected_in a.obstacles a.zones (ends_of s r) o side ≡ reflected_in b.obstacles b.zones (ends_of s r) o side
+      → reflected_in a (ends_of s r) o side ≡ reflected_in b (ends_of s r) o side
   same-reflected o i side j = by (has_mirror o side (ends_of s r)) refl
     where
       by : (t : Bool) → has_mirror o side (ends_of s r) ≡ t
-          → option_map (along_legs a.obstacles a.zones (ends_of s r) o side) (then_some t (unfolded side s.at r.at))
-          ≡ option_map (along_legs b.obstacles b.zones (ends_of s r) o side) (then_some t (unfolded side s.at r.at))
+          → option_map (along_legs a (ends_of s r) o side) (then_some t (unfolded side s.at r.at))
+          ≡ option_map (along_legs b (ends_of s r) o side) (then_some t (unfolded side s.at r.at))
       by true is =
           ap Some (same-along o side (in-legs a s r o side (unfolded side s.at r.at) i j
           (ap (λ (t : Bool). then_some t (unfolded side s.at r.at)) is)))
       by false is = refl
 
-  pub reflections-agree : flat_map (reflected_by a.obstacles a.zones (ends_of s r)) a.obstacles
-      ≡ flat_map (reflected_by b.obstacles b.zones (ends_of s r)) a.obstacles
+  pub reflections-agree : flat_map (reflected_by a (ends_of s r)) a.obstacles
+      ≡ flat_map (reflected_by b (ends_of s r)) a.obstacles
   reflections-agree =
-      flat-agrees (reflected_by a.obstacles a.zones (ends_of s r)) (reflected_by b.obstacles b.zones (ends_of s r)) a.obstacles (λ o i.
-      options-agree (reflected_in a.obstacles a.zones (ends_of s r) o) (reflected_in b.obstacles b.zones (ends_of s r) o) (sides_of o)
+      flat-agrees (reflected_by a (ends_of s r)) (reflected_by b (ends_of s r)) a.obstacles (λ o i.
+      options-agree (reflected_in a (ends_of s r) o) (reflected_in b (ends_of s r) o) (sides_of o)
       (λ side j. same-reflected o i side j))
 
 -- the pieces of an edit touch no path
 pub record AreQuiet (path : TracedPath) (pieces : Pieces) : Type 0 where
   pub sources : (x : Source) → In x pieces.sources → bytes_eq x.name path.source ≡ false
   pub obstacles : (o : Obstacle) → In o pieces.obstacles → obstacle_touches path.ends path.trace o ≡ false
-  pub zones : (z : Zone) → In z pieces.zones → zone_touches path.ends path.trace z ≡ false
+  pub zones : (z : Zone) → In z pieces.zones → outline_touches path.ends path.trace z.points ≡ false
+  pub foliage : (f : Foliage) → In f pieces.foliage → outline_touches path.ends path.trace f.points ≡ false
 
 pub surroundings-stay : UncrossedIsUnblocked → (a b : Book) (s : Source) (r : Receiver) (old new : Pieces) → ListsEdited old new a b
     → AreQuiet (traced a r s) old → AreQuiet (traced a r s) new → surroundings_of a s r ≡ surroundings_of b s r
 surroundings-stay unblocked a b s r old new e h k =
     same-fields (surroundings_of a s r) (surroundings_of b s r)
-    (line-zones-stay a b s r old.zones new.zones e.zones h.zones k.zones)
+    (line-outlines-stay (λ (z : Zone). z.points) unnamed a s r old.zones new.zones a.zones b.zones e.zones h.zones k.zones)
+    (line-outlines-stay (λ (f : Foliage). f.points) nameless a s r old.foliage new.foliage a.foliage b.foliage e.foliage h.foliage k.foliage)
     (edges-stay unblocked a b s r old.obstacles new.obstacles e.obstacles h.obstacles k.obstacles)
     (laterals-stay unblocked a b s r old.obstacles new.obstacles e.obstacles h.obstacles k.obstacles)
     (renewals-stay unblocked a b s r old.obstacles new.obstacles e.obstacles h.obstacles k.obstacles)
     (reflections-agree a b s r
     (leg-edges-stay unblocked a b s r old.obstacles new.obstacles e.obstacles h.obstacles k.obstacles)
-    (leg-zones-stay a b s r old.zones new.zones e.zones h.zones k.zones)
-    ∙ obstacles-stay unblocked a b s r old.obstacles new.obstacles e.obstacles h.obstacles k.obstacles b.obstacles b.zones)
+    (leg-outlines-stay (λ (z : Zone). z.points) unnamed a s r old.zones new.zones a.zones b.zones e.zones h.zones k.zones)
+    (leg-outlines-stay (λ (f : Foliage). f.points) nameless a s r old.foliage new.foliage a.foliage b.foliage e.foliage h.foliage k.foliage)
+    ∙ obstacles-stay unblocked a b s r old.obstacles new.obstacles e.obstacles h.obstacles k.obstacles b)

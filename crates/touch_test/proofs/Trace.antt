@@ -50,12 +50,12 @@ module _ (book : Book) (s : Source) (r : Receiver) where
   pub in-legs : (o : Obstacle) (side : Side) (path : Reflection) → In o book.obstacles → In side (sides_of o)
       → mirror_of o side (ends_of s r) ≡ Some path → In (Legs side s.at r.at) (trace_of book s r)
   in-legs o side path i j e =
-      let reflected : ReflectedPath = along_legs book.obstacles book.zones (ends_of s r) o side path in
+      let reflected : ReflectedPath = along_legs book (ends_of s r) o side path in
       there _ _ (in-right _ (flat_map (segments_in (surroundings_of book s r) (ends_of s r)) all_bands) _
       (in-map (legs_of (ends_of s r)) reflected (surroundings_of book s r).reflected
-      (in-flat (reflected_by book.obstacles book.zones (ends_of s r)) o reflected book.obstacles i
-      (in-options (reflected_in book.obstacles book.zones (ends_of s r) o) side reflected (sides_of o) j
-      (ap (option_map (along_legs book.obstacles book.zones (ends_of s r) o side)) e)))))
+      (in-flat (reflected_by book (ends_of s r)) o reflected book.obstacles i
+      (in-options (reflected_in book (ends_of s r) o) side reflected (sides_of o) j
+      (ap (option_map (along_legs book (ends_of s r) o side)) e)))))
 
   -- the string of a hand in a band
   abbrev string_in : Band → Hand → List Seg

@@ -37,23 +37,31 @@ abbrev unnamed_as : TracedPath → Source → Type 0
 unnamed_as path x = bytes_eq x.name path.source ≡ false
 
 quiet-none : (path : TracedPath) → AreQuiet path no_pieces
-quiet-none path = record { sources = λ x i. elim i [ ]; obstacles = λ x i. elim i [ ]; zones = λ x i. elim i [ ] }
+quiet-none path = record { sources = λ x i. elim i [ ]; obstacles = λ x i. elim i [ ]; zones = λ x i. elim i [ ]; foliage = λ x i. elim i [ ] }
 
 quiet-part : (path : TracedPath) (part : Part) → part_touches path part ≡ false → AreQuiet path (pieces_of part)
 quiet-part path (parts.Source source) h =
-    record { sources = one-element (unnamed_as path) source h; obstacles = λ x i. elim i [ ]; zones = λ x i. elim i [ ] }
+    record { sources = one-element (unnamed_as path) source h; obstacles = λ x i. elim i [ ]; zones = λ x i. elim i [ ]; foliage = λ x i. elim i [ ] }
 quiet-part path (parts.Obstacle o) h = record {
   sources = λ x i. elim i [ ];
   obstacles = one-element (λ o. part_touches path (parts.Obstacle o) ≡ false) o h;
   zones = λ x i. elim i [ ];
+  foliage = λ x i. elim i [ ];
 }
 quiet-part path (parts.Zone zone) h = record {
   sources = λ x i. elim i [ ];
   obstacles = λ x i. elim i [ ];
   zones = one-element (λ z. part_touches path (parts.Zone z) ≡ false) zone h;
+  foliage = λ x i. elim i [ ];
+}
+quiet-part path (parts.Foliage foliage) h = record {
+  sources = λ x i. elim i [ ];
+  obstacles = λ x i. elim i [ ];
+  zones = λ x i. elim i [ ];
+  foliage = one-element (λ f. part_touches path (parts.Foliage f) ≡ false) foliage h;
 }
 quiet-part path (parts.Receiver receiver) h =
-    record { sources = λ x i. elim i [ ]; obstacles = λ x i. elim i [ ]; zones = λ x i. elim i [ ] }
+    record { sources = λ x i. elim i [ ]; obstacles = λ x i. elim i [ ]; zones = λ x i. elim i [ ]; foliage = λ x i. elim i [ ] }
 
 quiet-old : (path : TracedPath) (old : Option Part) → list_any (part_touches path) (option_to_list old) ≡ false
     → AreQuiet path (pieces_of_any old)
@@ -123,6 +131,7 @@ far-part : (r : Receiver) (reach : ℕ) (part : Part) → is_source_within reach
 far-part r reach (parts.Source source) h = one-element (IsFar r reach) source h
 far-part r reach (parts.Obstacle o) h = no-elements (IsFar r reach)
 far-part r reach (parts.Zone zone) h = no-elements (IsFar r reach)
+far-part r reach (parts.Foliage foliage) h = no-elements (IsFar r reach)
 far-part r reach (parts.Receiver receiver) h = no-elements (IsFar r reach)
 
 far-old : (r : Receiver) (reach : ℕ) (old : Option Part) → list_any (is_source_within reach r) (option_to_list old) ≡ false

@@ -1,4 +1,4 @@
--- How the sides of obstacles and the outlines of zones meet the plan segments of a trace.
+-- How the sides of obstacles and the outlines of zones and foliage meet the plan segments of a trace.
 use Rattle.std.specs.Prelude.{Bool, false, ◌||◌, is_some, List}
 use Rattle.scene_geom.specs.declared.plan.Pt.{Pt}
 use Rattle.scene_geom.specs.declared.plan.Side.{Side}
@@ -9,7 +9,7 @@ use Rattle.scene_geom.specs.Crossing.{crosses_of}
 use Rattle.scene_geom.specs.Reflection.{unfolded}
 use Rattle.path_shape.specs.declared.legs.Legs.TheVariants as legs
 use Rattle.image_source.specs.LegCuts.{place_up_to}
-use Rattle.term_ground.specs.Zones.{meets_legs}
+use Rattle.path_shape.specs.Outlines.{meets_legs}
 use Rattle.path_calc.specs.declared.segments.Seg.{Seg}
 use Rattle.path_calc.specs.declared.segments.Seg.TheVariants.{Straight, Legs}
 

@@ -2,8 +2,9 @@
 use Rattle.std.specs.Prelude.{ℕ, Bool, true, false, ◌||◌, bytes_eq, List, ◌++◌, map, Option, Some, None}
 use Rattle.std.specs.List.{list_any}
 use Rattle.std.specs.Option.{option_to_list}
+use Rattle.scene_geom.specs.declared.plan.Pt.{Pt}
 use Rattle.scene_geom.specs.declared.plan.Side.{Side}
-use Rattle.scene_parts.specs.Views.{Source, Receiver, Obstacle, Zone, Globals}
+use Rattle.scene_parts.specs.Views.{Source, Receiver, Obstacle, Globals}
 use Rattle.scene_parts.specs.Sides.{sides_of}
 use Rattle.scene_parts.specs.declared.parts.Part.{Part}
 use Rattle.scene_parts.specs.declared.parts.Part.TheVariants as parts
@@ -52,17 +53,18 @@ side_touches ends trace o side = list_any (crosses_segment side) trace || has_mi
 abbrev pub obstacle_touches : Ends → List Seg → Obstacle → Bool
 obstacle_touches ends trace o = list_any (side_touches ends trace o) (sides_of o)
 
--- the outline of a zone meets the direct line or a leg of a trace
-abbrev pub zone_touches : Ends → List Seg → Zone → Bool
-zone_touches ends trace zone =
-    meets_line zone.points ends.s ends.r || list_any (meets_leg zone.points) trace
+-- the outline of a zone or of a foliage meets the direct line or a leg of a trace
+abbrev pub outline_touches : Ends → List Seg → List Pt → Bool
+outline_touches ends trace outline = meets_line outline ends.s ends.r || list_any (meets_leg outline) trace
 
 -- To put or remove a part touches a path where the part is the path's source or receiver, an obstacle that crosses a
--- segment of its trace or mirrors its source to its receiver, or a zone over which its direct line or a leg leads
+-- segment of its trace or mirrors its source to its receiver, or a zone or a foliage over which its direct line or a
+-- leg leads
 abbrev pub part_touches : TracedPath → Part → Bool
 part_touches path (parts.Source source) = bytes_eq source.name path.source
 part_touches path (parts.Obstacle o) = obstacle_touches path.ends path.trace o
-part_touches path (parts.Zone zone) = zone_touches path.ends path.trace zone
+part_touches path (parts.Zone zone) = outline_touches path.ends path.trace zone.points
+part_touches path (parts.Foliage foliage) = outline_touches path.ends path.trace foliage.points
 part_touches path (parts.Receiver receiver) = bytes_eq receiver.name path.receiver
 
 -- ---- edits

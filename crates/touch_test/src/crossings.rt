@@ -1,4 +1,4 @@
-//! How sides of obstacles and outlines of zones meet the plan segments of a trace.
+//! How sides of obstacles and outlines of zones and foliage meet the plan segments of a trace.
 ghost use Rattle.std.specs.Prelude.{◌≡◌, is_some, ◌||◌, All};
 ghost use Rattle.std.specs.List.{list_any};
 ghost use Rattle.scene_geom.specs.Direction.{FitsDirection};

@@ -10,8 +10,8 @@ ghost use Rattle.touch_test.specs.Touches.{bundled};
 use crate::crossings::{crosses_any, meets_any_leg, meets_line};
 use image_source::mirror;
 use path_calc::{Bundle, Seg, within};
-use scene_geom::Side;
-use scene_parts::{Ends, Obstacle, Part, Receiver, Zone, side_of, sides};
+use scene_geom::{Pt, Side};
+use scene_parts::{Ends, Obstacle, Part, Receiver, side_of, sides};
 
 /// Whether a part touches the path of a bundle where it is put or removed.
 pub(crate) fn part_touches(part: &Part, bundle: &Bundle, receiver: &Receiver) -> bool
@@ -26,9 +26,16 @@ pub(crate) fn part_touches(part: &Part, bundle: &Bundle, receiver: &Receiver) ->
                 bundle.segs.items(),
             )
         }
-        Part::Zone(zone) => {
-            zone_touches(zone, ends_between(bundle, receiver), bundle.segs.items())
-        }
+        Part::Zone(zone) => outline_touches(
+            zone.points.items(),
+            ends_between(bundle, receiver),
+            bundle.segs.items(),
+        ),
+        Part::Foliage(foliage) => outline_touches(
+            foliage.points.items(),
+            ends_between(bundle, receiver),
+            bundle.segs.items(),
+        ),
         Part::Receiver(other) => other.name.items() == receiver.name.items(),
     }
 }
@@ -77,12 +84,11 @@ fn reflects(obstacle: &Obstacle, i: u32, side: Side, ends: Ends) -> bool
     mirror(obstacle, i, ends.s, ends.hs, ends.r, ends.hr).is_some()
 }
 
-/// Whether the outline of a zone meets the direct line or a leg of a trace.
-fn zone_touches(zone: &Zone, ends: Ends, trace: &[Seg]) -> bool
+/// Whether the outline of a zone or of a foliage meets the direct line or a leg of a trace.
+fn outline_touches(outline: &[Pt], ends: Ends, trace: &[Seg]) -> bool
     requires { All FitsSegment trace.now }
-    ensures { result ≡ form.zone_touches ends trace.now zone.now }
+    ensures { result ≡ form.outline_touches ends trace.now outline.now }
 {
-    let outline = zone.points.items();
     meets_line(outline, ends.s, ends.r) || meets_any_leg(outline, trace)
 }
 

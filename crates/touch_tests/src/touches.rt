@@ -603,6 +603,7 @@ fn hard_ground() -> RawPart {
         g: Some(0),
         air: None,
         c0: None,
+        ground: None,
     }
 }
 

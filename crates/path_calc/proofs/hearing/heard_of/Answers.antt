@@ -4,21 +4,21 @@ use Rattle.path_calc.proofs.AllSounds.{all-sounds}
 use Rattle.path_calc.proofs.Bounds.{sent, small-energies}
 use Rattle.path_calc.proofs.hearing.heard_of.Goals as goal
 
-pub level_before-level-requires-clause-emission : goal.level_before-level-requires-clause-emission
-level_before-level-requires-clause-emission c = sent c.args.emission c.requires.emission
+pub level_before-level-requires-clause-power : goal.level_before-level-requires-clause-power
+level_before-level-requires-clause-power c = sent c.args.paths.now.direct.omega c.power_of.result c.power_of.ensures.bounds
 
 pub returns-clause-energy : goal.returns-clause-energy
 returns-clause-energy c =
     all-sounds downwind_energy c.args.paths.now c.args.band c.args.emission c.level_before-level.result c.screening_in.result c.lateral_in-lateral.result c.as_slice.result.now
     c.heard_past-over.result.energy c.with_lateral-left.result.energy c.with_lateral-right.result.energy c.with_reflected.result.energy
-    c.level_before-level.ensures.value c.screening_in.ensures.value c.lateral_in-lateral.ensures.value c.as_slice.ensures.value
+    (rw c.power_of.ensures.value at c.level_before-level.ensures.value) c.screening_in.ensures.value c.lateral_in-lateral.ensures.value c.as_slice.ensures.value
     c.heard_past-over.ensures.energy c.heard_past-over.ensures.energy_bounds c.with_lateral-left.ensures.energy c.with_lateral-right.ensures.energy c.with_reflected.ensures.energy
 
 pub returns-clause-long : goal.returns-clause-long
 returns-clause-long c =
     all-sounds (long_term_energy c.args.band) c.args.paths.now c.args.band c.args.emission c.level_before-level.result c.screening_in.result c.lateral_in-lateral.result c.as_slice.result.now
     c.heard_past-over.result.long c.with_lateral-left.result.long c.with_lateral-right.result.long c.with_reflected.result.long
-    c.level_before-level.ensures.value c.screening_in.ensures.value c.lateral_in-lateral.ensures.value c.as_slice.ensures.value
+    (rw c.power_of.ensures.value at c.level_before-level.ensures.value) c.screening_in.ensures.value c.lateral_in-lateral.ensures.value c.as_slice.ensures.value
     c.heard_past-over.ensures.long c.heard_past-over.ensures.long_bounds c.with_lateral-left.ensures.long c.with_lateral-right.ensures.long c.with_reflected.ensures.long
 
 pub with_lateral-left-requires-clause-energy : goal.with_lateral-left-requires-clause-energy

@@ -1,10 +1,12 @@
 use Rattle.std.proofs.Common.{◌≡◌, ap, sym, subst, ◌∙◌, List, [], ◌∷◌, ◌++◌, map}
-use Rattle.std.specs.Prelude.{All, flat_map}
+use Rattle.std.specs.Prelude.{All, flat_map, pos}
 use Rattle.fix_interval.specs.Tree.{enc}
 use Rattle.scene_geom.specs.declared.band.Band.{Band}
 use Rattle.scene_geom.specs.Bands.{all_bands}
 use Rattle.scene_parts.specs.Views.{Source, Receiver, Obstacle}
-use Rattle.path_shape.specs.Shape.{direct_path}
+use Rattle.scene_geom.specs.declared.fraction.Frac.{Frac}
+use Rattle.scene_geom.specs.Fraction.{over}
+use Rattle.path_shape.specs.Shape.{direct_path, plan_square}
 use Rattle.path_shape.specs.declared.path.Path.{Path}
 use Rattle.scene_parts.specs.declared.crossing.Crossing.{Crossing}
 use Rattle.scene_parts.specs.declared.ends.Ends.{Ends}
@@ -18,7 +20,7 @@ use Rattle.path_calc.specs.declared.segments.Seg.{Seg}
 use Rattle.path_calc.specs.declared.segments.Seg.TheVariants.{Straight}
 use Rattle.path_calc.specs.Propagations.{Reflected}
 use Rattle.path_calc.specs.Tracing.{segments_in_band}
-use Rattle.path_calc.specs.Hearing.{propagation_along, reflected_of}
+use Rattle.path_calc.specs.Hearing.{propagation_along, direct_square, reflected_of}
 use Rattle.path_calc.proofs.Tracing.{trace-whole, walls-are}
 use Rattle.path_calc.proofs.Fitting.{edges-fit}
 use Rattle.path_calc.proofs.Heard.{direct-is, lateral-is}
@@ -42,15 +44,17 @@ returns-clause-value c =
     c.distance-distance.ensures.value ∙ ap (λ (s : Source). enc (distance s.at s.h c.receiver.inside.at c.receiver.inside.h)) c.source.view_is ∙ ap (λ (r : Receiver). enc (distance s.at s.h r.at r.h)) c.receiver.view_is in
     let path : c.direct-path.result ≡ path_of s r =
     c.direct-path.ensures.value ∙ ap (λ (s : Source). direct_path s.at s.h c.receiver.inside.at c.receiver.inside.h) c.source.view_is ∙ ap (λ (r : Receiver). path_of s r) c.receiver.view_is in
+    let square : c.direct_square-square.result ≡ direct_square s r =
+    c.direct_square-square.ensures.value ∙ ap (λ (s : Source). over (pos (plan_square s.at c.receiver.inside.at)) (pos 1)) c.source.view_is ∙ ap (λ (r : Receiver). direct_square s r) c.receiver.view_is in
     record {
       direct = direct-is c.in_ok-direct.direct book s r d found length
           (c.as_slice.ensures.value ∙ c.in_ok-crossings.ensures ∙ ap (λ (e : Ends). crossings_of e c.obstacles-obstacles.result.now) ends ∙ ap (crossings_of (ends_of s r)) c.obstacles-obstacles.ensures.value)
-          (c.in_ok-direct.ensures.value ∙ ap (λ (p : Path). propagation_along book.globals book.zones p d found) path);
+          (c.in_ok-direct.ensures.value ∙ ap (λ (q : Frac). propagation_along book c.direct-path.result q d found) square ∙ ap (λ (p : Path). propagation_along book p (direct_square s r) d found) path);
       lateral = λ (band : Band). lateral-is (record { direct = c.in_ok-direct.direct; left = c.in_ok-left.field-0.left; right = c.in_ok-left.field-0.right; reflected = c.in_ok-reflected.reflected }) book s r d band length (
           c.in_ok-left.ensures.value band
           ∙ ap (λ (os : List Obstacle). d_z_over (record { s = c.source.inside.at; hs = c.source.inside.h; r = c.receiver.inside.at; hr = c.receiver.inside.h }) os d band) c.obstacles-obstacles.ensures.value
           ∙ ap (λ (e : Ends). d_z_over e book.obstacles d band) ends);
-      reflected = c.in_ok-reflected.ensures.value ∙ ap (λ (e : Ends). map (reflected_of book.globals e) (reflected_paths book.obstacles book.zones e)) ends;
+      reflected = c.in_ok-reflected.ensures.value ∙ ap (λ (e : Ends). map (reflected_of book.globals e) (reflected_paths book e)) ends;
     }
 
 pub returns-clause-trace : goal.returns-clause-trace
@@ -68,5 +72,5 @@ returns-clause-trace c =
     ∙ ap (λ (e : Ends). c.push.new.self ++ flat_map (segments_in_band e book.obstacles) all_bands) ends)
     (c.in_ok-add_walls.ensures
     ∙ ap (λ (found : List Reflected). c.lateral_screening.new.trace ++ map (λ (path : Reflected). path.wall) found)
-    (c.as_slice-3.ensures.value ∙ c.in_ok-reflected.ensures.value ∙ ap (λ (e : Ends). map (reflected_of book.globals e) (reflected_paths book.obstacles book.zones e)) ends)
-    ∙ ap (λ (l : List Seg). c.lateral_screening.new.trace ++ l) (walls-are book.globals (ends_of s r) (reflected_paths book.obstacles book.zones (ends_of s r))))
+    (c.as_slice-3.ensures.value ∙ c.in_ok-reflected.ensures.value ∙ ap (λ (e : Ends). map (reflected_of book.globals e) (reflected_paths book e)) ends)
+    ∙ ap (λ (l : List Seg). c.lateral_screening.new.trace ++ l) (walls-are book.globals (ends_of s r) (reflected_paths book (ends_of s r))))

@@ -1,4 +1,4 @@
-use Rattle.std.proofs.Common.{ap, sym, subst, ◌∙◌, List, map}
+use Rattle.std.proofs.Common.{◌<◌, ap, sym, subst, ◌∙◌, List, map}
 use Rattle.std.specs.Prelude.{All}
 use Rattle.fix_interval.specs.Values.{less_of}
 use Rattle.fix_interval.specs.Tree.{Known, enc}
@@ -16,12 +16,21 @@ use Rattle.path_calc.specs.Contributions.{reflection_level}
 use Rattle.path_calc.specs.ReflectedPaths.{path_along}
 use Rattle.path_calc.specs.Propagations.{Reflected}
 use Rattle.path_calc.specs.Hearing.{propagation_along, crossings_on}
-use Rattle.path_calc.proofs.Reflecting.{square-kept, leg-crossings-fit, by-way-is}
+use Rattle.path_calc.proofs.Reflecting.{square-kept, strong-mirror, leg-crossings-fit, by-way-is}
 use Rattle.path_calc.proofs.propagation.Between.by_way_of.Goals as goal
 
 pub reflected_distance-distance-requires-clause-plan : goal.reflected_distance-distance-requires-clause-plan
 reflected_distance-distance-requires-clause-plan c =
     square-kept c.args.side c.args.self.now.ends.s c.args.self.now.ends.r _ (c.mirror.view_is ∙ c.requires.mirror) c.mirror.invariant
+
+pub along-requires-clause-square : goal.along-requires-clause-square
+along-requires-clause-square c =
+    square-kept c.args.side c.args.self.now.ends.s c.args.self.now.ends.r _ (c.mirror.view_is ∙ c.requires.mirror) c.mirror.invariant
+
+pub of-requires-clause-level : goal.of-requires-clause-level
+of-requires-clause-level c =
+    c.reflection_level-level.ensures.bounds
+    (strong-mirror c.obstacle.inside.rho (subst (λ (o : Obstacle). 0 < o.rho) (sym c.obstacle.view_is) c.requires.reflects) c.obstacle.invariant.reflects)
 
 pub along-requires-clause-edges : goal.along-requires-clause-edges
 along-requires-clause-edges c =
@@ -37,14 +46,15 @@ returns c =
     let d = c.reflected_distance-distance.result in
     let unfolded = c.args.mirror.now in
     record {
-      value = by-way-is c.of.result book.globals book.obstacles book.zones ends c.args.obstacle.now c.args.side unfolded legs d
+      value = by-way-is c.of.result book ends c.args.obstacle.now c.args.side unfolded legs d
           (c.reflected_distance-distance.ensures.value ∙ ap (λ (m : Reflection). enc (reflected_distance m.square ends.hs ends.hr)) c.mirror.view_is)
           (c.as_slice.ensures.value ∙ c.in_ok-legs.ensures ∙ ap (leg_crossings_of unfolded ends) c.obstacles.ensures.value)
           (ap (λ (m : Reflected). m.wall) c.of.ensures)
           (ap (λ (m : Reflected). m.path) c.of.ensures
           ∙ c.in_ok-path.ensures.value
-          ∙ ap (λ (p : Path). propagation_along book.globals book.zones p d c.as_slice-2.result.now) (c.reflected-path.ensures.value ∙ ap (path_along ends) (sym c.requires.mirror))
-          ∙ ap (propagation_along book.globals book.zones (path_along ends unfolded) d) (c.as_slice-2.ensures.value ∙ c.in_ok-crossings.ensures))
+          ∙ ap (λ (p : Path). propagation_along book p c.mirror.inside.plan2 d c.as_slice-2.result.now) (c.reflected-path.ensures.value ∙ ap (path_along ends) (sym c.requires.mirror))
+          ∙ ap (λ (m : Reflection). propagation_along book (path_along ends unfolded) m.square d c.as_slice-2.result.now) c.mirror.view_is
+          ∙ ap (propagation_along book (path_along ends unfolded) unfolded.square d) (c.as_slice-2.ensures.value ∙ c.in_ok-crossings.ensures))
           (ap (λ (m : Reflected). m.level) c.of.ensures ∙ c.reflection_level-level.ensures.value ∙ ap (λ (o : Obstacle). enc (reflection_level o.rho)) c.obstacle.view_is)
           (ap (λ (m : Reflected). m.counts) c.of.ensures
           ∙ c.big_enough_in_bands-counts.ensures

@@ -1,0 +1,32 @@
+-- What foliage takes off the sounds of a path in each band, as the code keeps it.
+use Rattle.std.specs.Prelude.{◌≡◌, ◌*◌, ◌^◌, pos, List, All, Option, None, Some, length, map, slice_index_or}
+use Rattle.fix_interval.specs.Interval.{Interval}
+use Rattle.fix_interval.specs.Bounds.{AreBetween}
+use Rattle.fix_interval.specs.Tree.{Tree, Known, Const, enc}
+use Rattle.scene_geom.specs.declared.band.Band.{Band}
+use Rattle.scene_geom.specs.Bands.{all_bands, place_of}
+use Rattle.scene_parts.specs.Views.{Foliage}
+use Rattle.path_shape.specs.declared.path.Path.{Path}
+use Rattle.term_foliage.specs.Foliage.{attenuations}
+
+-- an attenuation by foliage from 0 dB to 25 dB
+abbrev pub IsFoliageLoss : Interval → Type 0
+IsFoliageLoss attenuation = AreBetween (pos 0) (pos (25 * 2 ^ 32)) attenuation
+
+-- attenuations by foliage in the bands
+pub record AreLosses (losses : List Interval) : Type 0 where
+  pub each : All IsFoliageLoss losses
+  pub bands : length losses ≡ 8
+
+-- 0 dB in each band where no foliage is met
+abbrev pub losses_where_met : Option (List Interval) → List Interval
+losses_where_met None = map (λ band. enc (Const (pos 0) 1)) all_bands
+losses_where_met (Some losses) = losses
+
+-- that in a band
+abbrev pub loss_in : List Interval → Band → Interval
+loss_in losses band = slice_index_or losses (place_of band) (enc (Const (pos 0) 1))
+
+-- A_fol of a path in each band, where its length is known
+abbrev pub losses_along : List Foliage → Path → Interval → List Interval
+losses_along foliage path d = map enc (attenuations foliage path (Known d))
