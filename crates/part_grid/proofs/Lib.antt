@@ -1,0 +1,13 @@
+pub mod Registers
+pub mod Spans
+pub mod Walks
+pub mod Gathering
+pub mod Bits
+pub mod Entries
+pub mod Marked
+pub mod Means
+pub mod Rows
+pub mod Shared
+pub mod Crossed
+pub mod Boxed
+pub mod Among

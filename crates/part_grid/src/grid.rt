@@ -1,0 +1,118 @@
+//! The index.
+ghost use Rattle.std.specs.Prelude.{◌≡◌, [], length, map, replicate, false, IfOk, OnOk, OnErr};
+ghost use Rattle.part_grid.specs.Cells.{cells_meet_of, boxes_meet};
+ghost use Rattle.part_grid.specs.Near.{near_of, near_box_of};
+
+use super::entering::entered;
+use super::found::{Found, list_marked};
+use super::frame::{Frame, frame_of};
+use super::lines::{columns_between, rows_between};
+use super::marking::mark_column;
+use super::marks::Marks;
+use super::owned::{Owned, Place};
+use super::register::Register;
+use super::walk::walk_rows;
+use scene_geom::Pt;
+use std::alloc::{AllocError, Global};
+use std::marker::Model;
+
+/// An index of sides by cells of 65,536 mm. Contracts see it as the list of the sides.
+#[derive(Debug, Drop)]
+pub struct Grid {
+    sides: Vec<Owned>,
+    frame: Frame,
+    register: Register,
+}
+
+impl Model for Grid {
+    ghost use Rattle.std.specs.Prelude.{List};
+    ghost use Rattle.part_grid.specs.declared.owned.Owned.{Owned};
+    ghost use Rattle.part_grid.specs.Index.{IsIndex};
+
+    ghost Value = { List Owned };
+
+    ghost view = { λ g. g.sides.items };
+
+    ghost invariant = { λ g. IsIndex g.sides.items g.frame g.register };
+}
+
+impl Grid {
+    /// The index of some sides. Cells are laid over the columns and rows that the sides use.
+    pub fn build(alloc: Global, sides: &[Owned]) -> Result<Self, AllocError>
+        ensures { IfOk result (λ grid. grid ≡ sides.now) }
+    {
+        let frame = frame_of(sides);
+        let register = entered(alloc, sides, frame)?;
+        let kept = Vec::from_slice(alloc, sides)?;
+        Ok(Grid {
+            sides: kept,
+            frame,
+            register,
+        })
+    }
+
+    /// The places of the sides whose cells meet the walk of the segment from `p` to `q`, in their order. Among them are
+    /// all sides that cross or block the segment.
+    pub fn near(&self, alloc: Global, p: Pt, q: Pt) -> Result<Vec<Place>, AllocError>
+        ensures { IfOk result (λ places. places.items ≡ near_of p q self.now) }
+    {
+        let mut found = Found::new(alloc);
+        self.find_near(p, q, &mut found)?;
+        Ok(found.into_places())
+    }
+
+    /// The places of the sides whose cells meet those of the box with these corners, in their order.
+    pub fn near_box(&self, alloc: Global, low: Pt, high: Pt) -> Result<Vec<Place>, AllocError>
+        ensures { IfOk result (λ places. places.items ≡ near_box_of low high self.now) }
+    {
+        let mut found = Found::new(alloc);
+        self.find_near_box(low, high, &mut found)?;
+        Ok(found.into_places())
+    }
+
+    /// `near`, with buffers that the caller lends.
+    pub fn find_near(&self, p: Pt, q: Pt, found: &mut Found) -> Result<(), AllocError>
+        ensures found { OnOk result (found.new ≡ near_of p q self.now) }
+        ensures none { OnErr result (found.new ≡ []) }
+    {
+        found.places.clear();
+        found.marks.reset(self.sides.len())?;
+        self.mark_near(p, q, &mut found.marks);
+        list_marked(&found.marks, self.sides.as_slice(), &mut found.places)
+    }
+
+    /// `near_box`, with buffers that the caller lends.
+    pub fn find_near_box(&self, low: Pt, high: Pt, found: &mut Found) -> Result<(), AllocError>
+        ensures found { OnOk result (found.new ≡ near_box_of low high self.now) }
+        ensures none { OnErr result (found.new ≡ []) }
+    {
+        found.places.clear();
+        found.marks.reset(self.sides.len())?;
+        self.mark_box(low, high, &mut found.marks);
+        list_marked(&found.marks, self.sides.as_slice(), &mut found.places)
+    }
+
+    /// Marks the sides whose cells meet the walk of a segment.
+    fn mark_near(&self, p: Pt, q: Pt, marks: &mut Marks)
+        requires { marks.old ≡ replicate (length self.now) false }
+        ensures { marks.new ≡ map (λ owned. cells_meet_of owned.side p q) self.now }
+    {
+        let columns = columns_between(p, q).common(self.frame.columns);
+        for column in columns.low..columns.high + 1 {
+            let rows = walk_rows(p, q, column);
+            mark_column(&self.register, self.frame, column, rows, marks);
+        }
+    }
+
+    /// Marks the sides whose cells meet those of a box.
+    fn mark_box(&self, low: Pt, high: Pt, marks: &mut Marks)
+        requires { marks.old ≡ replicate (length self.now) false }
+        ensures { marks.new ≡ map (λ owned. boxes_meet owned.side low high) self.now }
+    {
+        let boxed = columns_between(low, high).common(self.frame.columns);
+        let rows = rows_between(low, high);
+        for column in boxed.low..boxed.high + 1 {
+            mark_column(&self.register, self.frame, column, rows, marks);
+        }
+    }
+}

@@ -1,0 +1,287 @@
+//! What is near, from outside: each expected list was calculated from the definition, by an independent program over
+//! fractions.
+use super::{Found, Grid, Owned, Place, cells_meet};
+use scene_geom::{Pt, Side};
+use std::alloc::{AllocError, Global};
+use std::process::Abort;
+use std::test::Fail;
+
+/// The greatest coordinate.
+const M: i64 = 4_000_000;
+
+/// A place.
+type At = (i64, i64);
+
+/// A side: its obstacle, its number there, and its ends.
+type Row = ((u32, u32), At, At);
+
+/// Two points, and the places near the segment between them and near the box with these corners.
+type Query = (At, At, &'static str, &'static str);
+
+/// Sides along the borders of cells and on their corners, two of them in one place.
+const CITY: [Row; 8] = [
+    ((0, 0), (0, 0), (10_000, 0)),
+    ((1, 0), (200_000, 0), (210_000, 0)),
+    ((1, 1), (65_536, 0), (65_536, 65_536)),
+    ((2, 0), (-65_536, -65_536), (-1, -65_536)),
+    ((2, 1), (131_072, 131_072), (140_000, 140_000)),
+    ((2, 2), (-70_000, 70_000), (-60_000, 60_000)),
+    ((3, 0), (-1, -1), (0, 0)),
+    ((0, 1), (10_000, 0), (0, 0)),
+];
+
+/// What is near in the city.
+const IN_CITY: [Query; 23] = [
+    (
+        (5_000, -5_000),
+        (5_000, 5_000),
+        "0.0 3.0 0.1",
+        "0.0 3.0 0.1",
+    ),
+    (
+        (5_000, -5_000),
+        (205_000, 5_000),
+        "1.0 1.1 3.0",
+        "0.0 1.0 1.1 3.0 0.1",
+    ),
+    (
+        (5_000, 0),
+        (205_000, 5_000),
+        "0.0 1.0 1.1 3.0 0.1",
+        "0.0 1.0 1.1 3.0 0.1",
+    ),
+    ((0, -5_000), (70_000, -1), "3.0", "3.0"),
+    ((0, -5_000), (70_000, 0), "1.1 3.0", "0.0 1.1 3.0 0.1"),
+    ((65_535, -1), (65_535, -65_537), "3.0", "3.0"),
+    ((65_536, 65_536), (65_536, 65_537), "1.1", "1.1"),
+    ((131_071, 131_071), (131_072, 131_072), "1.1 2.1", "1.1 2.1"),
+    ((131_072, 131_072), (131_071, 131_071), "1.1 2.1", "1.1 2.1"),
+    (
+        (-1, 131_072),
+        (131_072, -1),
+        "0.0 1.1 2.2 3.0 0.1",
+        "0.0 1.1 2.0 2.1 2.2 3.0 0.1",
+    ),
+    (
+        (-65_536, 65_536),
+        (65_536, -65_536),
+        "0.0 2.2 3.0 0.1",
+        "0.0 1.1 2.0 2.2 3.0 0.1",
+    ),
+    ((-65_537, 65_535), (-65_537, 65_535), "2.2", "2.2"),
+    ((-100_000, 65_536), (-50_000, 65_535), "2.2 3.0", "2.2 3.0"),
+    (
+        (-196_608, -196_608),
+        (196_608, 196_608),
+        "0.0 1.1 2.0 2.1 2.2 3.0 0.1",
+        "0.0 1.0 1.1 2.0 2.1 2.2 3.0 0.1",
+    ),
+    (
+        (-196_608, -196_607),
+        (196_608, 196_609),
+        "0.0 1.1 2.0 2.1 2.2 3.0 0.1",
+        "0.0 1.0 1.1 2.0 2.1 2.2 3.0 0.1",
+    ),
+    (
+        (196_608, -196_608),
+        (-196_608, 196_608),
+        "0.0 2.2 3.0 0.1",
+        "0.0 1.0 1.1 2.0 2.1 2.2 3.0 0.1",
+    ),
+    (
+        (M, M),
+        (-M, -M),
+        "0.0 1.1 2.0 2.1 2.2 3.0 0.1",
+        "0.0 1.0 1.1 2.0 2.1 2.2 3.0 0.1",
+    ),
+    ((M, -M), (-M, -M), "", ""),
+    (
+        (-M, 65_536),
+        (M, 65_535),
+        "0.0 1.0 1.1 2.2 3.0 0.1",
+        "0.0 1.0 1.1 2.2 3.0 0.1",
+    ),
+    ((0, 0), (0, 0), "0.0 3.0 0.1", "0.0 3.0 0.1"),
+    ((-1, 0), (-1, 0), "2.2 3.0", "2.2 3.0"),
+    ((196_607, 0), (196_607, 1), "", ""),
+    ((196_608, 0), (196_608, -1), "1.0", "1.0"),
+];
+
+/// Sides from end to end of the plan, and in its outermost cells.
+const PLAN: [Row; 8] = [
+    ((0, 0), (-M, -M), (M, M)),
+    ((0, 1), (-M, M), (-3_999_000, M)),
+    ((1, 0), (M, -M), (M, -3_990_000)),
+    ((1, 1), (-131_072, -M), (-131_072, M)),
+    ((4, 7), (M, 1), (3_932_160, 65_535)),
+    ((4, 8), (-M, -1), (-3_932_161, -65_536)),
+    ((5, 0), (0, 0), (65_535, 65_535)),
+    ((5, 1), (-65_537, 131_071), (-65_536, 131_072)),
+];
+
+/// What is near in the plan.
+const IN_PLAN: [Query; 19] = [
+    (
+        (-M, M),
+        (M, -M),
+        "0.0 0.1 1.0 1.1 5.0 5.1",
+        "0.0 0.1 1.0 1.1 4.7 4.8 5.0 5.1",
+    ),
+    (
+        (-M, -M),
+        (M, M),
+        "0.0 1.1 5.0",
+        "0.0 0.1 1.0 1.1 4.7 4.8 5.0 5.1",
+    ),
+    ((M, M), (M, M), "0.0", "0.0"),
+    ((-M, -M), (-M, -M), "0.0", "0.0"),
+    ((-M, M), (-M, M), "0.0 0.1", "0.0 0.1"),
+    ((M, -M), (M, -M), "0.0 1.0", "0.0 1.0"),
+    ((3_932_159, 0), (3_932_159, M), "0.0", "0.0"),
+    ((3_932_160, 0), (3_932_160, M), "0.0 4.7", "0.0 4.7"),
+    ((-3_932_161, 0), (-3_932_160, -1), "0.0 4.8", "0.0 4.8"),
+    ((-131_073, 5), (-131_073, 7), "0.0", "0.0"),
+    ((-131_072, 5), (-131_072, 7), "0.0 1.1", "0.0 1.1"),
+    ((-M, 1), (M, 0), "0.0 1.1 4.7 5.0", "0.0 1.1 4.7 5.0"),
+    ((-M, -1), (M, 0), "0.0 1.1 4.7 4.8", "0.0 1.1 4.7 4.8 5.0"),
+    ((-M, 0), (M, -1), "0.0 1.1 4.8", "0.0 1.1 4.7 4.8 5.0"),
+    ((M, -65_537), (-M, -65_537), "0.0 1.1", "0.0 1.1"),
+    (
+        (-65_537, 131_070),
+        (0, 65_536),
+        "0.0 1.1 5.1",
+        "0.0 1.1 5.1",
+    ),
+    ((1, -1), (65_534, -1), "0.0", "0.0"),
+    ((-65_536, -65_536), (65_535, 65_535), "0.0 5.0", "0.0 5.0"),
+    ((-65_536, 65_535), (65_535, -65_536), "0.0", "0.0 5.0"),
+];
+
+fn at((x, y): At) -> Pt {
+    Pt::new(x.clamp(-M, M), y.clamp(-M, M))
+}
+
+fn side(from: At, to: At) -> Side {
+    Side {
+        from: at(from),
+        to: at(to),
+    }
+}
+
+/// The sides of a table.
+fn sides(alloc: Global, rows: &[Row]) -> Result<Vec<Owned>, AllocError> {
+    let mut sides = Vec::new(alloc);
+    for row in rows {
+        let (place, from, to) = *row;
+        sides.push(Owned {
+            obstacle: place.0,
+            index: place.1,
+            side: side(from, to),
+        })?;
+    }
+    Ok(sides)
+}
+
+/// The corners of the box that holds two points.
+fn corners(a: At, b: At) -> (Pt, Pt) {
+    (
+        at((a.0.min(b.0), a.1.min(b.1))),
+        at((a.0.max(b.0), a.1.max(b.1))),
+    )
+}
+
+/// Places as the tables show them.
+fn listed(alloc: Global, places: &[Place]) -> Result<String, AllocError> {
+    let mut text = String::new(alloc);
+    for place in places {
+        if !text.is_empty() {
+            text.push_str(" ")?;
+        }
+        write!(text, "{}.{}", place.obstacle, place.index)?;
+    }
+    Ok(text)
+}
+
+/// What is near the segment and the box of two points, by lent buffers.
+fn told(
+    alloc: Global,
+    grid: &Grid,
+    a: At,
+    b: At,
+    found: &mut Found,
+) -> Result<(String, String), AllocError> {
+    let (low, high) = corners(a, b);
+    grid.find_near(at(a), at(b), found)?;
+    let near = listed(alloc, found.places())?;
+    grid.find_near_box(low, high, found)?;
+    let boxed = listed(alloc, found.places())?;
+    Ok((near, boxed))
+}
+
+/// The same by new buffers, with the ends of the segment exchanged.
+fn told_anew(alloc: Global, grid: &Grid, a: At, b: At) -> Result<(String, String), AllocError> {
+    let (low, high) = corners(a, b);
+    let near = grid.near(alloc, at(b), at(a))?;
+    let boxed = grid.near_box(alloc, low, high)?;
+    Ok((
+        listed(alloc, near.as_slice())?,
+        listed(alloc, boxed.as_slice())?,
+    ))
+}
+
+/// Expects both texts.
+fn expect_texts(rt: &impl Abort, texts: (String, String), row: Query) {
+    assert!(rt; texts.0.as_str() == row.2);
+    assert!(rt; texts.1.as_str() == row.3);
+}
+
+fn expect_rows(
+    rt: &impl Abort,
+    alloc: Global,
+    sides: &[Owned],
+    rows: &[Query],
+) -> Result<(), AllocError> {
+    let grid = Grid::build(alloc, sides)?;
+    let mut found = Found::new(alloc);
+    for row in rows {
+        let lent = told(alloc, &grid, row.0, row.1, &mut found)?;
+        expect_texts(rt, lent, *row);
+        let anew = told_anew(alloc, &grid, row.0, row.1)?;
+        expect_texts(rt, anew, *row);
+    }
+    Ok(())
+}
+
+#[test]
+fn the_city_has_these_near(rt: HostRuntime) -> Result<(), Fail> {
+    let sides = sides(rt.alloc(), &CITY)?;
+    Ok(expect_rows(&rt, rt.alloc(), sides.as_slice(), &IN_CITY)?)
+}
+
+#[test]
+fn the_plan_has_these_near(rt: HostRuntime) -> Result<(), Fail> {
+    let sides = sides(rt.alloc(), &PLAN)?;
+    Ok(expect_rows(&rt, rt.alloc(), sides.as_slice(), &IN_PLAN)?)
+}
+
+#[test]
+fn nothing_is_near_without_sides(rt: HostRuntime) -> Result<(), Fail> {
+    let grid = Grid::build(rt.alloc(), &[])?;
+    let near = grid.near(rt.alloc(), at((-M, -M)), at((M, M)))?;
+    assert_eq!(rt; near.len(), 0);
+    Ok(())
+}
+
+#[test]
+fn cells_meet_where_they_are_near(rt: HostRuntime) {
+    let wall = side((200_000, 0), (210_000, 0));
+    assert!(rt; cells_meet(wall, at((5000, 0)), at((205_000, 5000))));
+    assert!(rt; !cells_meet(wall, at((5000, -5000)), at((5000, 5000))));
+    assert!(rt;
+        !cells_meet(
+            side((0, 0), (10_000, 0)),
+            at((5000, -5000)),
+            at((205_000, 5000))
+        )
+    );
+}
