@@ -1,7 +1,8 @@
 #!/bin/sh
 # Prints what workers bring by the proved program: the time of `--make 7`, and of a site with 16 sources, 1,024 receivers and
-# 500 buildings, with 0 to 15 workers on as many processors as there are; and the time of an edit and of a look at that site
-# while 4 workers calculate it.
+# 500 buildings, with 0 to 15 workers on as many processors as there are; the time of an edit and of a look at that site
+# while 4 workers calculate it; and what 0 to 16 workers cost: processor time without a job, and beside a slow editor; the time
+# of 20,000 edits, and of a look behind an edit.
 set -e
 . "$(dirname "$0")/timing.sh"
 . "$(dirname "$0")/site.sh"
@@ -55,4 +56,67 @@ print("look ms  edit ms  receivers current meanwhile")
 print(f"{sorted(plain)[5]:7.2f}  {sorted(edited)[5]:7.2f}  {current[0]} to {current[-1]}")
 run.stdin.close()
 run.wait()
+PYTHON
+
+# What workers cost where there is nothing to do for them, or little.
+python3 - "$root/crates/noise_map/out/noise_map" <<'PYTHON'
+import resource, subprocess, sys, time
+program = sys.argv[1]
+
+def start(workers):
+    return subprocess.Popen([program, "--workers", str(workers)], stdin=subprocess.PIPE, stdout=subprocess.PIPE, text=True, bufsize=1 << 20)
+
+def source(number):
+    return '{"do":"source","name":"s","kind":"industry","x":0,"y":0,"h":2000,"lw":[9000,9500,9800,10000,10000,9700,9200,%d]}\n' % (8000 + number % 1000)
+
+def grid(columns):
+    return '{"do":"grid","name":"g","x":-100000,"y":-100000,"step":20000,"columns":%d,"rows":%d,"h":4000}\n' % (columns, columns)
+
+def spent():
+    used = resource.getrusage(resource.RUSAGE_CHILDREN)
+    return used.ru_utime + used.ru_stime
+
+def slow(workers, lines):
+    """Processor milliseconds of a run that gets these lines, one each 10 ms, and then nothing until 3 s are over."""
+    before, end = spent(), time.monotonic() + 3
+    run = start(workers)
+    for line in lines:
+        run.stdin.write(line)
+        run.stdin.flush()
+        time.sleep(0.01)
+    time.sleep(max(0, end - time.monotonic()))
+    run.communicate()
+    return (spent() - before) * 1000
+
+def quick(workers, lines):
+    """Milliseconds of a run that gets these lines at once."""
+    run = start(workers)
+    begin = time.monotonic()
+    run.communicate("".join(lines))
+    return (time.monotonic() - begin) * 1000
+
+def look(workers):
+    """Milliseconds of an edit that touches 256 rows and of a look behind it: the median of 40."""
+    run, times = start(workers), []
+    run.stdin.write(source(0) + grid(16) + '{"do":"settle"}\n')
+    for number in range(41):
+        begin = time.monotonic()
+        run.stdin.write((source(number) if number else "") + '{"do":"look"}\n')
+        run.stdin.flush()
+        rows = 257 * 2 if number == 0 else 257
+        for _ in range(rows):
+            run.stdout.readline()
+        times.append((time.monotonic() - begin) * 1000)
+        time.sleep(0.02)
+    run.communicate()
+    return sorted(times[1:])[20]
+
+small = [source(0), grid(8), '{"do":"settle"}\n']
+sources = [source(number) for number in range(20000)]
+print("workers  without a job  an edit each 10 ms  20,000 edits  of 16 rows each  look behind an edit")
+print("         cpu ms of 3 s         cpu ms of 3 s            ms               ms                   ms")
+for workers in (0, 1, 4, 16):
+    idle, edited = slow(workers, []), slow(workers, small + sources[:280])
+    bare, touching = quick(workers, sources), quick(workers, [grid(4)] + sources)
+    print(f"{workers:7}  {idle:13.0f}  {edited:18.0f}  {bare:12.0f}  {touching:15.0f}  {look(workers):19.2f}", flush=True)
 PYTHON

@@ -104,7 +104,7 @@ refuse() {
 # with words that make several edits or more rows, and over the site of a works; without workers and with some.
 refuse_all() {
     refuse "$1" "$room/blocked.jsonl" 0 "$room/blocked.csv"
-    refuse "$1" "$room/blocked.jsonl" 0 "$room/blocked.csv" --workers 2
+    refuse "$1" "$room/settles.jsonl" 0 "$room/settles.csv" --workers 2
     refuse "$1" examples/undo.jsonl "$(cat examples/undo.status)" examples/undo.csv
     refuse "$1" examples/line.jsonl "$(cat examples/line.status)" examples/line.csv
     refuse "$1" examples/contour.jsonl 0 examples/contour.csv
@@ -174,6 +174,9 @@ crowd_all() {
     echo "settle,5,1,,,,"
     echo "row,5,r,current,,35.61,35.62"
 } > "$room/blocked.csv"
+# The same without its look, which beside workers may find the row calculated again.
+grep -v look "$room/blocked.jsonl" > "$room/settles.jsonl"
+grep -v -e look -e stale "$room/blocked.csv" > "$room/settles.csv"
 
 compiler=
 for name in cc clang gcc; do

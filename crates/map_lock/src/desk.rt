@@ -8,17 +8,12 @@ use crate::solving::solve;
 use map_board::{Answer, Job, Took};
 use receiver_workers::{Desk, Taken};
 use std::sync::Wait;
-use std::thread;
 
 /// A job that could not be solved for want of memory. Nothing but a solve at this desk makes one.
 #[derive(Drop)]
 pub struct Unsolved {
     job: Job,
 }
-
-// How often a worker gives other threads the processor where there is no job: calls are served in their order, so that
-// idle workers would stand in front of the editor.
-const YIELDS: u32 = 64;
 
 impl Desk for MapLock {
     ghost use Rattle.std.specs.Prelude.{◌≡◌};
@@ -49,7 +44,12 @@ impl Desk for MapLock {
     ghost follows = { Follows };
 
     fn take<R: Wait>(&self, rt: &R, seat: &mut WorkerSeat) -> Taken<Job> {
-        taken(self.ask_take(rt, &mut seat.seat))
+        let place = self.reserve.wait(rt, seat.place);
+        let heard = self.jobs.lull(rt, seat.heard);
+        let took = self.take_or_sleep(rt, &mut seat.seat, heard);
+        seat.place = Some(place);
+        seat.heard = heard;
+        taken(took)
     }
 
     fn solve(&self, job: Job) -> Result<Answer, Unsolved> {
@@ -65,6 +65,7 @@ impl Desk for MapLock {
 
     fn give_back<R: Wait>(&self, rt: &R, seat: &mut WorkerSeat, back: Unsolved) {
         self.ask_give_back(rt, &mut seat.seat, back.job);
+        self.reserve.call_one();
     }
 
     fn place(&self, job: &Job) -> u32 {
@@ -72,7 +73,7 @@ impl Desk for MapLock {
     }
 
     fn wait<R: Wait>(&self, _rt: &R) {
-        back_off();
+        // A take that answers `Idle` has slept.
     }
 
     ghost use Rattle.map_lock.specs.Following.{follows-itself, follows-through};
@@ -90,12 +91,5 @@ fn taken(took: Took) -> Taken<Job>
         Took::Job(job) => Taken::Job(job),
         Took::Idle { taken: _ } => Taken::Idle,
         Took::Finished => Taken::Finished,
-    }
-}
-
-/// Lets other threads go first.
-pub(crate) fn back_off() {
-    for _ in 0..YIELDS {
-        thread::yield_now();
     }
 }

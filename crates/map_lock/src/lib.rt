@@ -5,9 +5,11 @@
 //! split; each seat knows a beginning of the history, and in it each of its own calls once.
 #![tactic(auto)]
 
+mod bell;
 mod desk;
 mod lock;
 mod machine;
+mod reserve;
 mod seats;
 mod settling;
 mod solving;

@@ -8,7 +8,9 @@ ghost use Rattle.map_board.specs.Seats.{May};
 ghost use Rattle.map_lock.specs.Seats.{IsSeat, IsEditor};
 ghost use Rattle.map_lock.specs.Turns.{HasTurned};
 
+use crate::bell::Bell;
 use crate::machine::SharedBoard;
+use crate::reserve::Reserve;
 use crate::seats::{EditorSeat, LookSeat, WorkerSeat, counts_of};
 use map_board::{Answer, Board, BoardCall, BoardReply, Job, Landed, LookAll, Took};
 use scene_book::{Edit, EditFault};
@@ -24,6 +26,11 @@ use turn_lock::Turn;
 pub struct MapLock {
     pub(crate) turn: Turn<SharedBoard>,
     pub(crate) alloc: Global,
+    /// Rung where there may be a job: workers without one sleep by it.
+    pub(crate) jobs: Bell,
+    /// Rung where a job has come back: the editor sleeps by it in a settle.
+    pub(crate) answers: Bell,
+    pub(crate) reserve: Reserve,
 }
 
 impl Model for MapLock {
@@ -42,13 +49,32 @@ impl MapLock {
         ensures seat { IfOk result (λ r. r.1 ≡ first_standing r.0) }
         ensures sound { IfOk result (λ r. IsEditor r.1) }
     {
+        MapLock::start_with_reserve(alloc, u32::MAX)
+    }
+
+    /// The same, with workers in reserve: so many take jobs at its desk at a time, and the others sleep until one of these
+    /// ends, or the board is finished.
+    pub fn start_with_reserve(
+        alloc: Global,
+        at_work: u32,
+    ) -> Result<(MapLock, EditorSeat), NoMemory>
+        ensures seat { IfOk result (λ r. r.1 ≡ first_standing r.0) }
+        ensures sound { IfOk result (λ r. IsEditor r.1) }
+    {
         let board = Board::new(alloc)?;
         let (turn, seat) = match Turn::start(alloc, SharedBoard { board }) {
             Ok(started) => started,
             Err(turn_lock::NoMemory) => return Err(NoMemory),
         };
         let counts = [0; 4];
-        Ok((MapLock { turn, alloc }, EditorSeat { seat, counts }))
+        let lock = MapLock {
+            turn,
+            alloc,
+            jobs: Bell::new(),
+            answers: Bell::new(),
+            reserve: Reserve::new(at_work),
+        };
+        Ok((lock, EditorSeat { seat, counts }))
     }
 
     /// A seat for a worker, that sees what the editor sees. It has one of the editor's parts, a number above all that the
@@ -63,7 +89,11 @@ impl MapLock {
         ensures sound { IsSeat result }
     {
         let seat = self.turn.split(rt, &mut editor.seat);
-        WorkerSeat { seat }
+        WorkerSeat {
+            seat,
+            place: None,
+            heard: 0,
+        }
     }
 
     /// A seat for one who looks, as `worker` says of a worker's.
@@ -91,7 +121,11 @@ impl MapLock {
         ensures sound_other { IsSeat other }
         ensures sound { IsEditor editor.new }
     {
-        let WorkerSeat { seat } = other;
+        let WorkerSeat {
+            seat,
+            place: _,
+            heard: _,
+        } = other;
         self.turn.join(&mut editor.seat, seat);
     }
 
@@ -119,7 +153,7 @@ impl MapLock {
             ≡ length seat.mine + sum_by (λ j. length j.mine) seat.joined }
         ensures sound { IsEditor seat }
     {
-        let MapLock { turn, alloc: _ } = self;
+        let MapLock { turn, .. } = self;
         let EditorSeat { seat, counts: _ } = seat;
         let SharedBoard { board } = turn.close(seat);
         board

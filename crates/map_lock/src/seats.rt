@@ -60,6 +60,10 @@ pub(crate) fn counts_of(look: &Result<LookAll, NoMemory>, before: [u64; 4]) -> [
 #[derive(Drop)]
 pub struct WorkerSeat {
     pub(crate) seat: Seat<SharedBoard>,
+    /// How many workers of its lock came before it, once it has come.
+    pub(crate) place: Option<u64>,
+    /// How often it has heard the bell of jobs.
+    pub(crate) heard: u64,
 }
 
 impl Model for WorkerSeat {

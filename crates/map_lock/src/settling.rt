@@ -4,7 +4,6 @@ ghost use Rattle.map_board.specs.Seats.{owed};
 ghost use Rattle.map_lock.specs.Seats.{IsSeat, IsEditor};
 ghost use Rattle.map_lock.specs.Settling.{HasNotFinished, HasSettled, HasWorkedQuietly, HasWorkedUnseen};
 
-use crate::desk::back_off;
 use crate::lock::MapLock;
 use crate::machine::SharedBoard;
 use crate::seats::{EditorSeat, counts_of};
@@ -54,10 +53,11 @@ impl MapLock {
         ensures sound { IsSeat seat.new }
     {
         for _ in rt.forever() {
+            let heard = self.answers.heard();
             match self.ask_take(rt, seat) {
                 Took::Job(job) => self.work_off(rt, alloc, seat, gate, job)?,
                 Took::Idle { taken: 0 } => return self.ask_look(rt, alloc, seat),
-                Took::Idle { taken: _ } => back_off(),
+                Took::Idle { taken: _ } => self.answers.sleep(rt, heard),
                 Took::Finished => unreachable!(),
             }
         }

@@ -44,7 +44,10 @@ impl MapLock {
         ensures sound { IsSeat seat.new }
     {
         match self.ask(rt, alloc, seat, BoardCall::Edit(edit)) {
-            BoardReply::Edited(result) => result,
+            BoardReply::Edited(result) => {
+                self.jobs.ring_where(result.is_ok());
+                result
+            }
             _ => unreachable!(),
         }
     }
@@ -56,6 +59,8 @@ impl MapLock {
         ensures sound { IsSeat seat.new }
     {
         self.ask(rt, self.alloc, seat, BoardCall::Finish);
+        self.jobs.ring_for_all();
+        self.reserve.call_all();
     }
 
     pub(crate) fn ask_take<R: Wait>(&self, rt: &R, seat: &mut Seat<SharedBoard>) -> Took
@@ -68,6 +73,28 @@ impl MapLock {
             BoardReply::Took(took) => took,
             _ => unreachable!(),
         }
+    }
+
+    /// Takes a job, and wakes another worker where it got one; where there is none now, it sleeps until the bell of jobs
+    /// has rung since this was heard.
+    pub(crate) fn take_or_sleep<R: Wait>(
+        &self,
+        rt: &R,
+        seat: &mut Seat<SharedBoard>,
+        heard: u64,
+    ) -> Took
+        requires own { seat.old.table ≡ self.now }
+        ensures turn { HasTurned seat.old BoardCall.Take (BoardReply.Took result) seat.new }
+        ensures sound_before { IsSeat seat.old }
+        ensures sound { IsSeat seat.new }
+    {
+        let took = self.ask_take(rt, seat);
+        match &took {
+            Took::Job(_) => self.jobs.wake_another(),
+            Took::Idle { taken: _ } => self.jobs.sleep(rt, heard),
+            Took::Finished => {}
+        }
+        took
     }
 
     pub(crate) fn ask_offer<R: Wait>(
@@ -84,7 +111,10 @@ impl MapLock {
         ensures sound { IsSeat seat.new }
     {
         match self.ask(rt, self.alloc, seat, BoardCall::Offer(answer)) {
-            BoardReply::Landed(landed) => landed,
+            BoardReply::Landed(landed) => {
+                self.answers.ring();
+                landed
+            }
             _ => unreachable!(),
         }
     }
@@ -97,6 +127,8 @@ impl MapLock {
         ensures sound { IsSeat seat.new }
     {
         self.ask(rt, self.alloc, seat, BoardCall::GiveBack(job));
+        self.jobs.ring();
+        self.answers.ring();
     }
 
     pub(crate) fn ask_look<R: Wait>(

@@ -7,6 +7,7 @@ use map_lock::{EditorSeat, MapLock, WorkerSeat};
 use scene_parts::NoMemory;
 use std::alloc::Global;
 use std::sync::Wait;
+use std::thread::{self, Threads};
 
 /// A new board with its editor and so many workers, of whom none has done anything yet.
 #[derive(Drop)]
@@ -17,12 +18,12 @@ pub struct Crew {
 }
 
 impl Crew {
-    /// A crew of so many workers, of whom there are 16 at most.
-    pub fn gather<R: Wait>(rt: &R, alloc: Global, count: u8) -> Result<Crew, NoMemory>
+    /// A crew of so many workers, of whom there are 16 at most. They take jobs on as many processors as there are.
+    pub fn gather<R: Threads + Wait>(rt: &R, alloc: Global, count: u8) -> Result<Crew, NoMemory>
         requires { count ≤ 16 }
         ensures { IfOk result (IsGathered count) }
     {
-        let (lock, mut editor) = MapLock::start(alloc)?;
+        let (lock, mut editor) = MapLock::start_with_reserve(alloc, at_work(rt))?;
         let mut workers = Vec::new(alloc);
         gather_workers(rt, &lock, count, &mut editor, &mut workers)?;
         Ok(Crew {
@@ -30,6 +31,18 @@ impl Crew {
             editor,
             workers,
         })
+    }
+}
+
+/// How many workers take jobs at a time: as many as there are processors beside the editor's, and two at least, so that
+/// one that is held at its gate doesn't hold up all. Where the processors can't be counted, all do.
+fn at_work<R: Threads>(rt: &R) -> u32 {
+    match thread::available_parallelism(rt) {
+        Ok(processors) => {
+            let beside = processors.get().saturating_sub(1);
+            u32::try_from(beside).unwrap_or(u32::MAX).max(2)
+        }
+        Err(_) => u32::MAX,
     }
 }
 

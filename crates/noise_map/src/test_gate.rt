@@ -92,6 +92,32 @@ impl Gate for Meeting<'_> {
     }
 }
 
+// How often a worker looks about that is held back.
+const HELD: u32 = 10_000_000;
+
+// A gate where the editor and a worker wait for one another, and which holds the worker back then.
+#[derive(Drop)]
+struct Holding<'a> {
+    worker: &'a AtomicU64,
+    editor: &'a AtomicU64,
+    missed: &'a AtomicU64,
+}
+
+impl Gate for Holding<'_> {
+    fn pass(&self, number: u32, _place: u32) {
+        if number == 0 {
+            self.editor.store(1, Ordering::SeqCst);
+            wait_for(self.worker, self.missed);
+            return;
+        }
+        self.worker.store(1, Ordering::SeqCst);
+        wait_for(self.editor, self.missed);
+        for _ in 0..HELD {
+            self.editor.fetch_add(1, Ordering::SeqCst);
+        }
+    }
+}
+
 // A gate that notes when the first worker has passed.
 #[derive(Drop)]
 struct Noting<'a> {
@@ -146,6 +172,24 @@ fn two_workers_meet_at_the_gate(rt: HostRuntime) -> Result<(), Fail> {
     assert_eq!(rt; rows.as_slice(), SETTLED.as_bytes());
     let came = (first.load(Ordering::SeqCst), second.load(Ordering::SeqCst));
     assert_eq!(rt; (came, missed.load(Ordering::SeqCst)), ((1, 1), 0));
+    Ok(())
+}
+
+#[test]
+fn a_settle_waits_for_a_worker_that_is_held_back(rt: HostRuntime) -> Result<(), Fail> {
+    let alloc = rt.alloc();
+    let (worker, editor, missed) = (AtomicU64::new(0), AtomicU64::new(0), AtomicU64::new(0));
+    let input = format!(in alloc; "{SCENE}{SETTLE}")?;
+    let mut source = FreeSource::new(input.as_bytes().to_vec(alloc)?);
+    let gate = Holding {
+        worker: &worker,
+        editor: &editor,
+        missed: &missed,
+    };
+    let (report, rows) = taken_of(&rt, alloc, &["--workers=1"], &mut source, 0, &gate)?;
+    assert_eq!(rt; report.status, Status::Done);
+    assert_eq!(rt; rows.as_slice(), SETTLED.as_bytes());
+    assert_eq!(rt; missed.load(Ordering::SeqCst), 0);
     Ok(())
 }
 

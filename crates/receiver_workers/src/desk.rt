@@ -50,7 +50,7 @@ pub trait Desk {
     // The seat before may have become the seat after by its own calls.
     ghost follows: { Self.Seat → Self.Seat → Type 0 };
 
-    /// Takes a job, if there is one, and owes it from then on.
+    /// Takes a job, if there is one, and owes it from then on. It may wait before it answers `Idle`.
     fn take<R: Wait>(&self, rt: &R, seat: &mut Self::Seat) -> Taken<Self::Job>
         requires { fits self.now seat.old }
         ensures fits { fits self.now seat.new }
@@ -88,8 +88,8 @@ pub trait Desk {
     fn place(&self, job: &Self::Job) -> u32;
 
     /// Waits a while. It is called after an idle take alone, and changes nothing that a contract
-    /// speaks of. Where calls are served in their order it has to back off, so that idle workers
-    /// don't stand in front of the others.
+    /// speaks of. It may do nothing where a take waits itself before it answers `Idle`: where neither
+    /// waits, idle workers queue before the others without end.
     fn wait<R: Wait>(&self, rt: &R);
 
     ghost follows_itself: { (seat : Self.Seat) → follows seat seat };

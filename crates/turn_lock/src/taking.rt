@@ -12,13 +12,13 @@ use crate::plays::{Added, Draw, PassOn, Serve};
 use crate::seat::{Place, Seat};
 use crate::turn::{SERVED, TICKETS, Turn};
 use std::alloc::Global;
+use std::hint;
 use std::marker::Brand;
 use std::snapshot::Snapshot;
 use std::sync::Wait;
-use std::{hint, thread};
 
-// How often a seat looks again at once before it gives other threads the processor at each look.
-const TRIES: u32 = 50;
+// How often a seat looks again at once before it sleeps.
+const TRIES: u32 = 1000;
 
 impl<M: Machine> Turn<M> {
     /// One call, in the seat's turn, for which it may wait. The history grows by this one entry: the seat has then
@@ -107,7 +107,7 @@ impl<M: Machine> Turn<M> {
         unreachable!()
     }
 
-    // Waits until the ticket is served, and takes the slot.
+    // Waits until the ticket is served, and takes the slot. Who passes a turn on wakes those that sleep.
     fn wait_for<R: Wait>(&self, rt: &R, place: &mut Place<M, M::Call, M::Reply>, ticket: u64)
         requires own { place.old.table_id ≡ self.now }
         requires waiting { Waits ticket place.old.me }
@@ -118,20 +118,22 @@ impl<M: Machine> Turn<M> {
         let shared = &self.table.shared;
         let mut tries = 0;
         for _ in rt.forever() {
-            if shared.load::<Serve<M>>(place, SERVED) == ticket {
+            let served = shared.load::<Serve<M>>(place, SERVED);
+            if served == ticket {
                 return;
             }
             if tries < TRIES {
                 tries += 1;
                 hint::spin_loop();
             } else {
-                thread::yield_now();
+                shared.park(rt, SERVED, (served & 0xffff_ffff) as u32);
             }
         }
         unreachable!()
     }
 
-    // Puts the machine back, adds the entry to the history, and passes the turn on.
+    // Puts the machine back, adds the entry to the history, and passes the turn on. Where a later ticket is drawn, its
+    // seat may sleep.
     fn end_turn<K: Added<M::Call, M::Reply>>(
         &self,
         place: &mut Place<M, M::Call, M::Reply>,
@@ -153,5 +155,8 @@ impl<M: Machine> Turn<M> {
         let shared = &self.table.shared;
         shared.exchange(place, 0, Some(machine));
         shared.store::<PassOn<M, K>>(place, SERVED, ticket + 1);
+        if shared.peek(TICKETS) != ticket + 1 {
+            shared.wake_all(SERVED);
+        }
     }
 }

@@ -10,9 +10,9 @@ use crate::seat::{Place, Seat};
 use crate::view::View;
 use atomic_table::Table;
 use std::alloc::Global;
+use std::hint;
 use std::marker::Model;
 use std::sync::Wait;
-use std::thread;
 
 /// The word of the next ticket.
 pub(crate) const TICKETS: usize = 0;
@@ -100,7 +100,7 @@ impl<M: Machine> Turn<M> {
             {
                 return;
             }
-            thread::yield_now();
+            hint::spin_loop();
         }
         unreachable!()
     }
