@@ -16,7 +16,11 @@ mod stopped;
 #[cfg(test)]
 mod test_faults;
 #[cfg(test)]
+mod test_foliage;
+#[cfg(test)]
 mod test_gate;
+#[cfg(test)]
+mod test_ground;
 #[cfg(test)]
 mod test_lines;
 #[cfg(test)]
