@@ -53,8 +53,8 @@ row 128 4096 16 50
 
 echo
 echo 'beside                            sources  receivers  settle ms  ns a path'
-beside 'nothing' 128 1024 ''
-beside '1,024 zones out of the way' 128 1024 "$(far zone '"g":50')"
-beside '1,024 foliage out of the way' 128 1024 "$(far foliage '"h":20000')"
-beside '16 foliage in the way' 128 1024 "$(near foliage '"h":20000')"
-beside 'ground by the alternative method' 128 1024 '{"do":"set","ground":"simple"}'
+beside 'nothing' 16 1024 ''
+beside '1,024 zones out of the way' 16 1024 "$(far zone '"g":50')"
+beside '1,024 foliage out of the way' 16 1024 "$(far foliage '"h":20000')"
+beside '16 foliage in the way' 16 1024 "$(near foliage '"h":20000')"
+beside 'ground by the alternative method' 16 1024 '{"do":"set","ground":"simple"}'
