@@ -23,12 +23,12 @@ pub fn mirror(o: &Obstacle, i: u32, s: Pt, hs: u32, r: Pt, hr: u32) -> Option<Mi
         (λ side. IfSome result (λ m. CanReflect side s r)) }
 {
     let side = side_of(o, i);
-    if o.rho == 0 || !on_one_side(side, s, r) {
+    if o.rho == 0 || !on_one_side(side, s, r) || !faces(o, side, s) {
         return None;
     }
     let plan = unfold(side, s, r);
     let ends = Ends { s, hs, r, hr };
-    if strikes(side, ends, plan.p) && stays_below(ends, o.h, plan.p) && faces(o, side, s) {
+    if strikes(side, ends, plan.p) && stays_below(ends, o.h, plan.p) {
         Some(Mirror {
             p: plan.p,
             first: plan.first,

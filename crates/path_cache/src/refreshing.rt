@@ -59,7 +59,7 @@ pub fn refresh_prepared<L: Ledger>(
         kept,
         marks,
     };
-    let mut bundles = Vec::new(alloc);
+    let mut bundles = Vec::with_capacity(alloc, kept.len())?;
     for (place, source) in scene.sources().iter().enumerate() {
         renewal.add(alloc, source, &prepared[place], steps, &mut bundles)?;
     }

@@ -132,7 +132,7 @@ wider-end : (l h k m : ℤ) (end : Option ℤ) → k ≤ℤ l → h ≤ℤ m →
 wider-end l h k m None low high p = absurd p
 wider-end l h k m (Some z) low high p = (omega (arith, ints, p.0, low), omega (arith, ints, p.1, high))
 
-wider : (l h k m : ℤ) (i : Interval) → k ≤ℤ l → h ≤ℤ m → AreBetween l h i → AreBetween k m i
+pub wider : (l h k m : ℤ) (i : Interval) → k ≤ℤ l → h ≤ℤ m → AreBetween l h i → AreBetween k m i
 wider l h k m i low high p = record { lo = wider-end l h k m i.lo low high p.lo; hi = wider-end l h k m i.hi low high p.hi }
 
 -- what is sent by either method

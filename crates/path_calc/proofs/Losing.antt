@@ -1,39 +1,41 @@
 -- What foliage takes off in each band.
-use Rattle.std.proofs.Common.{◌≡◌, ℕ, ◌<◌, pos, neg_ℤ, List, [], ◌∷◌, length, get_or, refl, sym, ap, ◌∙◌, subst, Option, arith}
-use Rattle.std.specs.Prelude.{All, IfSome, Some, None}
+use Rattle.std.proofs.Common.{◌≡◌, pos, List, length, sym, ap, ◌∙◌, subst, arith}
+use Rattle.std.specs.Prelude.{All, Option, Some, None}
 use Rattle.std.proofs.lemmas.Int.{ints}
-use Rattle.std.proofs.lemmas.List.Elements.{All-get_or, All-map}
+use Rattle.std.proofs.lemmas.List.Elements.{All-get_or}
 use Rattle.fix_interval.specs.Interval.{Interval}
 use Rattle.fix_interval.specs.Values.{sub_of}
-use Rattle.fix_interval.specs.Tree.{Const, enc}
+use Rattle.fix_interval.specs.Tree.{Known, Const, enc}
 use Rattle.scene_geom.specs.declared.band.Band.{Band}
-use Rattle.scene_geom.specs.Bands.{all_bands}
-use Rattle.term_foliage.specs.Foliage.{where_any}
-use Rattle.path_calc.specs.Losses.{IsFoliageLoss, AreLosses, losses_where_met, loss_in}
+use Rattle.scene_geom.specs.Bands.{place_of}
+use Rattle.scene_parts.specs.Views.{Foliage}
+use Rattle.path_shape.specs.declared.path.Path.{Path}
+use Rattle.term_barrier.specs.Limits.{IsDistance}
+use Rattle.term_foliage.specs.Foliage.{foliage_in, attenuations_over}
+use Rattle.term_foliage.proofs.Bounds.{attenuations-between}
+use Rattle.path_calc.specs.Losses.{IsFoliageLoss, AreLosses, losses_along, loss_in}
 use Rattle.path_calc.specs.Ranges.{IsScreened}
-use Rattle.path_calc.proofs.Eight.{at-place}
-use Rattle.path_calc.proofs.Sums.{are-small, less-nothing, nothing-is}
+use Rattle.path_calc.proofs.Eight.{at-place, place-below}
+use Rattle.path_calc.proofs.Sums.{are-small, less-nothing}
 
-no-loss : IsFoliageLoss (enc (Const (pos 0) 1))
-no-loss = rw nothing-is (record { lo = (omega (arith, ints), omega (arith, ints)); hi = (omega (arith, ints), omega (arith, ints)) })
+pub losses-kept : (foliage : List Foliage) (path : Path) (d : Interval) (through : Option Interval) → IsDistance d
+    → attenuations_over through ≡ losses_along foliage path d → AreLosses (attenuations_over through)
+losses-kept foliage path d through h is =
+    record { each = subst (All IsFoliageLoss) (sym is) (attenuations-between foliage path d h); bands = ap length is }
 
-no-losses : AreLosses (losses_where_met None)
-no-losses = record { each = All-map IsFoliageLoss (λ (b : Band). enc (Const (pos 0) 1)) all_bands (λ i d below. no-loss); bands = refl }
+-- over a distance
+pub loss-over : (losses : List Interval) (kept : Option Interval) (through : Interval) (band : Band) → losses ≡ attenuations_over kept → kept ≡ Some through
+    → enc (foliage_in band (Known through)) ≡ loss_in losses band
+loss-over losses kept through band seen is =
+    sym (at-place (λ (b : Band). enc (foliage_in b (Known through))) (enc (Const (pos 0) 1)) band)
+    ∙ ap (λ (ls : List Interval). loss_in ls band) (sym (seen ∙ ap attenuations_over is))
 
-pub losses-kept : {A : Type 0} (met : Option (List Interval)) (items : List A) (all : List Interval) → length all ≡ 8 → met ≡ where_any items all → IfSome met (λ bands. All IsFoliageLoss bands) → AreLosses (losses_where_met met)
-losses-kept None items all eight is h = no-losses
-losses-kept (Some bands) (item ∷ items) all eight is h =
-    let same : bands ≡ all = cc in
-    record { each = h; bands = ap length same ∙ eight }
-losses-kept (Some bands) [] all eight is h = absurd (cc)
-
-pub loss-between : (o : Option (List Interval)) (met : List Interval) (i : ℕ) (d : Interval) → AreLosses (losses_where_met o) → o ≡ Some met → i < 8 → IsFoliageLoss (get_or met i d)
-loss-between o met i d are is below =
-    let all : AreLosses met = subst (λ (m : Option (List Interval)). AreLosses (losses_where_met m)) is are in
-    All-get_or IsFoliageLoss met i d (omega (arith, below, all.bands)) all.each
+pub loss-between : (losses : List Interval) (band : Band) → AreLosses losses → IsFoliageLoss (loss_in losses band)
+loss-between losses band are =
+    All-get_or IsFoliageLoss losses (place_of band) (enc (Const (pos 0) 1)) (rw are.bands (place-below band)) are.each
 
 -- a level less nothing
-pub nothing-lost : (losses : List Interval) (level : Interval) (band : Band) → IsScreened level → losses ≡ losses_where_met None → level ≡ sub_of level (loss_in losses band)
+pub nothing-lost : (losses : List Interval) (level : Interval) (band : Band) → IsScreened level → losses ≡ attenuations_over None → level ≡ sub_of level (loss_in losses band)
 nothing-lost losses level band small is =
     sym (less-nothing level (are-small _ _ level small (omega (arith, ints)) (omega (arith, ints))))
     ∙ ap (sub_of level) (sym (at-place (λ (b : Band). enc (Const (pos 0) 1)) (enc (Const (pos 0) 1)) band))

@@ -1,6 +1,6 @@
 -- Where nothing crosses the line of sight, nothing screens: over the top A_bar is 0 dB, and no path leads round the sides.
 use Rattle.std.proofs.Common.{◌≡◌, Bool, true, false, List, [], ◌∷◌, ◌++◌, map, refl, sym, ap, ◌∙◌, append-nil, arith}
-use Rattle.std.specs.Prelude.{Option, None, if◌then◌else◌}
+use Rattle.std.specs.Prelude.{if◌then◌else◌}
 use Rattle.std.specs.List.{list_any, flat_map}
 use Rattle.std.proofs.lemmas.Int.{ints}
 use Rattle.fix_interval.specs.Units.{unit}
@@ -22,10 +22,9 @@ use Rattle.path_calc.specs.declared.segments.Seg.{Seg}
 use Rattle.path_calc.specs.Hearing.{edges_among, bars_over}
 use Rattle.path_calc.specs.LateralPaths.{lateral_paths}
 use Rattle.path_calc.specs.ScreeningSets.{is_renewed}
-use Rattle.path_calc.specs.Strings.{listed, both_of, lateral_of, d_z_over}
+use Rattle.path_calc.specs.Strings.{both_of, lateral_of, d_z_over}
 use Rattle.path_calc.specs.Trace.{lateral_segments}
 use Rattle.path_calc.specs.Tracing.{segments_in_band}
-use Rattle.path_calc.proofs.Eight.{at-place}
 use Rattle.path_calc.proofs.Screened.{above-in}
 
 -- ---- over the top
@@ -50,14 +49,10 @@ no-path band ends obstacles none =
     (sym (crossings-are-edges band ends obstacles) ∙ ap (λ (cs : List Crossing). edges_among band cs) none) in
     rw clear refl
 
-abbrev pub no_d_z : Band → Option Interval
-no_d_z band = None
-
 pub no-screening : (band : Band) (ends : Ends) (obstacles : List Obstacle) (d : Interval) → crossings_of ends obstacles ≡ []
-    → both_of (lateral_of (map no_d_z all_bands) (map no_d_z all_bands) band) ≡ d_z_over ends obstacles d band
+    → both_of (lateral_of [] band) ≡ d_z_over ends obstacles d band
 no-screening band ends obstacles d none =
-    ap (λ (i : Option Interval). listed i ++ listed i) (at-place no_d_z None band)
-    ∙ rw (no-path band ends obstacles none) refl
+    rw (no-path band ends obstacles none) refl
 
 pub no-segments : (ends : Ends) (obstacles : List Obstacle) (trace : List Seg) → crossings_of ends obstacles ≡ []
     → trace ≡ trace ++ flat_map (segments_in_band ends obstacles) all_bands

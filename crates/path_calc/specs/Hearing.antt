@@ -101,7 +101,7 @@ screening_at propagation band = slice_index_or propagation.screening (place_of b
 
 -- D_z round the sides in a band
 abbrev pub lateral_at : Paths → Band → List Interval
-lateral_at paths band = both_of (lateral_of paths.left paths.right band)
+lateral_at paths band = both_of (lateral_of paths.lateral.items band)
 
 -- the quantities of the direct path from a source to a receiver of a scene
 pub record IsDirect (direct : Propagation) (book : Book) (s : Source) (r : Receiver) : Type 0 where

@@ -1,10 +1,10 @@
--- What foliage takes off the sounds of a path in each band, as the code keeps it.
-use Rattle.std.specs.Prelude.{◌≡◌, ◌*◌, ◌^◌, pos, List, All, Option, None, Some, length, map, slice_index_or}
+-- What foliage takes off the sounds of a path in each band.
+use Rattle.std.specs.Prelude.{◌≡◌, ◌*◌, ◌^◌, pos, List, All, length, map, slice_index_or}
 use Rattle.fix_interval.specs.Interval.{Interval}
 use Rattle.fix_interval.specs.Bounds.{AreBetween}
-use Rattle.fix_interval.specs.Tree.{Tree, Known, Const, enc}
+use Rattle.fix_interval.specs.Tree.{Known, Const, enc}
 use Rattle.scene_geom.specs.declared.band.Band.{Band}
-use Rattle.scene_geom.specs.Bands.{all_bands, place_of}
+use Rattle.scene_geom.specs.Bands.{place_of}
 use Rattle.scene_parts.specs.Views.{Foliage}
 use Rattle.path_shape.specs.declared.path.Path.{Path}
 use Rattle.term_foliage.specs.Foliage.{attenuations}
@@ -17,11 +17,6 @@ IsFoliageLoss attenuation = AreBetween (pos 0) (pos (25 * 2 ^ 32)) attenuation
 pub record AreLosses (losses : List Interval) : Type 0 where
   pub each : All IsFoliageLoss losses
   pub bands : length losses ≡ 8
-
--- 0 dB in each band where no foliage is met
-abbrev pub losses_where_met : Option (List Interval) → List Interval
-losses_where_met None = map (λ band. enc (Const (pos 0) 1)) all_bands
-losses_where_met (Some losses) = losses
 
 -- that in a band
 abbrev pub loss_in : List Interval → Band → Interval

@@ -1,5 +1,5 @@
 -- Between which bounds the quantities of a path lie.
-use Rattle.std.specs.Prelude.{◌≡◌, ℕ, ◌+◌, ◌-◌, ◌*◌, ◌^◌, ℤ, pos, neg_ℤ, ◌≤ℤ◌, ◌≤◌, List, All, IfSome, length, unsigned_abs}
+use Rattle.std.specs.Prelude.{ℕ, ◌+◌, ◌-◌, ◌*◌, ◌^◌, ℤ, pos, neg_ℤ, ◌≤ℤ◌, ◌≤◌, List, All, IfSome, length, unsigned_abs}
 use Rattle.fix_interval.specs.Interval.{Interval}
 use Rattle.fix_interval.specs.Bounds.{AreBetween}
 use Rattle.term_barrier.specs.Limits.{IsScreening}
@@ -9,7 +9,6 @@ use Rattle.scene_geom.specs.Reflection.{longest_wall}
 use Rattle.scene_book.specs.Limits.{most_sides}
 use Rattle.edge_chain.specs.Laws.{way_along_axes}
 use Rattle.path_calc.specs.declared.lateral.LateralScreening.{LateralScreening}
-use Rattle.path_calc.specs.declared.lateral.LateralBands.{LateralBands}
 use Rattle.path_calc.specs.declared.paths.Paths.{Paths}
 use Rattle.path_calc.specs.Propagations.{IsPropagation}
 
@@ -37,24 +36,15 @@ IsOnMap distance = AreBetween (pos 0) (pos (2 ^ 47)) distance
 abbrev pub IsShort : List Pt → Type 0
 IsShort corners = way_along_axes corners ≤ 48000000
 
--- an attenuation by screening round each side, where sound goes there: in a band, and in all bands
+-- an attenuation by screening round each side, where sound goes there
 pub record IsLateralScreening (lateral : LateralScreening) : Type 0 where
   pub left : IfSome lateral.left IsScreening
   pub right : IfSome lateral.right IsScreening
 
-pub record AreLateralScreenings (lateral : LateralBands) : Type 0 where
-  pub left : All (λ i. IfSome i IsScreening) lateral.left
-  pub left_bands : length lateral.left ≡ 8
-  pub right : All (λ i. IfSome i IsScreening) lateral.right
-  pub right_bands : length lateral.right ≡ 8
-
 -- all paths; those by way of walls are no more than a scene has sides
 pub record AreInRange (paths : Paths) : Type 0 where
   pub direct : IsPropagation paths.direct
-  pub left : All (λ i. IfSome i IsScreening) paths.left
-  pub left_bands : length paths.left ≡ 8
-  pub right : All (λ i. IfSome i IsScreening) paths.right
-  pub right_bands : length paths.right ≡ 8
+  pub lateral : All IsLateralScreening paths.lateral.items
   pub few : length paths.reflected.items ≤ most_sides
 
 -- the square of the plan length of a path, in mm²: of at most 25,299 m

@@ -99,12 +99,13 @@ listed (Some i) = i ∷ []
 abbrev pub both_of : LateralScreening → List Interval
 both_of lateral = listed lateral.left ++ listed lateral.right
 
--- those in a band of those in all bands
-abbrev pub lateral_of : List (Option Interval) → List (Option Interval) → Band → LateralScreening
-lateral_of left right band = record {
-  left = slice_index_or left (place_of band) None;
-  right = slice_index_or right (place_of band) None;
-}
+-- that where sound goes round neither side
+abbrev pub no_lateral : LateralScreening
+no_lateral = record { left = None; right = None }
+
+-- that in a band of those in all bands, where there are any
+abbrev pub lateral_of : List LateralScreening → Band → LateralScreening
+lateral_of lateral band = slice_index_or lateral (place_of band) no_lateral
 
 -- D_z along both strings in a band
 abbrev pub lateral_in : Strings → Ends → Interval → Band → LateralScreening

@@ -12,25 +12,26 @@ use path_shape::Path;
 use scene_geom::Band;
 use scene_parts::Foliage;
 use std::marker::Model;
-use term_foliage::a_fol_where_met;
+use term_foliage::{a_fol_over, distance_through};
 
-/// A_fol of a path in each band in dB. A path that meets no foliage has 0 dB in all bands, for which none is kept.
-/// Contracts see it as the list of them.
+/// A_fol of a path in each band in dB, by the distance in metres that its sound goes through foliage: a path keeps no
+/// values of eight bands for what most paths don't meet. Contracts see it as the list of the attenuations.
 #[derive(Drop)]
 pub(crate) struct Losses {
-    met: Option<[Iv; 8]>,
+    through: Option<Iv>,
 }
 
 impl Model for Losses {
     ghost use Rattle.std.specs.Prelude.{List};
     ghost use Rattle.fix_interval.specs.Interval.{Interval};
-    ghost use Rattle.path_calc.specs.Losses.{losses_where_met, AreLosses};
+    ghost use Rattle.term_foliage.specs.Foliage.{attenuations_over};
+    ghost use Rattle.path_calc.specs.Losses.{AreLosses};
 
     ghost Value = { List Interval };
 
-    ghost view = { λ losses. losses_where_met losses.met };
+    ghost view = { λ losses. attenuations_over losses.through };
 
-    ghost invariant = { λ losses. AreLosses (losses_where_met losses.met) };
+    ghost invariant = { λ losses. AreLosses (attenuations_over losses.through) };
 }
 
 impl Losses {
@@ -41,7 +42,7 @@ impl Losses {
         ensures { result ≡ losses_along foliage.now path.now distance }
     {
         Losses {
-            met: a_fol_where_met(foliage, path, distance),
+            through: distance_through(foliage, path, distance),
         }
     }
 
@@ -51,8 +52,8 @@ impl Losses {
         ensures value { result ≡ sub_of level (loss_in self.now band) }
         ensures range { IsAtReceiver result }
     {
-        match &self.met {
-            Some(met) => minus(level, met[band.place()]),
+        match self.through {
+            Some(through) => minus(level, a_fol_over(through, band)),
             None => level,
         }
     }

@@ -1,8 +1,8 @@
 //! By how much sound is screened that goes round the sides of what screens (ISO 9613-2, 7.4, equation 13).
-ghost use Rattle.std.specs.Prelude.{◌≡◌, ◌++◌, flat_map, IfOk, OnOk};
+ghost use Rattle.std.specs.Prelude.{◌≡◌, ◌++◌, flat_map, All, IfOk, OnOk};
 ghost use Rattle.scene_parts.specs.Ranges.{IsHeight};
 ghost use Rattle.sight_cut.specs.Cuts.{crossings_of};
-ghost use Rattle.path_calc.specs.Ranges.{IsOnMap, IsLateralScreening, AreLateralScreenings};
+ghost use Rattle.path_calc.specs.Ranges.{IsOnMap, IsLateralScreening};
 ghost use Rattle.scene_geom.specs.Bands.{all_bands};
 ghost use Rattle.path_calc.specs.Strings.{AreStretched, lateral_of, both_of, d_z_over, numbers_in};
 ghost use Rattle.path_calc.specs.Tracing.{segments_after, segments_in_band};
@@ -19,13 +19,6 @@ use std::alloc::Global;
 pub(crate) struct LateralScreening {
     pub(crate) left: Option<Iv>,
     pub(crate) right: Option<Iv>,
-}
-
-/// The same in each band.
-#[derive(Drop)]
-pub(crate) struct LateralBands {
-    pub(crate) left: [Option<Iv>; 8],
-    pub(crate) right: [Option<Iv>; 8],
 }
 
 /// What all bands share of a line of sight: the obstacles, the ends, the crossings, and how far source and receiver are
@@ -69,15 +62,14 @@ impl<'a> Sight<'a> {
 
     /// D_z round the sides in each band. Bands in which the same obstacles screen share their strings. The segments of all
     /// strings are added to the trace.
-    fn d_z(&self, trace: &mut Segs) -> Result<LateralBands, NoMemory>
+    fn d_z(&self, trace: &mut Segs) -> Result<Vec<LateralScreening>, NoMemory>
         requires source_height { IsHeight self.now.ends.hs }
         requires receiver_height { IsHeight self.now.ends.hr }
         requires distance { IsOnMap self.now.d }
         requires crossings { self.now.crossings.now ≡ crossings_of self.now.ends self.now.obstacles.now }
-        ensures value { IfOk result (λ lateral. (band : Band)
-            → both_of (lateral_of lateral.left lateral.right band)
+        ensures value { IfOk result (λ lateral. (band : Band) → both_of (lateral_of lateral.items band)
             ≡ d_z_over self.now.ends self.now.obstacles.now self.now.d band) }
-        ensures bounds { IfOk result AreLateralScreenings }
+        ensures bounds { IfOk result (λ lateral. All IsLateralScreening lateral.items) }
         ensures trace { OnOk result (trace.new ≡ trace.old
             ++ flat_map (segments_in_band self.now.ends self.now.obstacles.now) all_bands) }
     {
@@ -90,33 +82,16 @@ impl<'a> Sight<'a> {
         let at_2000 = self.d_z_in(&mut strings, Band::Hz2000, trace)?;
         let at_4000 = self.d_z_in(&mut strings, Band::Hz4000, trace)?;
         let at_8000 = self.d_z_in(&mut strings, Band::Hz8000, trace)?;
-        Ok(LateralBands {
-            left: [
-                at_63.left,
-                at_125.left,
-                at_250.left,
-                at_500.left,
-                at_1000.left,
-                at_2000.left,
-                at_4000.left,
-                at_8000.left,
-            ],
-            right: [
-                at_63.right,
-                at_125.right,
-                at_250.right,
-                at_500.right,
-                at_1000.right,
-                at_2000.right,
-                at_4000.right,
-                at_8000.right,
-            ],
-        })
+        let in_bands = [
+            at_63, at_125, at_250, at_500, at_1000, at_2000, at_4000, at_8000,
+        ];
+        Ok(in_bands.to_vec(self.alloc)?)
     }
 }
 
 /// D_z round the sides in each band, of the obstacles that screen there, where source and receiver are `d` apart in
-/// metres: none where nothing crosses the line of sight. The segments of all strings are added to the trace.
+/// metres. Where nothing crosses the line of sight, the list is empty: most paths need no memory for it. The segments of
+/// all strings are added to the trace.
 pub(crate) fn lateral_screening(
     alloc: Global,
     obstacles: &[Obstacle],
@@ -124,22 +99,19 @@ pub(crate) fn lateral_screening(
     crossings: &[Crossing],
     d: Iv,
     trace: &mut Segs,
-) -> Result<LateralBands, NoMemory>
+) -> Result<Vec<LateralScreening>, NoMemory>
     requires source_height { IsHeight ends.hs }
     requires receiver_height { IsHeight ends.hr }
     requires distance { IsOnMap d }
     requires crossings { crossings.now ≡ crossings_of ends obstacles.now }
     ensures value { IfOk result (λ lateral. (band : Band)
-        → both_of (lateral_of lateral.left lateral.right band) ≡ d_z_over ends obstacles.now d band) }
-    ensures bounds { IfOk result AreLateralScreenings }
+        → both_of (lateral_of lateral.items band) ≡ d_z_over ends obstacles.now d band) }
+    ensures bounds { IfOk result (λ lateral. All IsLateralScreening lateral.items) }
     ensures trace { OnOk result (trace.new ≡ trace.old
         ++ flat_map (segments_in_band ends obstacles.now) all_bands) }
 {
     if crossings.is_empty() {
-        return Ok(LateralBands {
-            left: [None; 8],
-            right: [None; 8],
-        });
+        return Ok(Vec::new(alloc));
     }
     let sight = Sight {
         alloc,

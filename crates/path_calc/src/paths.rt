@@ -5,13 +5,12 @@ ghost use Rattle.path_calc.specs.Ranges.{AreInRange, IsLateralScreening};
 ghost use Rattle.path_calc.specs.Strings.{both_of};
 ghost use Rattle.path_calc.specs.Trace.{trace_of};
 
-use crate::lateral::{LateralBands, LateralScreening, lateral_screening};
+use crate::lateral::{LateralScreening, lateral_screening};
 use crate::lengths::{direct_square, distance};
 use crate::prepared::{PreparedReceiver, PreparedSource};
 use crate::propagation::{Between, Propagation};
 use crate::reflected::Reflected;
 use crate::segments::{Seg, Segs};
-use fix_interval::Iv;
 use path_shape::Path;
 use scene_book::Scene;
 use scene_geom::Band;
@@ -20,12 +19,12 @@ use sight_cut::crossings;
 use std::alloc::Global;
 
 /// What the bands share of all paths from a source to a receiver: of the direct one, which leads over the top of what
-/// screens it, D_z in dB in each band round the left and the right, where sound goes there, and of those by way of walls.
+/// screens it, D_z in dB in each band round the left and the right, where sound goes there (an empty list where nothing
+/// screens), and of those by way of walls.
 #[derive(Drop)]
 pub(crate) struct Paths {
     pub(crate) direct: Propagation,
-    pub(crate) left: [Option<Iv>; 8],
-    pub(crate) right: [Option<Iv>; 8],
+    pub(crate) lateral: Vec<LateralScreening>,
     pub(crate) reflected: Vec<Reflected>,
 }
 
@@ -66,7 +65,7 @@ pub(crate) fn paths_between(
     let square = direct_square(source.at, receiver.at);
     let direct = between.along(&path, square, distance, crossings.as_slice())?;
     trace.push(Seg::Straight(source.at, receiver.at))?;
-    let LateralBands { left, right } = lateral_screening(
+    let lateral = lateral_screening(
         alloc,
         obstacles,
         ends,
@@ -78,8 +77,7 @@ pub(crate) fn paths_between(
     add_walls(trace, reflected.as_slice())?;
     Ok(Paths {
         direct,
-        left,
-        right,
+        lateral,
         reflected,
     })
 }
@@ -101,9 +99,12 @@ impl Paths {
         ensures value { both_of result ≡ lateral_at self.now band }
         ensures bounds { IsLateralScreening result }
     {
-        LateralScreening {
-            left: self.left[band.place()],
-            right: self.right[band.place()],
+        match self.lateral.get(band.place()) {
+            Some(lateral) => *lateral,
+            None => LateralScreening {
+                left: None,
+                right: None,
+            },
         }
     }
 }

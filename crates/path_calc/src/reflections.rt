@@ -90,7 +90,8 @@ impl<'a> Between<'a> {
         }
     }
 
-    /// The path by way of a side of an obstacle.
+    /// The path by way of a side of an obstacle. Most sides reflect none, so that the loop over them keeps no room for one.
+    #[inline(never)]
     fn by_way_of(
         &self,
         obstacle: &Obstacle,

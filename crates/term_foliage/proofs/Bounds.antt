@@ -29,7 +29,7 @@ in-bands df = refl
 abbrev distances : Tree
 distances = Known (from_to (pos 0) (pos (2 ^ 60)))
 
-distance-between : (foliage : List Foliage) (path : Path) (d : Interval) → AreBetween (pos 0) (pos (2 ^ 60)) d
+pub distance-between : (foliage : List Foliage) (path : Path) (d : Interval) → AreBetween (pos 0) (pos (2 ^ 60)) d
     → AreBetween (pos 0) (pos (2 ^ 60)) (enc (foliage_distance foliage path (Known d)))
 unfolding unit ratio_of mul_of max_of min_of
 distance-between foliage path d h =
@@ -57,6 +57,11 @@ at-most Hz1000 = refl
 at-most Hz2000 = refl
 at-most Hz4000 = refl
 at-most Hz8000 = refl
+
+pub over-between : (through : Interval) (band : Band) → AreBetween (pos 0) (pos (2 ^ 60)) through
+    → AreBetween (pos 0) (pos (25 * 2 ^ 32)) (enc (foliage_in band (Known through)))
+over-between through band h =
+    between _ _ {t = foliage_in band (Known through)} (is-within (Known through) (part-between _ _ h) band) (at-most band)
 
 pub attenuations-between : (foliage : List Foliage) (path : Path) (d : Interval) → AreBetween (pos 0) (pos (2 ^ 60)) d
     → All (AreBetween (pos 0) (pos (25 * 2 ^ 32))) (map enc (attenuations foliage path (Known d)))

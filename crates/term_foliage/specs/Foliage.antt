@@ -4,7 +4,7 @@ use Rattle.std.specs.Prelude.{ℕ, ◌-◌, pos, nat_lt, List, [], ◌∷◌, ma
 use Rattle.std.specs.List.{filter_map}
 use Rattle.std.specs.Option.{option_map}
 use Rattle.fix_interval.specs.Interval.{Interval}
-use Rattle.fix_interval.specs.Tree.{Tree, Const, Mul, Max, Min, Pick, enc}
+use Rattle.fix_interval.specs.Tree.{Tree, Known, Const, Mul, Max, Min, Pick, enc}
 use Rattle.scene_geom.specs.declared.band.Band.{Band}
 use Rattle.scene_geom.specs.declared.band.Band.TheVariants.{Hz63, Hz125, Hz250, Hz500, Hz1000, Hz2000, Hz4000, Hz8000}
 use Rattle.scene_geom.specs.Bands.{all_bands}
@@ -94,6 +94,7 @@ abbrev pub where_any : {A B : Type 0} → List A → B → Option B
 where_any [] value = None
 where_any (item ∷ items) value = Some value
 
--- their intervals, where the path runs through foliage at all
-abbrev pub attenuations_where_met : List Foliage → Path → Tree → Option (List Interval)
-attenuations_where_met foliage path d = where_any (lengths_in path foliage) (map enc (attenuations foliage path d))
+-- the intervals of the attenuations over a distance through foliage, which are 0 dB where there is none
+abbrev pub attenuations_over : Option Interval → List Interval
+attenuations_over None = map (λ band. enc zero_form) all_bands
+attenuations_over (Some through) = map (λ band. enc (foliage_in band (Known through))) all_bands

@@ -1,25 +1,31 @@
 //! How far the sound of a path goes through foliage.
 
-ghost use Rattle.std.specs.Prelude.{◌≡◌, ◌<◌, pos};
+ghost use Rattle.std.specs.Prelude.{◌≡◌, ◌<◌, ◌^◌, pos, map, IfSome};
 ghost use Rattle.std.specs.Option.{option_map};
+ghost use Rattle.fix_interval.specs.Bounds.{AreBetween};
 ghost use Rattle.fix_interval.specs.Tree.{Known, enc};
 ghost use Rattle.fix_interval.specs.Values.{ratio_of};
 ghost use Rattle.path_shape.specs.Shape.{IsPath};
 ghost use Rattle.term_foliage.specs.Distances.{met_length, known_stretch};
 ghost use Rattle.term_foliage.specs.Distances as distances;
-ghost use Rattle.term_foliage.specs.Foliage.{where_any, lengths_in, foliage_distance};
+ghost use Rattle.term_foliage.specs.Foliage.{where_any, lengths_in, foliage_distance, attenuations, attenuations_over};
 ghost use Rattle.term_foliage.specs.Foliage as form;
 
 use fix_interval::{Iv, add, exact, max, min, mul, ratio};
 use path_shape::{Path, Stretch, length_on};
 use scene_parts::Foliage;
 
-/// The distance through foliage of a path whose length is `d`, in metres. None where the path meets no foliage above which
-/// its sight line doesn't run.
-pub(crate) fn distance(foliage: &[Foliage], path: &Path, d: Iv) -> Option<Iv>
+/// The distance in metres that the sound of a path whose length is `d` metres goes through foliage. None where the path
+/// meets no foliage above which its sight line doesn't run: then each attenuation is exactly 0 dB, where the length is from
+/// 0 m to 2^28 m.
+pub fn distance_through(foliage: &[Foliage], path: &Path, d: Iv) -> Option<Iv>
     requires { IsPath path.now }
-    ensures { result ≡ where_any (lengths_in path.now foliage.now)
+    ensures value { result ≡ where_any (lengths_in path.now foliage.now)
         (enc (foliage_distance foliage.now path.now (Known d))) }
+    ensures bounds { AreBetween (pos 0) (pos (2 ^ 60)) d
+        → IfSome result (AreBetween (pos 0) (pos (2 ^ 60))) }
+    ensures attenuations { AreBetween (pos 0) (pos (2 ^ 60)) d
+        → attenuations_over result ≡ map enc (attenuations foliage.now path.now (Known d)) }
 {
     match length_in_all(foliage, path) {
         None => None,

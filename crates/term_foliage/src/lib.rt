@@ -8,4 +8,5 @@ mod attenuation;
 mod distance;
 pub mod laws;
 
-pub use attenuation::{a_fol, a_fol_where_met};
+pub use attenuation::{a_fol, a_fol_over};
+pub use distance::distance_through;

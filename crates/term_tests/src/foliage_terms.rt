@@ -4,12 +4,12 @@ ghost use Rattle.path_shape.specs.Shape.{IsPath};
 
 use crate::shared::{between, has_ends, place};
 use path_shape::Path;
-use scene_geom::{Side, is_short, on_one_side};
+use scene_geom::{Band, Side, is_short, on_one_side};
 use scene_parts::{Checked, Foliage, Part, PlainName, RawPart, RawPoints, RawPt, check};
 use std::alloc::{AllocError, Global};
 use std::process::Abort;
 use std::test::Fail;
-use term_foliage::{a_fol, a_fol_where_met};
+use term_foliage::{a_fol, a_fol_over, distance_through};
 
 /// The corners of a foliage and its height in mm.
 type Wood = (&'static [(i64, i64)], i64);
@@ -704,11 +704,11 @@ fn has_bands(rt: &impl Abort, case: &Case, woods: &[Foliage], path: &Path)
     for (found, ends) in a_fol(woods, path, length).iter().zip(&case.bands) {
         has_ends(rt, *found, *ends);
     }
-    match a_fol_where_met(woods, path, length) {
+    match distance_through(woods, path, length) {
         None => assert_eq!(rt; case.bands, NONE),
-        Some(bands) => {
-            for (found, ends) in bands.iter().zip(&case.bands) {
-                has_ends(rt, *found, *ends);
+        Some(through) => {
+            for (band, ends) in Band::all().iter().zip(&case.bands) {
+                has_ends(rt, a_fol_over(through, *band), *ends);
             }
         }
     }

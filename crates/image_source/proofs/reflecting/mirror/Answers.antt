@@ -23,7 +23,7 @@ invariant_of-result c =
     let fits = reflects _ _ _ _ _ _ _ c.o.view_is c.o.invariant c.side_of-side.ensures c.on_one_side.ensures c.if-not-on_one_side.false in
     rw (← c.unfold-plan.ensures.value) at (mirror-kept c.side_of-side.result c.args.s c.args.r fits)
 
-pub returns-then-faces-clause-fits : goal.returns-then-faces-clause-fits
-returns-then-faces-clause-fits c =
+pub returns-then-stays_below-clause-fits : goal.returns-then-stays_below-clause-fits
+returns-then-stays_below-clause-fits c =
     rw c.side_of-side.ensures
     (reflects _ _ _ _ _ _ _ c.o.view_is c.o.invariant c.side_of-side.ensures c.on_one_side.ensures c.if-not-on_one_side.false)

@@ -1,11 +1,14 @@
-use Rattle.std.proofs.Common.{sym, ◌∙◌}
+use Rattle.std.proofs.Common.{sym, ap, ◌∙◌, List}
+use Rattle.path_calc.specs.declared.lateral.LateralScreening.{LateralScreening}
+use Rattle.path_calc.specs.Strings.{both_of, lateral_of}
 use Rattle.path_calc.proofs.Stretching.{nothing-in}
 use Rattle.path_calc.proofs.Uncrossed.{no-screening, no-segments}
 use Rattle.path_calc.proofs.lateral.lateral_screening.Goals as goal
 
 pub returns-then-is_empty-clause-value : goal.returns-then-is_empty-clause-value
 returns-then-is_empty-clause-value c = λ band.
-    no-screening band c.args.ends c.args.obstacles.now c.args.d
+    ap (λ (lateral : List LateralScreening). both_of (lateral_of lateral band)) c.new.ensures.items
+    ∙ no-screening band c.args.ends c.args.obstacles.now c.args.d
     (sym c.requires.crossings ∙ nothing-in c.args.crossings.now _ c.is_empty.ensures c.if-is_empty.true)
 
 pub returns-then-is_empty-clause-trace : goal.returns-then-is_empty-clause-trace

@@ -50,8 +50,8 @@ returns-clause-value c =
       direct = direct-is c.in_ok-direct.direct book s r d found length
           (c.as_slice.ensures.value ∙ c.in_ok-crossings.ensures ∙ ap (λ (e : Ends). crossings_of e c.obstacles-obstacles.result.now) ends ∙ ap (crossings_of (ends_of s r)) c.obstacles-obstacles.ensures.value)
           (c.in_ok-direct.ensures.value ∙ ap (λ (q : Frac). propagation_along book c.direct-path.result q d found) square ∙ ap (λ (p : Path). propagation_along book p (direct_square s r) d found) path);
-      lateral = λ (band : Band). lateral-is (record { direct = c.in_ok-direct.direct; left = c.in_ok-left.field-0.left; right = c.in_ok-left.field-0.right; reflected = c.in_ok-reflected.reflected }) book s r d band length (
-          c.in_ok-left.ensures.value band
+      lateral = λ (band : Band). lateral-is (record { direct = c.in_ok-direct.direct; lateral = c.in_ok-lateral.lateral; reflected = c.in_ok-reflected.reflected }) book s r d band length (
+          c.in_ok-lateral.ensures.value band
           ∙ ap (λ (os : List Obstacle). d_z_over (record { s = c.source.inside.at; hs = c.source.inside.h; r = c.receiver.inside.at; hr = c.receiver.inside.h }) os d band) c.obstacles-obstacles.ensures.value
           ∙ ap (λ (e : Ends). d_z_over e book.obstacles d band) ends);
       reflected = c.in_ok-reflected.ensures.value ∙ ap (λ (e : Ends). map (reflected_of book.globals e) (reflected_paths book e)) ends;
@@ -67,7 +67,7 @@ returns-clause-trace c =
     ap (λ (s : Source). record { s = s.at; hs = s.h; r = c.receiver.inside.at; hr = c.receiver.inside.h }) c.source.view_is ∙ ap (λ (r : Receiver). ends_of s r) c.receiver.view_is in
     trace-whole c.args.trace.now c.push.new.self c.lateral_screening.new.trace c.add_walls.new.trace book s r
     (c.in_ok-push.ensures ∙ ap (λ (e : Ends). c.args.trace.now ++ Straight e.s e.r ∷ []) ends)
-    (c.in_ok-left.ensures.trace
+    (c.in_ok-lateral.ensures.trace
     ∙ ap (λ (os : List Obstacle). c.push.new.self ++ flat_map (segments_in_band there os) all_bands) c.obstacles-obstacles.ensures.value
     ∙ ap (λ (e : Ends). c.push.new.self ++ flat_map (segments_in_band e book.obstacles) all_bands) ends)
     (c.in_ok-add_walls.ensures

@@ -13,13 +13,13 @@ pub returns-in-None-clause-value : goal.returns-in-None-clause-value
 returns-in-None-clause-value c =
     c.in_bands.ensures
     ∙ ap (λ (i : Interval). map (λ band. enc (foliage_in band (Known i))) all_bands)
-    (rw (c.mul.ensures, c.exact.ensures) (sym (none-distance c.args.foliage.now c.args.path.now (Known c.args.d) (any-none _ _ (sym c.in-None.is ∙ c.distance.ensures)))))
+    (rw (c.mul.ensures, c.exact.ensures) (sym (none-distance c.args.foliage.now c.args.path.now (Known c.args.d) (any-none _ _ (sym c.in-None.is ∙ c.distance_through.ensures.value)))))
     ∙ in-bands (foliage_distance c.args.foliage.now c.args.path.now (Known c.args.d))
 
 pub returns-in-Some-clause-value : goal.returns-in-Some-clause-value
 returns-in-Some-clause-value c =
     c.in_bands-in-Some.ensures
-    ∙ ap (λ (i : Interval). map (λ band. enc (foliage_in band (Known i))) all_bands) (any-some _ _ c.in-Some.through (sym c.in-Some.is ∙ c.distance.ensures))
+    ∙ ap (λ (i : Interval). map (λ band. enc (foliage_in band (Known i))) all_bands) (any-some _ _ c.in-Some.through (sym c.in-Some.is ∙ c.distance_through.ensures.value))
     ∙ in-bands (foliage_distance c.args.foliage.now c.args.path.now (Known c.args.d))
 
 pub returns-in-None-clause-bounds : goal.returns-in-None-clause-bounds
