@@ -11,3 +11,4 @@ pub mod Shared
 pub mod Crossed
 pub mod Boxed
 pub mod Among
+pub mod Numbered
