@@ -1,49 +1,83 @@
 -- Sides with their numbers: where each of them stands, and what a search of those near a line finds.
-use Rattle.std.proofs.Common.{◌≡◌, ℕ, zero, suc, ◌+◌, ◌<◌, ◌≤◌, Bool, true, false, cond, List, [], ◌∷◌, ◌++◌, length, get_or, take, map, filter, flat_map, arith, ap, ◌∙◌, sym, refl, subst, add-one}
+use Rattle.std.proofs.Common.{◌≡◌, ℕ, zero, suc, ◌+◌, ◌<◌, Bool, true, false, cond, List, [], ◌∷◌, ◌++◌, length, get_or, take, map, filter, flat_map, arith, ap, ◌∙◌, sym, refl}
 use Rattle.std.specs.Prelude.{Option, Some, None, slice_get}
-use Rattle.std.specs.Option.{option_map, option_and_then}
+use Rattle.std.specs.Option.{option_and_then}
 use Rattle.std.specs.List.{All, enumerate_from, filter_map, cons_option}
-use Rattle.std.proofs.lemmas.List.{take_more}
-use Rattle.std.proofs.lemmas.List.Elements.{All-append, All-map, All-filter, All-get_or, All-nil, filter_map-append}
-use Rattle.std.proofs.lemmas.Option.{slice_get-map}
+use Rattle.std.proofs.lemmas.List.{take_more, get_or-map, length-map}
+use Rattle.std.proofs.lemmas.List.Elements.{All-append, All-filter, All-get_or, All-nil, filter_map-append}
+use Rattle.std.proofs.lemmas.Option.{slice_get_within, get_or_from_slice_get}
 use Rattle.scene_geom.specs.declared.plan.Side.{Side}
 use Rattle.part_grid.specs.declared.owned.Owned.{Owned}
+use Rattle.part_grid.specs.declared.owned.Place.{Place}
+use Rattle.part_grid.specs.Near.{place_of}
 use Rattle.part_grid.specs.Numbered.{owned_by, numbered_sides, numbered}
 
 -- ---- where a side stands
-pub record IsAt (obstacles : List (List Side)) (owned : Owned) : Type 0 where
-  pub sides : List Side
-  pub at : slice_get obstacles owned.obstacle ≡ Some sides
-  pub is : slice_get sides owned.index ≡ Some owned.side
+-- the numbers of a side are those of an obstacle, and of the side among its sides
+pub record IsAt {O : Type 0} (sides_of : O → List Side) (obstacles : List O) (owned : Owned) : Type 0 where
+  pub obstacle : O
+  pub at : slice_get obstacles owned.obstacle ≡ Some obstacle
+  pub is : slice_get (sides_of obstacle) owned.index ≡ Some owned.side
 
 All-cons : {X : Type 0} (P : X → Type 0) (x : X) (xs : List X) → P x → All P xs → All P (x ∷ xs)
 All-cons P x xs first rest zero d h = first
 All-cons P x xs first rest (suc k) d h = rest k d (omega arith)
 
-sides-at : (obstacles : List (List Side)) (i : ℕ) (all : List Side) → slice_get obstacles i ≡ Some all → (n : ℕ) (rest : List Side)
-    → ((k : ℕ) → slice_get all (n + k) ≡ slice_get rest k) → All (IsAt obstacles) (map (owned_by i) (enumerate_from n rest))
-sides-at obstacles i all at n [] same = All-nil (IsAt obstacles)
-sides-at obstacles i all at n (side ∷ rest) same =
-    All-cons (IsAt obstacles) (owned_by i (n, side)) (map (owned_by i) (enumerate_from (n + 1) rest))
-    (record { sides = all; at = at; is = ap (slice_get all) (omega arith) ∙ same 0 })
-    (sides-at obstacles i all at (n + 1) rest (λ k. ap (slice_get all) (omega arith) ∙ same (suc k)))
+sides-at : {O : Type 0} (sides_of : O → List Side) (obstacles : List O) (i : ℕ) (o : O) → slice_get obstacles i ≡ Some o → (n : ℕ) (rest : List Side)
+    → ((k : ℕ) → slice_get (sides_of o) (n + k) ≡ slice_get rest k) → All (IsAt sides_of obstacles) (map (owned_by i) (enumerate_from n rest))
+sides-at sides_of obstacles i o at n [] same = All-nil (IsAt sides_of obstacles)
+sides-at sides_of obstacles i o at n (side ∷ rest) same =
+    All-cons (IsAt sides_of obstacles) (owned_by i (n, side)) (map (owned_by i) (enumerate_from (n + 1) rest))
+    (record { obstacle = o; at = at; is = ap (slice_get (sides_of o)) (omega arith) ∙ same 0 })
+    (sides-at sides_of obstacles i o at (n + 1) rest (λ k. ap (slice_get (sides_of o)) (omega arith) ∙ same (suc k)))
 
-obstacles-at : (obstacles : List (List Side)) (n : ℕ) (rest : List (List Side)) → ((k : ℕ) → slice_get obstacles (n + k) ≡ slice_get rest k)
-    → All (IsAt obstacles) (flat_map numbered_sides (enumerate_from n rest))
-obstacles-at obstacles n [] same = All-nil (IsAt obstacles)
-obstacles-at obstacles n (sides ∷ rest) same =
-    All-append (IsAt obstacles) (numbered_sides (n, sides)) (flat_map numbered_sides (enumerate_from (n + 1) rest))
-    (sides-at obstacles n sides (ap (slice_get obstacles) (omega arith) ∙ same 0) 0 sides (λ k. ap (slice_get sides) (omega arith)))
-    (obstacles-at obstacles (n + 1) rest (λ k. ap (slice_get obstacles) (omega arith) ∙ same (suc k)))
+obstacles-at : {O : Type 0} (sides_of : O → List Side) (obstacles : List O) (n : ℕ) (rest : List O) → ((k : ℕ) → slice_get obstacles (n + k) ≡ slice_get rest k)
+    → All (IsAt sides_of obstacles) (flat_map numbered_sides (enumerate_from n (map sides_of rest)))
+obstacles-at sides_of obstacles n [] same = All-nil (IsAt sides_of obstacles)
+obstacles-at sides_of obstacles n (o ∷ rest) same =
+    All-append (IsAt sides_of obstacles) (numbered_sides (n, sides_of o)) (flat_map numbered_sides (enumerate_from (n + 1) (map sides_of rest)))
+    (sides-at sides_of obstacles n o (ap (slice_get obstacles) (omega arith) ∙ same 0) 0 (sides_of o) (λ k. ap (slice_get (sides_of o)) (omega arith)))
+    (obstacles-at sides_of obstacles (n + 1) rest (λ k. ap (slice_get obstacles) (omega arith) ∙ same (suc k)))
 
--- each side stands where its numbers say, and so does each that a search finds
-pub numbered-at : (obstacles : List (List Side)) → All (IsAt obstacles) (numbered obstacles)
-numbered-at obstacles = obstacles-at obstacles 0 obstacles (λ k. ap (slice_get obstacles) (omega arith))
+-- each side stands where its numbers say
+numbered-at : {O : Type 0} (sides_of : O → List Side) (obstacles : List O) → All (IsAt sides_of obstacles) (numbered (map sides_of obstacles))
+numbered-at sides_of obstacles = obstacles-at sides_of obstacles 0 obstacles (λ k. ap (slice_get obstacles) (omega arith))
 
-pub found-at : (obstacles : List (List Side)) (test : Owned → Bool) (k : ℕ) (d : Owned) → k < length (filter test (numbered obstacles))
-    → IsAt obstacles (get_or (filter test (numbered obstacles)) k d)
-found-at obstacles test k d h =
-    All-get_or (IsAt obstacles) (filter test (numbered obstacles)) k d h (All-filter test (IsAt obstacles) (numbered obstacles) (numbered-at obstacles))
+-- a place that a search found: that of a side which stands there
+pub record IsFoundAt {O : Type 0} (sides_of : O → List Side) (obstacles : List O) (sides : List Owned) (i : ℕ) (d : Owned) (place : Place) : Type 0 where
+  pub within : i < length sides
+  pub same : place ≡ place_of (get_or sides i d)
+  pub at : IsAt sides_of obstacles (get_or sides i d)
+
+pub found-at : {O : Type 0} (sides_of : O → List Side) (obstacles : List O) (test : Owned → Bool) (places : List Place) (i : ℕ) (place other : Place) (d : Owned)
+    → places ≡ map place_of (filter test (numbered (map sides_of obstacles))) → i < length places → place ≡ get_or places i other
+    → IsFoundAt sides_of obstacles (filter test (numbered (map sides_of obstacles))) i d place
+found-at sides_of obstacles test places i place other d are h is =
+    let sides = filter test (numbered (map sides_of obstacles)) in
+    let below : i < length sides = omega (arith, h, ap length are, length-map sides place_of) in
+    record {
+      within = below;
+      same = is ∙ ap (λ xs. get_or xs i other) are ∙ get_or-map place_of sides i d other below;
+      at = All-get_or (IsAt sides_of obstacles) sides i d below (All-filter test (IsAt sides_of obstacles) (numbered (map sides_of obstacles)) (numbered-at sides_of obstacles));
+    }
+
+-- its numbers are within the obstacles and the sides of its obstacle
+pub obstacle-within : {O : Type 0} (sides_of : O → List Side) (obstacles : List O) (sides : List Owned) (i : ℕ) (d : Owned) (place : Place)
+    → IsFoundAt sides_of obstacles sides i d place → place.obstacle < length obstacles
+obstacle-within sides_of obstacles sides i d place found =
+    rw (ap (λ (p : Place). p.obstacle) found.same) (slice_get_within obstacles (get_or sides i d).obstacle found.at.obstacle found.at.at)
+
+pub obstacle-is : {O : Type 0} (sides_of : O → List Side) (obstacles : List O) (sides : List Owned) (i : ℕ) (d : Owned) (place : Place) (o : O)
+    → (found : IsFoundAt sides_of obstacles sides i d place) → o ≡ get_or obstacles place.obstacle o → o ≡ found.at.obstacle
+obstacle-is sides_of obstacles sides i d place o found is =
+    is ∙ ap (λ (p : Place). get_or obstacles p.obstacle o) found.same
+    ∙ get_or_from_slice_get obstacles (get_or sides i d).obstacle found.at.obstacle o found.at.at
+
+pub index-within : {O : Type 0} (sides_of : O → List Side) (obstacles : List O) (sides : List Owned) (i : ℕ) (d : Owned) (place : Place) (o : O)
+    → IsFoundAt sides_of obstacles sides i d place → o ≡ get_or obstacles place.obstacle o → place.index < length (sides_of o)
+index-within sides_of obstacles sides i d place o found is =
+    rw (ap (λ (p : Place). p.index) found.same, ap (λ x. length (sides_of x)) (obstacle-is sides_of obstacles sides i d place o found is))
+    (slice_get_within (sides_of found.at.obstacle) (get_or sides i d).index (get_or sides i d).side found.at.is)
 
 -- ---- what a search finds
 -- a test that fails only where nothing would be found takes nothing away
@@ -56,15 +90,31 @@ filter_map-near test found (owned ∷ sides) none = by_test (test owned) refl (f
   by_test true e h = ap (cons_option (found owned)) h
   by_test false e h = h ∙ ap (λ one. cons_option one (filter_map found sides)) (sym (none owned e))
 
--- one side more
-pub filter_map_more : {X : Type 0} (found : Owned → Option X) (sides : List Owned) (i : ℕ) (d : Owned) → i < length sides
-    → filter_map found (take (i + 1) sides) ≡ filter_map found (take i sides) ++ cons_option (found (get_or sides i d)) []
-filter_map_more found sides i d h = ap (filter_map found) (take_more sides i d h) ∙ filter_map-append found (take i sides) (get_or sides i d ∷ [])
-
 -- ---- the sides of obstacles, found one obstacle after another
 -- what is found of a side, given the obstacle of its number
 abbrev pub looked_up : {O X : Type 0} → (ℕ → ℕ → O → Side → Option X) → List O → Owned → Option X
 looked_up found obstacles owned = option_and_then (λ o. found owned.obstacle owned.index o owned.side) (slice_get obstacles owned.obstacle)
+
+-- one place more
+pub found-more : {O X : Type 0} (sides_of : O → List Side) (found : ℕ → ℕ → O → Side → Option X) (obstacles : List O) (sides : List Owned) (i : ℕ) (d : Owned) (place : Place) (o : O) (side : Side)
+    → IsFoundAt sides_of obstacles sides i d place → o ≡ get_or obstacles place.obstacle o → slice_get (sides_of o) place.index ≡ Some side
+    → filter_map (looked_up found obstacles) (take (i + 1) sides)
+    ≡ filter_map (looked_up found obstacles) (take i sides) ++ cons_option (found place.obstacle place.index o side) []
+found-more sides_of found obstacles sides i d place o side is o-is side-is =
+    let owned = get_or sides i d in
+    let obstacle : o ≡ is.at.obstacle = obstacle-is sides_of obstacles sides i d place o is o-is in
+    let same : Some side ≡ Some owned.side =
+    sym side-is ∙ ap (λ x. slice_get (sides_of x) place.index) obstacle ∙ ap (λ (p : Place). slice_get (sides_of is.at.obstacle) p.index) is.same ∙ is.at.is in
+    let here : looked_up found obstacles owned ≡ found place.obstacle place.index o side =
+    ap (option_and_then (λ o. found owned.obstacle owned.index o owned.side)) is.at.at
+    ∙ ap (λ x. found owned.obstacle owned.index x owned.side) (sym obstacle)
+    ∙ ap (found owned.obstacle owned.index o) (Some-injective owned.side side (sym same))
+    ∙ ap (λ (p : Place). found p.obstacle p.index o side) (sym is.same) in
+    ap (filter_map (looked_up found obstacles)) (take_more sides i d is.within) ∙ filter_map-append (looked_up found obstacles) (take i sides) (owned ∷ [])
+    ∙ ap (λ x. filter_map (looked_up found obstacles) (take i sides) ++ cons_option x []) here
+  where
+    Some-injective : (x y : Side) → Some x ≡ Some y → x ≡ y
+    Some-injective x y e = cc
 
 one-by-one : {O X : Type 0} (found : ℕ → ℕ → O → Side → Option X) (obstacles : List O) (i : ℕ) (o : O) → slice_get obstacles i ≡ Some o → (n : ℕ) (sides : List Side)
     → filter_map (looked_up found obstacles) (map (owned_by i) (enumerate_from n sides)) ≡ filter_map (λ side. found i side.0 o side.1) (enumerate_from n sides)

@@ -1,8 +1,8 @@
 //! The search for sides that cross a line of sight.
-ghost use Rattle.std.specs.Prelude.{◌≡◌, ◌<◌, ◌≤◌, ◌*◌, ◌^◌, ◌++◌, [], length, IfOk, OnOk};
+ghost use Rattle.std.specs.Prelude.{◌≡◌, ◌<◌, ◌≤◌, ◌*◌, ◌^◌, ◌++◌, [], length, map, filter, IfOk, OnOk};
 ghost use Rattle.scene_geom.specs.Fraction.{FitsCrossing};
 ghost use Rattle.scene_parts.specs.Sides.{sides_of};
-ghost use Rattle.scene_parts.specs.Crossings.{rises_above};
+ghost use Rattle.scene_parts.specs.Crossings.{rises_above, cut_of, is_crossing_in};
 ghost use Rattle.sight_cut.specs.Cuts.{edge_of, crossing_of, before_all, crossings_along, crossings_of, cuts_of};
 
 use scene_geom::{Band, Frac, Pt, Side, crosses, dir_of};
@@ -26,8 +26,20 @@ pub fn cuts(
         ≡ cuts_of band (record { s = s; hs = hs; r = r; hr = hr }) obstacles.now) }
 {
     let crossings = crossings(alloc, obstacles, Ends { s, hs, r, hr })?;
+    cuts_in(alloc, crossings.as_slice(), band)
+}
+
+/// The cuts of those crossings whose obstacle is large enough in a band.
+pub(crate) fn cuts_in(
+    alloc: Global,
+    crossings: &[Crossing],
+    band: Band,
+) -> Result<Vec<Cut>, NoMemory>
+    ensures { IfOk result (λ cuts. cuts.items
+        ≡ map cut_of (filter (is_crossing_in band) crossings.now)) }
+{
     let mut cuts = Vec::new(alloc);
-    for crossing in crossings.as_slice() {
+    for crossing in crossings {
         if crossing.counts_in(band) {
             cuts.push(crossing.cut())?;
         }
@@ -71,7 +83,7 @@ fn add_crossings(
 }
 
 /// Adds a side of an obstacle as a crossing, if it is one. The obstacle and the side have these numbers.
-fn add_crossing(
+pub(crate) fn add_crossing(
     found: &mut Vec<Crossing>,
     obstacle: &Obstacle,
     numbers: (u32, u32),

@@ -5,5 +5,7 @@
 
 mod cutting;
 pub mod laws;
+mod near;
 
 pub use cutting::{crossings, cuts};
+pub use near::{crossings_near, cuts_near, grid_of};
