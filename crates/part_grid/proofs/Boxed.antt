@@ -6,13 +6,16 @@ use Rattle.std.proofs.Math.Nat.{mul-le-mul, mul-le-mul_left, mul-le-mul_right}
 use Rattle.std.proofs.Math.IntN.{*ℤ_comm}
 use Rattle.std.proofs.lemmas.Int.{ints, unsigned_abs-mul, by_lt_z}
 use Rattle.std.proofs.lemmas.Bool.{and_parts, and_from, cases_lt}
+use Rattle.scene_geom.specs.declared.plan.Pt.{Pt}
+use Rattle.scene_geom.specs.declared.plan.Side.{Side}
 use Rattle.scene_geom.specs.declared.fraction.Frac.{Frac}
+use Rattle.scene_geom.specs.declared.direction.Dir.{Dir}
 use Rattle.scene_geom.specs.Plan.{InPlan}
 use Rattle.scene_geom.specs.Vector.{cross}
 use Rattle.scene_geom.specs.Point.{from_to, along}
-use Rattle.scene_geom.specs.Fraction.{over, is_ahead}
+use Rattle.scene_geom.specs.Fraction.{over, is_ahead, is_inside}
 use Rattle.scene_geom.specs.Direction.{way}
-use Rattle.scene_geom.specs.Crossing.{is_split}
+use Rattle.scene_geom.specs.Crossing.{is_split, hits_of}
 use Rattle.scene_geom.proofs.Whole.{add_mul, sub_mul, mul_sub}
 use Rattle.scene_geom.proofs.Turning.{neg-mul}
 use Rattle.scene_geom.proofs.Vectors.{cross-between}
@@ -56,13 +59,13 @@ beyond n k d h v (pos a) (pos b) within e part some ha hb =
 -- ---- one coordinate
 -- what a side's crossing of a way tells of one coordinate: its place n / d in units of the way, where it lies before the
 -- end e / f, and its place k / d on the side from a to b
-record IsCrossing (n k d w f e : ℕ) (start v a b : ℤ) : Type 0 where
-  some_w : 0 < w
-  some_f : 0 < f
-  before : n * w * f < e * d
-  part : k ≤ d
-  some : 0 < d
-  point : pos n *ℤ v ≡ pos d *ℤ (a -ℤ start) +ℤ pos k *ℤ (b -ℤ a)
+pub record IsCrossing (n k d w f e : ℕ) (start v a b : ℤ) : Type 0 where
+  pub some_w : 0 < w
+  pub some_f : 0 < f
+  pub before : n * w * f < e * d
+  pub part : k ≤ d
+  pub some : 0 < d
+  pub point : pos n *ℤ v ≡ pos d *ℤ (a -ℤ start) +ℤ pos k *ℤ (b -ℤ a)
 
 above-none : (n k d w f e : ℕ) (start v a b high : ℤ) → IsCrossing n k d w f e start v a b → start ≤ℤ high
     → (start *ℤ pos (f * w) +ℤ pos e *ℤ v) ≤ℤ (high *ℤ pos (f * w)) → high <ℤ a → high <ℤ b → ⊥
@@ -80,7 +83,7 @@ above-none n k d w f e start v a b high is from to ha hb =
     apart : (x y z : ℤ) → y -ℤ x ≡ (y -ℤ z) -ℤ (x -ℤ z)
     apart x y z = omega (arith, ints)
 
-mul-neg : (x y : ℤ) → x *ℤ neg_ℤ y ≡ neg_ℤ (x *ℤ y)
+pub mul-neg : (x y : ℤ) → x *ℤ neg_ℤ y ≡ neg_ℤ (x *ℤ y)
 mul-neg x y = *ℤ_comm x (neg_ℤ y) ∙ neg-mul y x ∙ ap neg_ℤ (*ℤ_comm y x)
 
 below-none : (n k d w f e : ℕ) (start v a b low : ℤ) → IsCrossing n k d w f e start v a b → low ≤ℤ start
@@ -108,7 +111,7 @@ below-none n k d w f e start v a b low is from to ha hb =
     mirrored x x' y y' z z' e f g h = omega (arith, ints)
 
 -- lines rise with coordinates
-line-le : (y z : ℤ) → InPlan y → InPlan z → y ≤ℤ z → line_of y ≤ line_of z
+pub line-le : (y z : ℤ) → InPlan y → InPlan z → y ≤ℤ z → line_of y ≤ line_of z
 line-le y z hy hz h =
     let edge : from_edge y ≤ from_edge z = omega (arith, ints, hy.low, hz.low) in omega arith
 
@@ -163,8 +166,21 @@ before-end : (n f d : ℕ) (e : ℤ) → 0 < d → int_lt (pos n *ℤ pos f) (e 
 before-end n f d (pos e) some h = (refl, omega (arith, ints))
 before-end n f d (negsuc e) some h = absurd (omega (arith, ints))
 
-pub crossed-ways-are-boxed : CrossedWaysAreBoxed
-crossed-ways-are-boxed side low high from dir end place holds hit inside =
+-- both coordinates of the crossing, and the end of the way over one divisor
+pub record CrossesWay (side : Side) (from : Pt) (dir : Dir) (end : Frac) : Type 0 where
+  pub n : ℕ
+  pub k : ℕ
+  pub d : ℕ
+  pub w : ℕ
+  pub f : ℕ
+  pub e : ℕ
+  pub x : IsCrossing n k d w f e from.x dir.x side.from.x side.to.x
+  pub y : IsCrossing n k d w f e from.y dir.y side.from.y side.to.y
+  pub scale : end.d *ℤ dir.w ≡ pos (f * w)
+  pub far : end.n ≡ pos e
+
+pub crosses-way : (side : Side) (from : Pt) (dir : Dir) (end place : Frac) → hits_of side from dir ≡ Some place → is_inside place end ≡ true → CrossesWay side from dir end
+crosses-way side from dir end place hit inside =
     let v = way dir in let u = along side in let way_to = from_to from side.from in
     let reached = cross way_to u in let divisor = cross v u in
     let w = unsigned_abs dir.w in let f = unsigned_abs end.d in let e = unsigned_abs end.n in
@@ -182,13 +198,26 @@ crossed-ways-are-boxed side low high from dir end place holds hit inside =
     subst (λ (z : ℤ). int_lt (pos (n * w) *ℤ z) (end.n *ℤ pos d) ≡ true) end_d
     (subst (λ (z : ℤ). int_lt (pos (n * w) *ℤ end.d) (end.n *ℤ z) ≡ true) below (subst (λ (z : ℤ). int_lt (z *ℤ end.d) (end.n *ℤ place.d) ≡ true) number both.1)) in
     let before = before-end (n * w) f d end.n are.some less in
-    let scale : end.d *ℤ dir.w ≡ pos (f * w) = ap (λ (z : ℤ). z *ℤ dir.w) end_d ∙ ap (λ (z : ℤ). pos f *ℤ z) dir_w in
-    let a = side.from in let b = side.to in
-    and_from (overlap (columns_of side) (columns_between low high)) (overlap (rows_of side) (rows_between low high))
-    (coordinate n k d w f e low.x high.x from.x dir.x a.x b.x dir.w end low.x_in_plan high.x_in_plan a.x_in_plan b.x_in_plan
-    (record { some_w = some_w; some_f = some_f; before = before.1; part = are.within; some = are.some; point = shared-x side from v are }) scale before.0 holds.x)
-    (coordinate n k d w f e low.y high.y from.y dir.y a.y b.y dir.w end low.y_in_plan high.y_in_plan a.y_in_plan b.y_in_plan
-    (record { some_w = some_w; some_f = some_f; before = before.1; part = are.within; some = are.some; point = shared-y side from v are }) scale before.0 holds.y)
+    record {
+      n = n;
+      k = k;
+      d = d;
+      w = w;
+      f = f;
+      e = e;
+      x = record { some_w = some_w; some_f = some_f; before = before.1; part = are.within; some = are.some; point = shared-x side from v are };
+      y = record { some_w = some_w; some_f = some_f; before = before.1; part = are.within; some = are.some; point = shared-y side from v are };
+      scale = ap (λ (z : ℤ). z *ℤ dir.w) end_d ∙ ap (λ (z : ℤ). pos f *ℤ z) dir_w;
+      far = before.0;
+    }
   where
     above : (z : ℤ) → int_lt (pos 0) z ≡ true → z ≡ pos (unsigned_abs z)
     above z h = omega (arith, ints)
+
+pub crossed-ways-are-boxed : CrossedWaysAreBoxed
+crossed-ways-are-boxed side low high from dir end place holds hit inside =
+    let is = crosses-way side from dir end place hit inside in
+    let a = side.from in let b = side.to in
+    and_from (overlap (columns_of side) (columns_between low high)) (overlap (rows_of side) (rows_between low high))
+    (coordinate is.n is.k is.d is.w is.f is.e low.x high.x from.x dir.x a.x b.x dir.w end low.x_in_plan high.x_in_plan a.x_in_plan b.x_in_plan is.x is.scale is.far holds.x)
+    (coordinate is.n is.k is.d is.w is.f is.e low.y high.y from.y dir.y a.y b.y dir.w end low.y_in_plan high.y_in_plan a.y_in_plan b.y_in_plan is.y is.scale is.far holds.y)

@@ -12,3 +12,6 @@ pub mod Crossed
 pub mod Boxed
 pub mod Among
 pub mod Numbered
+pub mod Floors
+pub mod Ways
+pub mod Reading

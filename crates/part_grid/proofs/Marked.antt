@@ -68,14 +68,19 @@ marks-are (b ∷ marks) test (owned ∷ sides) same h =
     ap (λ (x : Bool). x ∷ marks) (h zero owned (omega arith))
     ∙ ap (λ (xs : List Bool). test owned ∷ xs) (marks-are marks test sides (omega arith) (λ k d below. h (suc k) d (omega arith)))
 
+-- the cells of a side lie within the frame, so that no other columns matter
+pub covered-common : (side : Side) (rows : ℕ → Span) (columns frame : Span) → IsWithin (columns_of side) frame
+    → list_any (λ column. covers side column (rows column)) (lines (common columns frame)) ≡ list_any (λ column. covers side column (rows column)) (lines columns)
+covered-common side rows columns frame within =
+    any-common (λ column. covers side column (rows column)) columns frame
+    (λ n h.
+    let at = has-lines (columns_of side) n (and_parts (has (columns_of side) n) (overlap (rows_of side) (rows n)) h).0 in
+    has-from frame n (omega (arith, at.0, at.1, within.low, within.high)) (omega (arith, at.0, at.1, within.low, within.high)))
+
 -- a walk is enough within the frame
 pub near-common : (side : Side) (p q : Pt) (frame : Span) → IsWithin (columns_of side) frame
     → list_any (λ column. covers side column (walk_rows p q column)) (lines (common (columns_between p q) frame)) ≡ cells_meet_of side p q
-near-common side p q frame within =
-    any-common (λ column. covers side column (walk_rows p q column)) (columns_between p q) frame
-    (λ n h.
-    let at = has-lines (columns_of side) n (and_parts (has (columns_of side) n) (overlap (rows_of side) (walk_rows p q n)) h).0 in
-    has-from frame n (omega (arith, at.0, at.1, within.low, within.high)) (omega (arith, at.0, at.1, within.low, within.high)))
+near-common side p q frame within = covered-common side (walk_rows p q) (columns_between p q) frame within
 
 -- and a box
 pub box-common : (side : Side) (low high : Pt) (frame : Span) → IsWithin (columns_of side) frame

@@ -15,7 +15,7 @@ use Rattle.scene_geom.proofs.Turning.{neg-mul, beq-apart}
 use Rattle.scene_geom.proofs.Crossings.{apart}
 
 -- ---- three vectors of the plan: the cross product of each two, times the third
-swapped : (a b c : ℤ) → (a *ℤ b) *ℤ c ≡ (a *ℤ c) *ℤ b
+pub swapped : (a b c : ℤ) → (a *ℤ b) *ℤ c ≡ (a *ℤ c) *ℤ b
 swapped a b c = mul_assoc a b c ∙ ap (λ (z : ℤ). a *ℤ z) (*ℤ_comm b c) ∙ sym (mul_assoc a c b)
 
 outer : (a b c : ℤ) → (a *ℤ b) *ℤ c ≡ (c *ℤ b) *ℤ a

@@ -10,6 +10,7 @@ use Rattle.scene_geom.specs.Plan.{InPlan}
 use Rattle.part_grid.specs.declared.owned.Owned.{Owned}
 use Rattle.part_grid.specs.Cells.{line_of, cells_meet_of, boxes_meet}
 use Rattle.part_grid.specs.Near.{place_of, near_of, near_box_of}
+use Rattle.part_grid.specs.Ways.{cells_meet_way}
 
 -- ---- cells
 
@@ -66,3 +67,8 @@ abbrev pub CrossedWaysAreNear : Type 0
 CrossedWaysAreNear = (sides : List Owned) (owned : Owned) (low high from : Pt) (dir : Dir) (end place : Frac)
     → HoldsWay low high from dir end → Contains sides owned → hits_of owned.side from dir ≡ Some place
     → is_inside place end ≡ true → Contains (near_box_of low high sides) (place_of owned)
+
+-- a side that crosses a way has cells that meet those of the way
+abbrev pub CrossedWaysAreMet : Type 0
+CrossedWaysAreMet = (side : Side) (from : Pt) (dir : Dir) (end place : Frac)
+    → hits_of side from dir ≡ Some place → is_inside place end ≡ true → cells_meet_way side from dir end ≡ true

@@ -2,6 +2,7 @@ pub mod Span
 pub mod Cells
 pub mod Near
 pub mod Numbered
+pub mod Ways
 pub mod Register
 pub mod Index
 pub mod Marks

@@ -2,6 +2,9 @@
 ghost use Rattle.std.specs.Prelude.{◌≡◌, [], length, map, replicate, false, IfOk, OnOk, OnErr};
 ghost use Rattle.part_grid.specs.Cells.{cells_meet_of, boxes_meet};
 ghost use Rattle.part_grid.specs.Near.{near_of, near_box_of};
+ghost use Rattle.part_grid.specs.Ways.{cells_meet_way, near_way_of};
+ghost use Rattle.scene_geom.specs.Direction.{FitsDirection};
+ghost use Rattle.scene_geom.specs.Fraction.{FitsEnd};
 
 use super::entering::entered;
 use super::found::{Found, list_marked};
@@ -12,7 +15,8 @@ use super::marks::Marks;
 use super::owned::{Owned, Place};
 use super::register::Register;
 use super::walk::walk_rows;
-use scene_geom::Pt;
+use super::way::{rows_in, way_columns, way_rows};
+use scene_geom::{Dir, Frac, Pt};
 use std::alloc::{AllocError, Global};
 use std::marker::Model;
 
@@ -92,6 +96,26 @@ impl Grid {
         list_marked(&found.marks, self.sides.as_slice(), &mut found.places)
     }
 
+    /// The places of the sides whose cells meet those of the way from a point along a direction up to an end, in their
+    /// order, with buffers that the caller lends. Among them are all sides that cross the way.
+    pub fn find_near_way(
+        &self,
+        from: Pt,
+        dir: Dir,
+        end: Frac,
+        found: &mut Found,
+    ) -> Result<(), AllocError>
+        requires dir { FitsDirection dir }
+        requires end { FitsEnd end }
+        ensures found { OnOk result (found.new ≡ near_way_of from dir end self.now) }
+        ensures none { OnErr result (found.new ≡ []) }
+    {
+        found.places.clear();
+        found.marks.reset(self.sides.len())?;
+        self.mark_way(from, dir, end, &mut found.marks);
+        list_marked(&found.marks, self.sides.as_slice(), &mut found.places)
+    }
+
     /// Marks the sides whose cells meet the walk of a segment.
     fn mark_near(&self, p: Pt, q: Pt, marks: &mut Marks)
         requires { marks.old ≡ replicate (length self.now) false }
@@ -112,6 +136,20 @@ impl Grid {
         let boxed = columns_between(low, high).common(self.frame.columns);
         let rows = rows_between(low, high);
         for column in boxed.low..boxed.high + 1 {
+            mark_column(&self.register, self.frame, column, rows, marks);
+        }
+    }
+    /// Marks the sides whose cells meet those of a way.
+    fn mark_way(&self, from: Pt, dir: Dir, end: Frac, marks: &mut Marks)
+        requires dir { FitsDirection dir }
+        requires end { FitsEnd end }
+        requires none { marks.old ≡ replicate (length self.now) false }
+        ensures { marks.new ≡ map (λ owned. cells_meet_way owned.side from dir end) self.now }
+    {
+        let crossed = way_columns(from, dir, end).common(self.frame.columns);
+        let all = way_rows(from, dir, end);
+        for column in crossed.low..crossed.high + 1 {
+            let rows = rows_in(from, dir, all, column);
             mark_column(&self.register, self.frame, column, rows, marks);
         }
     }

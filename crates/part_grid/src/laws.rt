@@ -1,6 +1,6 @@
 //! What the cells tell of crossings. Each function does nothing: its contract is the law.
 ghost use Rattle.part_grid.specs.Laws.{LinesAreFloors, UnmetAreApart, CrossedAreNear, BlockingAreNear};
-ghost use Rattle.part_grid.specs.Laws.{CrossedWaysAreBoxed, CrossedWaysAreNear};
+ghost use Rattle.part_grid.specs.Laws.{CrossedWaysAreBoxed, CrossedWaysAreNear, CrossedWaysAreMet};
 
 /// The columns and rows of cells are the floors of coordinates over 65,536 mm.
 pub fn lines_are_floors()
@@ -27,4 +27,9 @@ pub fn crossed_ways_are_boxed()
 /// A side that crosses a way is among what is near a box that holds the way.
 pub fn crossed_ways_are_near()
     ensures { CrossedWaysAreNear }
+{}
+
+/// A side that crosses a way strictly between its start and its end has cells that meet those of the way.
+pub fn crossed_ways_are_met()
+    ensures { CrossedWaysAreMet }
 {}

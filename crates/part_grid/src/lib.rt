@@ -19,6 +19,7 @@ mod span;
 #[cfg(test)]
 mod tests;
 mod walk;
+mod way;
 
 pub use found::Found;
 pub use grid::Grid;

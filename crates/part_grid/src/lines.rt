@@ -11,7 +11,7 @@ use scene_geom::Pt;
 pub const CELL: usize = 65_536;
 
 /// The outer edge of the lowest line of cells in the plan, in mm from the origin.
-const EDGE: i64 = 4_063_232;
+pub const EDGE: i64 = 4_063_232;
 
 /// How far east of the outer edge of the first column a point lies, in mm.
 pub fn easting(p: Pt) -> usize

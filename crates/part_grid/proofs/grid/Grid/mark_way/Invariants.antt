@@ -1,0 +1,15 @@
+-- The sides that the way meets in the columns so far are marked.
+use Rattle.std.proofs.Common.{◌≡◌, ℕ, ◌-◌, ◌≤◌, ◌<◌, false, length, get_or}
+use Rattle.std.specs.List.{list_any, range_with_len}
+use Rattle.part_grid.specs.declared.owned.Owned.{Owned}
+use Rattle.part_grid.specs.Cells.{covers}
+use Rattle.part_grid.specs.Ways.{rows_in}
+use Rattle.part_grid.proofs.grid.Grid.mark_way.Given as goal
+
+abbrev pub invariant-loop-column : goal.invariant-loop-column
+invariant-loop-column l = record {
+  count : l.column - l.initial.column ≤ l.column-end - l.initial.column;
+  size : length l.marks ≡ length l.self-inside.sides.items;
+  marks : (k : ℕ) (d : Owned) → k < length l.self-inside.sides.items
+      → get_or l.marks k false ≡ list_any (λ column. covers (get_or l.self-inside.sides.items k d).side column (rows_in l.from l.dir l.all column)) (range_with_len l.initial.column (l.column - l.initial.column));
+}
