@@ -5,3 +5,4 @@ pub mod Sound
 pub mod Fitting
 pub mod Walls
 pub mod Meeting
+pub mod Nearby

@@ -1,9 +1,10 @@
 //! The search for sides that cross the legs of a reflection.
-ghost use Rattle.std.specs.Prelude.{◌≡◌, ◌<◌, ◌≤◌, ◌*◌, ◌^◌, ◌++◌, [], length, unsigned_abs, IfOk, IfSome, OnOk};
+ghost use Rattle.std.specs.Prelude.{◌≡◌, ◌<◌, ◌≤◌, ◌*◌, ◌^◌, ◌++◌, [], length, map, filter, unsigned_abs, IfOk, IfSome, OnOk};
 ghost use Rattle.scene_geom.specs.Direction.{FitsDirection};
 ghost use Rattle.scene_geom.specs.Fraction.{FitsPlace, FitsEnd, rest_of};
 ghost use Rattle.scene_parts.specs.Sides.{sides_of};
 ghost use Rattle.image_source.specs.LegCuts.{edge_on, crossing_on, before_all, crossings_along, crossings_from, leg_crossings_of, leg_cuts_of};
+ghost use Rattle.image_source.specs.LegCuts.{is_leg_crossing_in, leg_cut_of};
 ghost use Rattle.image_source.specs.LegCuts as form;
 
 use crate::image::Mirror;
@@ -31,8 +32,20 @@ pub fn leg_cuts(
         ≡ leg_cuts_of band m.now (record { s = s; hs = hs; r = r; hr = hr }) obstacles.now) }
 {
     let crossings = leg_crossings(alloc, obstacles, m, Ends { s, hs, r, hr })?;
+    cuts_in(alloc, crossings.as_slice(), band)
+}
+
+/// The cuts of those crossings whose obstacle is large enough in a band.
+pub(crate) fn cuts_in(
+    alloc: Global,
+    crossings: &[(Leg, Crossing)],
+    band: Band,
+) -> Result<Vec<(Leg, Cut)>, NoMemory>
+    ensures { IfOk result (λ cuts. cuts.items
+        ≡ map leg_cut_of (filter (is_leg_crossing_in band) crossings.now)) }
+{
     let mut cuts = Vec::new(alloc);
-    for (leg, crossing) in crossings.as_slice() {
+    for (leg, crossing) in crossings {
         if crossing.counts_in(band) {
             cuts.push((*leg, crossing.cut()))?;
         }
@@ -97,7 +110,7 @@ fn add_crossings(
 }
 
 /// Adds a side of an obstacle as a crossing, if it is one. The obstacle and the side have these numbers.
-fn add_crossing(
+pub(crate) fn add_crossing(
     found: &mut Vec<(Leg, Crossing)>,
     obstacle: &Obstacle,
     numbers: (u32, u32),
