@@ -1,5 +1,5 @@
 //! Bundles and levels with ends from outside, by an independent program.
-use crate::paths::path;
+use crate::paths::{path, path_near};
 use crate::scenes::{outline, put, take};
 use fix_interval::Iv;
 use path_calc::{Band, Bundle, Levels, levels};
@@ -200,6 +200,19 @@ fn fan_in(alloc: Global, steps: &[Step]) -> Option<Bundle> {
     fan_heard(alloc, &scene)
 }
 
+/// The bundle of the fan in a scene, by an index of its obstacles.
+fn fan_heard_near(alloc: Global, scene: &Scene) -> Option<Bundle> {
+    let fan = fan(alloc)?;
+    let receiver = receiver(alloc)?;
+    path_near(alloc, scene, &fan, &receiver)
+}
+
+/// The bundle of the fan in the scene that these steps make, by an index of its obstacles.
+fn fan_near(alloc: Global, steps: &[Step]) -> Option<Bundle> {
+    let scene = scene(alloc, steps)?;
+    fan_heard_near(alloc, &scene)
+}
+
 /// The bundle of the gate in the scene that these steps make.
 fn gate_in(alloc: Global, steps: &[Step]) -> Option<Bundle> {
     let scene = scene(alloc, steps)?;
@@ -328,6 +341,15 @@ const BESIDE: [(i128, i128); 8] = [
 fn energies_by_way_of_a_wall(rt: HostRuntime) -> Result<(), Fail> {
     let long = (725753307672187, 725753310127432);
     has_energies(&rt, fan_in(rt.alloc(), &BESIDE_FRONT), &BESIDE, long).ok_or("no memory")?;
+    Ok(())
+}
+
+#[test]
+fn energies_by_an_index_of_the_obstacles(rt: HostRuntime) -> Result<(), Fail> {
+    let behind = (231362228724638, 231362267539394);
+    has_energies(&rt, fan_near(rt.alloc(), &BEHIND_WALL), &BEHIND, behind).ok_or("no memory")?;
+    let beside = (725753307672187, 725753310127432);
+    has_energies(&rt, fan_near(rt.alloc(), &BESIDE_FRONT), &BESIDE, beside).ok_or("no memory")?;
     Ok(())
 }
 

@@ -22,21 +22,64 @@ pub fn mirror(o: &Obstacle, i: u32, s: Pt, hs: u32, r: Pt, hr: u32) -> Option<Mi
     ensures fits { IfSome (slice_get (sides_of o.now) i)
         (λ side. IfSome result (λ m. CanReflect side s r)) }
 {
+    mirror_by(o, winding(o), i, s, hs, r, hr)
+}
+
+/// How the corners of a building go round: twice its area in mm², above 0 where they go to the left. 0 for a barrier. All
+/// sides of an obstacle share it.
+#[tactic(auto, unfolding(crate::specs::Mirrors::winding))]
+pub fn winding(o: &Obstacle) -> i128
+    ensures { result ≡ form.winding o.now }
+{
+    match o.shape {
+        Shape::Barrier => 0,
+        Shape::Building => area2(o.points.items()),
+    }
+}
+
+/// The same as `mirror`, where it is known how the corners of the obstacle go round: once, and not for each of its sides.
+pub fn mirror_by(
+    o: &Obstacle,
+    winding: i128,
+    i: u32,
+    s: Pt,
+    hs: u32,
+    r: Pt,
+    hr: u32,
+) -> Option<Mirror>
+    requires side { i < length (sides_of o.now) }
+    requires winding { winding ≡ form.winding o.now }
+    ensures value { IfSome (slice_get (sides_of o.now) i)
+        (λ side. result ≡ mirror_of o.now side (record { s = s; hs = hs; r = r; hr = hr })) }
+    ensures fits { IfSome (slice_get (sides_of o.now) i)
+        (λ side. IfSome result (λ m. CanReflect side s r)) }
+{
     let side = side_of(o, i);
-    if o.rho == 0 || !on_one_side(side, s, r) || !faces(o, side, s) {
+    if o.rho == 0 || !on_one_side(side, s, r) || !faces(o, winding, side, s) {
         return None;
     }
     let plan = unfold(side, s, r);
     let ends = Ends { s, hs, r, hr };
-    if strikes(side, ends, plan.p) && stays_below(ends, o.h, plan.p) {
-        Some(Mirror {
-            p: plan.p,
-            first: plan.first,
-            second: plan.second,
-            plan2: plan.square,
-        })
-    } else {
-        None
+    if !strikes(side, ends, plan.p) || !stays_below(ends, o.h, plan.p) {
+        return None;
+    }
+    Some(Mirror {
+        p: plan.p,
+        first: plan.first,
+        second: plan.second,
+        plan2: plan.square,
+    })
+}
+
+/// Whether an obstacle's side reflects on the side on which a point lies: a building's doesn't on its inside.
+#[tactic(auto, unfolding(crate::specs::Mirrors::winding))]
+fn faces(o: &Obstacle, winding: i128, side: Side, p: Pt) -> bool
+    requires { winding ≡ form.winding o.now }
+    ensures { result ≡ form.faces o.now.shape o.now.points side p }
+{
+    match o.shape {
+        Shape::Barrier => true,
+        Shape::Building => opposite(orient(side.from, side.to, p), winding),
     }
 }
 
@@ -55,16 +98,6 @@ fn stays_below(ends: Ends, h: u32, p: Frac) -> bool
     ensures { result ≡ form.stays_below ends h p }
 {
     sight_height(ends, p) <= height_at(h, p)
-}
-
-/// Whether an obstacle's side reflects on the side on which a point lies: a building's doesn't on its inside.
-fn faces(o: &Obstacle, side: Side, p: Pt) -> bool
-    ensures { result ≡ form.faces o.now.shape o.now.points side p }
-{
-    match o.shape {
-        Shape::Barrier => true,
-        Shape::Building => opposite(orient(side.from, side.to, p), area2(o.points.items())),
-    }
 }
 
 /// Whether one number is above 0 and the other below.

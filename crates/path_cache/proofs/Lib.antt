@@ -1,3 +1,4 @@
 pub mod Searching
 pub mod WithinReach
 pub mod Rightness
+pub mod Scanning

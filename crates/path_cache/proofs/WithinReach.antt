@@ -1,6 +1,6 @@
 -- What is made of the sources within reach, one source of the scene after another.
-use Rattle.std.proofs.Common.{◌≡◌, ◌+◌, ◌≤◌, Bool, true, false, List, [], ◌∷◌, ◌++◌, length, map, flat_map, refl, sym, ap, ◌∙◌, arith, zero-add}
-use Rattle.std.proofs.lemmas.List.Sums.{sum_by-cons}
+use Rattle.std.proofs.Common.{◌≡◌, ℕ, ◌+◌, ◌<◌, ◌≤◌, Bool, true, false, List, [], ◌∷◌, ◌++◌, length, map, flat_map, get_or, take, refl, sym, ap, subst, ◌∙◌, arith, zero-add}
+use Rattle.std.proofs.lemmas.List.Sums.{sum_by-cons, sum_by_more_le}
 use Rattle.std.specs.Prelude.{filter, sum_by, count_by, if◌then◌else◌}
 
 pub flat-within : {X Y : Type 0} (p : X → Bool) (f : X → Y) (xs : List X) → flat_map (λ x. if p x then f x ∷ [] else []) xs ≡ map f (filter p xs)
@@ -25,3 +25,10 @@ few-within {X} {Y} p f (x ∷ xs) = next (p x) (few-within p f xs) where
   next : (test : Bool) → length (map f (filter p xs)) ≤ length xs → length (map f (if test then x ∷ filter p xs else filter p xs)) ≤ length (x ∷ xs)
   next true h = omega arith
   next false h = omega arith
+
+-- what is counted up to an element, and of that, is no more than what is counted of all
+pub count-so-far : {X : Type 0} (f : X → ℕ) (xs : List X) (i : ℕ) (x : X) (old so-far new total : ℕ) → x ≡ get_or xs i x → i < length xs
+    → so-far ≡ old + sum_by f (take i xs) → new ≡ so-far + f x → sum_by f xs ≡ total → new ≤ old + total
+count-so-far f xs i x old so-far new total at below counted now all =
+    let with_it : sum_by f (take i xs) + f x ≤ sum_by f xs = subst (λ y. sum_by f (take i xs) + f y ≤ sum_by f xs) (sym at) (sum_by_more_le f xs i x below) in
+    omega (arith, counted, now, all, with_it)

@@ -10,12 +10,13 @@ ghost use Rattle.path_calc.specs.Ranges.{AreInRange, IsSumOf, most_sounds};
 ghost use Rattle.path_calc.specs.Hearing.{energy_after, long_energy_after};
 
 use crate::hearing::{Heard, heard_in};
+use crate::indexed::IndexedScene;
 use crate::paths::{Paths, paths_between};
 use crate::prepared::{PreparedReceiver, PreparedSource};
 use crate::segments::Segs;
 use crate::small_sums::plus;
 use fix_interval::{Iv, exact};
-use scene_book::Scene;
+use part_grid::Found;
 use scene_geom::Band;
 use scene_parts::{NoMemory, PointSource, Receiver};
 use std::alloc::Global;
@@ -31,11 +32,12 @@ pub(crate) struct Energies {
 /// once.
 pub(crate) fn path_energies(
     alloc: Global,
-    scene: &Scene,
+    scene: &IndexedScene<'_>,
     source: &PointSource,
     from: &PreparedSource,
     receiver: &Receiver,
     to: &PreparedReceiver,
+    found: &mut Found,
     trace: &mut Segs,
 ) -> Result<Energies, NoMemory>
     requires source { from.now ≡ prepared_of source.now }
@@ -48,7 +50,7 @@ pub(crate) fn path_energies(
     ensures bands_bounds { IfOk result (λ energies. All (IsSumOf most_sounds) energies.bands) }
     ensures long_bounds { IfOk result (λ energies. IsSumOf (8 * most_sounds) energies.long) }
 {
-    let paths = paths_between(alloc, scene, source, from, receiver, to, trace)?;
+    let paths = paths_between(alloc, scene, source, from, receiver, to, found, trace)?;
     let heard = heard(&paths, from);
     Ok(Energies {
         bands: bands_of(&heard),

@@ -5,17 +5,17 @@ ghost use Rattle.path_calc.specs.Ranges.{AreInRange, IsLateralScreening};
 ghost use Rattle.path_calc.specs.Strings.{both_of};
 ghost use Rattle.path_calc.specs.Trace.{trace_of};
 
+use crate::indexed::IndexedScene;
 use crate::lateral::{LateralScreening, lateral_screening};
 use crate::lengths::{direct_square, distance};
 use crate::prepared::{PreparedReceiver, PreparedSource};
 use crate::propagation::{Between, Propagation};
 use crate::reflected::Reflected;
 use crate::segments::{Seg, Segs};
+use part_grid::Found;
 use path_shape::Path;
-use scene_book::Scene;
 use scene_geom::Band;
 use scene_parts::{Ends, NoMemory, PointSource, Receiver};
-use sight_cut::crossings;
 use std::alloc::Global;
 
 /// What the bands share of all paths from a source to a receiver: of the direct one, which leads over the top of what
@@ -29,14 +29,15 @@ pub(crate) struct Paths {
 }
 
 /// The paths from a source to a receiver, whose trace is added to a trace. One search finds the edges of all bands on a
-/// path.
+/// path. The buffers are lent to the searches.
 pub(crate) fn paths_between(
     alloc: Global,
-    scene: &Scene,
+    scene: &IndexedScene<'_>,
     source: &PointSource,
     from: &PreparedSource,
     receiver: &Receiver,
     to: &PreparedReceiver,
+    found: &mut Found,
     trace: &mut Segs,
 ) -> Result<Paths, NoMemory>
     requires source { from.now.h ≡ source.now.h }
@@ -60,20 +61,19 @@ pub(crate) fn paths_between(
     };
     let path = Path::direct(source.at, source.h, receiver.at, receiver.h);
     let distance = distance(source.at, source.h, receiver.at, receiver.h);
-    let obstacles = scene.obstacles();
-    let crossings = crossings(alloc, obstacles, ends)?;
+    let crossings = scene.crossings(alloc, ends, found)?;
     let square = direct_square(source.at, receiver.at);
     let direct = between.along(&path, square, distance, crossings.as_slice())?;
     trace.push(Seg::Straight(source.at, receiver.at))?;
     let lateral = lateral_screening(
         alloc,
-        obstacles,
+        scene.obstacles(),
         ends,
         crossings.as_slice(),
         distance,
         trace,
     )?;
-    let reflected = between.reflected()?;
+    let reflected = between.reflected(found)?;
     add_walls(trace, reflected.as_slice())?;
     Ok(Paths {
         direct,

@@ -12,6 +12,7 @@ ghost use Rattle.term_barrier.specs.Edges.{FitsEdge};
 ghost use Rattle.term_barrier.specs.Limits.{IsDistance, IsGroundEffect, IsScreening};
 
 use crate::foliage::Losses;
+use crate::indexed::IndexedScene;
 use crate::lengths::square_in_metres;
 use crate::prepared::{PreparedReceiver, PreparedSource};
 use crate::screening::over_top;
@@ -19,7 +20,6 @@ use crate::small_sums::plus;
 use energy_sum::c_met;
 use fix_interval::Iv;
 use path_shape::Path;
-use scene_book::Scene;
 use scene_geom::{Band, Frac};
 use scene_parts::{Air, Crossing, Ends, Ground, NoMemory};
 use std::alloc::Global;
@@ -30,7 +30,7 @@ use term_ground::{a_gr_between, a_gr_simple, d_omega};
 #[derive(Clone, Copy, Drop)]
 pub(crate) struct Between<'a> {
     pub(crate) alloc: Global,
-    pub(crate) scene: &'a Scene,
+    pub(crate) scene: &'a IndexedScene<'a>,
     pub(crate) ends: Ends,
     pub(crate) from: &'a PreparedSource,
     pub(crate) to: &'a PreparedReceiver,

@@ -7,6 +7,7 @@ ghost use Rattle.scene_parts.specs.Sides.{sides_of};
 ghost use Rattle.scene_geom.specs.Reflection.{unfolded};
 ghost use Rattle.scene_book.specs.Limits.{most_sides};
 ghost use Rattle.fix_interval.specs.Tree.{enc};
+ghost use Rattle.image_source.specs.Mirrors.{winding as winding_of};
 ghost use Rattle.path_calc.specs.Contributions.{reflection_level as level_form};
 ghost use Rattle.path_calc.specs.ReflectedPaths.{along_legs, reflected_in, reflected_by, reflected_paths};
 ghost use Rattle.path_calc.specs.Hearing.{reflected_of, crossings_on};
@@ -18,15 +19,17 @@ use crate::reflected::Reflected;
 use crate::segments::Seg;
 use enclose_log::lg;
 use fix_interval::{Iv, exact, mul, ratio};
-use image_source::{Leg, Mirror, big_enough_in_bands, leg_crossings, mirror};
+use image_source::{Leg, Mirror, big_enough_in_bands, mirror_by, winding};
+use part_grid::Found;
 use path_shape::Path;
 use scene_geom::Side;
 use scene_parts::{Crossing, Ends, NoMemory, Obstacle, side_of, sides};
 use std::alloc::Global;
 
 impl<'a> Between<'a> {
-    /// All paths by way of walls, in the order of obstacles and sides. Obstacles that don't reflect are passed over.
-    pub(crate) fn reflected(&self) -> Result<Vec<Reflected>, NoMemory>
+    /// All paths by way of walls, in the order of obstacles and sides. Obstacles that don't reflect are passed over. The
+    /// buffers are lent to the searches of what stands near their legs.
+    pub(crate) fn reflected(&self, near: &mut Found) -> Result<Vec<Reflected>, NoMemory>
         requires source { self.now.from.now.h ≡ self.now.ends.hs }
         requires receiver { self.now.to.now ≡ self.now.ends.hr }
         requires source_height { IsHeight self.now.ends.hs }
@@ -37,13 +40,18 @@ impl<'a> Between<'a> {
     {
         let mut found = Vec::new(self.alloc);
         for obstacle in self.scene.obstacles() {
-            self.add_reflected(&mut found, obstacle)?;
+            self.add_reflected(&mut found, obstacle, near)?;
         }
         Ok(found)
     }
 
     /// Adds the paths by way of the sides of an obstacle, of which there are none where it doesn't reflect.
-    fn add_reflected(&self, found: &mut Vec<Reflected>, obstacle: &Obstacle) -> Result<(), NoMemory>
+    fn add_reflected(
+        &self,
+        found: &mut Vec<Reflected>,
+        obstacle: &Obstacle,
+        near: &mut Found,
+    ) -> Result<(), NoMemory>
         requires source { self.now.from.now.h ≡ self.now.ends.hs }
         requires receiver { self.now.to.now ≡ self.now.ends.hr }
         requires source_height { IsHeight self.now.ends.hs }
@@ -55,25 +63,30 @@ impl<'a> Between<'a> {
         if obstacle.rho == 0 {
             return Ok(());
         }
+        let winding = winding(obstacle);
         for i in 0..sides(obstacle) {
-            self.add_side(found, obstacle, i, side_of(obstacle, i))?;
+            self.add_side(found, obstacle, winding, i, side_of(obstacle, i), near)?;
         }
         Ok(())
     }
 
-    /// Adds the path by way of a side of an obstacle, where the side reflects. Its number is `i`.
+    /// Adds the path by way of a side of an obstacle, where the side reflects. Its number is `i`, and it is known how the
+    /// corners of the obstacle go round.
     fn add_side(
         &self,
         found: &mut Vec<Reflected>,
         obstacle: &Obstacle,
+        winding: i128,
         i: u32,
         side: Side,
+        near: &mut Found,
     ) -> Result<(), NoMemory>
         requires source { self.now.from.now.h ≡ self.now.ends.hs }
         requires receiver { self.now.to.now ≡ self.now.ends.hr }
         requires source_height { IsHeight self.now.ends.hs }
         requires receiver_height { IsHeight self.now.ends.hr }
         requires reflects { 0 < obstacle.now.rho }
+        requires winding { winding ≡ winding_of obstacle.now }
         requires number { i < length (sides_of obstacle.now) }
         requires side { slice_get (sides_of obstacle.now) i ≡ Some side }
         ensures { OnOk result (let book = self.now.scene.now in found.new.items
@@ -81,10 +94,10 @@ impl<'a> Between<'a> {
             (option_to_list (reflected_in book self.now.ends obstacle.now side))) }
     {
         let Ends { s, hs, r, hr } = self.ends;
-        match mirror(obstacle, i, s, hs, r, hr) {
+        match mirror_by(obstacle, winding, i, s, hs, r, hr) {
             None => Ok(()),
             Some(mirror) => {
-                found.push(self.by_way_of(obstacle, side, &mirror)?)?;
+                found.push(self.by_way_of(obstacle, side, &mirror, near)?)?;
                 Ok(())
             }
         }
@@ -97,6 +110,7 @@ impl<'a> Between<'a> {
         obstacle: &Obstacle,
         side: Side,
         mirror: &Mirror,
+        near: &mut Found,
     ) -> Result<Reflected, NoMemory>
         requires source { self.now.from.now.h ≡ self.now.ends.hs }
         requires receiver { self.now.to.now ≡ self.now.ends.hr }
@@ -112,7 +126,7 @@ impl<'a> Between<'a> {
         let ends = self.ends;
         let path = Path::reflected(side, ends.s, ends.hs, ends.r, ends.hr);
         let distance = reflected_distance(mirror.plan2, ends.hs, ends.hr);
-        let legs = leg_crossings(self.alloc, self.scene.obstacles(), mirror, ends)?;
+        let legs = self.scene.leg_crossings(self.alloc, mirror, ends, near)?;
         let crossings = crossings_on_legs(self.alloc, legs.as_slice())?;
         let path = self.along(&path, mirror.plan2, distance, crossings.as_slice())?;
         let level = reflection_level(obstacle.rho);

@@ -2,13 +2,13 @@
 ghost use Rattle.std.specs.Prelude.{◌≡◌, ◌<◌, length, slice_get, All, Some};
 ghost use Rattle.std.specs.List.{list_any};
 ghost use Rattle.scene_parts.specs.Sides.{sides_of};
-ghost use Rattle.image_source.specs.Mirrors.{has_mirror};
+ghost use Rattle.image_source.specs.Mirrors.{has_mirror, winding as winding_of};
 ghost use Rattle.path_calc.specs.Segments.{FitsSegment};
 ghost use Rattle.touch_test.specs.Touches as form;
 ghost use Rattle.touch_test.specs.Touches.{bundled};
 
 use crate::crossings::{crosses_any, meets_any_leg, meets_line};
-use image_source::mirror;
+use image_source::{mirror_by, winding};
 use path_calc::{Bundle, Seg, within};
 use scene_geom::{Pt, Side};
 use scene_parts::{Ends, Obstacle, Part, Receiver, side_of, sides};
@@ -67,8 +67,9 @@ fn mirrors(obstacle: &Obstacle, ends: Ends) -> bool
     if obstacle.rho == 0 {
         return false;
     }
+    let winding = winding(obstacle);
     for i in 0..sides(obstacle) {
-        if reflects(obstacle, i, side_of(obstacle, i), ends) {
+        if reflects(obstacle, winding, i, side_of(obstacle, i), ends) {
             return true;
         }
     }
@@ -76,12 +77,13 @@ fn mirrors(obstacle: &Obstacle, ends: Ends) -> bool
 }
 
 /// Whether side `i` of an obstacle mirrors a source to a receiver.
-fn reflects(obstacle: &Obstacle, i: u32, side: Side, ends: Ends) -> bool
+fn reflects(obstacle: &Obstacle, winding: i128, i: u32, side: Side, ends: Ends) -> bool
+    requires winding { winding ≡ winding_of obstacle.now }
     requires within { i < length (sides_of obstacle.now) }
     requires side { slice_get (sides_of obstacle.now) i ≡ Some side }
     ensures { result ≡ has_mirror obstacle.now side ends }
 {
-    mirror(obstacle, i, ends.s, ends.hs, ends.r, ends.hr).is_some()
+    mirror_by(obstacle, winding, i, ends.s, ends.hs, ends.r, ends.hr).is_some()
 }
 
 /// Whether the outline of a zone or of a foliage meets the direct line or a leg of a trace.

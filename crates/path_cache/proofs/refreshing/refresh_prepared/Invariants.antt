@@ -6,6 +6,6 @@ use Rattle.path_cache.proofs.refreshing.refresh_prepared.Given as goal
 
 abbrev pub invariant-loop-place : goal.invariant-loop-place
 invariant-loop-place g l = record {
-  bundles : l.bundles.items ≡ flat_map (refreshed_of_one l.scene l.receiver l.kept l.marks) (take l.place l.scene.sources);
-  steps : l.steps ≡ l.fn.steps + sum_by (steps_of_one l.scene l.receiver l.kept l.marks) (take l.place l.scene.sources);
+  bundles : l.bundles.items ≡ flat_map (refreshed_of_one l.fn.scene l.receiver l.kept l.marks) (take l.place l.fn.scene.sources);
+  steps : l.steps ≡ l.fn.steps + sum_by (steps_of_one l.fn.scene l.receiver l.kept l.marks) (take l.place l.fn.scene.sources);
 }

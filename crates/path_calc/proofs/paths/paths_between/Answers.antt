@@ -29,7 +29,7 @@ use Rattle.path_calc.proofs.paths.paths_between.Goals as goal
 pub along-requires-clause-edges : goal.along-requires-clause-edges
 along-requires-clause-edges c =
     subst (λ (cs : List Crossing). All (λ (crossing : Crossing). FitsEdge crossing.edge) cs) (sym (c.as_slice.ensures.value ∙ c.in_ok-crossings.ensures))
-    (edges-fit (record { s = c.source.inside.at; hs = c.source.inside.h; r = c.receiver.inside.at; hr = c.receiver.inside.h }) c.obstacles-obstacles.result.now)
+    (edges-fit (record { s = c.source.inside.at; hs = c.source.inside.h; r = c.receiver.inside.at; hr = c.receiver.inside.h }) c.args.scene.now.obstacles)
 
 pub returns-clause-value : goal.returns-clause-value
 returns-clause-value c =
@@ -48,11 +48,11 @@ returns-clause-value c =
     c.direct_square-square.ensures.value ∙ ap (λ (s : Source). over (pos (plan_square s.at c.receiver.inside.at)) (pos 1)) c.source.view_is ∙ ap (λ (r : Receiver). direct_square s r) c.receiver.view_is in
     record {
       direct = direct-is c.in_ok-direct.direct book s r d found length
-          (c.as_slice.ensures.value ∙ c.in_ok-crossings.ensures ∙ ap (λ (e : Ends). crossings_of e c.obstacles-obstacles.result.now) ends ∙ ap (crossings_of (ends_of s r)) c.obstacles-obstacles.ensures.value)
+          (c.as_slice.ensures.value ∙ c.in_ok-crossings.ensures ∙ ap (λ (e : Ends). crossings_of e book.obstacles) ends)
           (c.in_ok-direct.ensures.value ∙ ap (λ (q : Frac). propagation_along book c.direct-path.result q d found) square ∙ ap (λ (p : Path). propagation_along book p (direct_square s r) d found) path);
       lateral = λ (band : Band). lateral-is (record { direct = c.in_ok-direct.direct; lateral = c.in_ok-lateral.lateral; reflected = c.in_ok-reflected.reflected }) book s r d band length (
           c.in_ok-lateral.ensures.value band
-          ∙ ap (λ (os : List Obstacle). d_z_over (record { s = c.source.inside.at; hs = c.source.inside.h; r = c.receiver.inside.at; hr = c.receiver.inside.h }) os d band) c.obstacles-obstacles.ensures.value
+          ∙ ap (λ (os : List Obstacle). d_z_over (record { s = c.source.inside.at; hs = c.source.inside.h; r = c.receiver.inside.at; hr = c.receiver.inside.h }) os d band) c.obstacles.ensures.value
           ∙ ap (λ (e : Ends). d_z_over e book.obstacles d band) ends);
       reflected = c.in_ok-reflected.ensures.value ∙ ap (λ (e : Ends). map (reflected_of book.globals e) (reflected_paths book e)) ends;
     }
@@ -68,7 +68,7 @@ returns-clause-trace c =
     trace-whole c.args.trace.now c.push.new.self c.lateral_screening.new.trace c.add_walls.new.trace book s r
     (c.in_ok-push.ensures ∙ ap (λ (e : Ends). c.args.trace.now ++ Straight e.s e.r ∷ []) ends)
     (c.in_ok-lateral.ensures.trace
-    ∙ ap (λ (os : List Obstacle). c.push.new.self ++ flat_map (segments_in_band there os) all_bands) c.obstacles-obstacles.ensures.value
+    ∙ ap (λ (os : List Obstacle). c.push.new.self ++ flat_map (segments_in_band there os) all_bands) c.obstacles.ensures.value
     ∙ ap (λ (e : Ends). c.push.new.self ++ flat_map (segments_in_band e book.obstacles) all_bands) ends)
     (c.in_ok-add_walls.ensures
     ∙ ap (λ (found : List Reflected). c.lateral_screening.new.trace ++ map (λ (path : Reflected). path.wall) found)

@@ -5,5 +5,5 @@ use Rattle.touch_test.proofs.parts.reflects.Goals as goal
 
 pub returns : goal.returns
 returns c =
-    mirrors-at c.args.obstacle.now c.args.ends (slice_get (sides_of c.args.obstacle.now) c.args.i) c.args.side c.mirror.result
-    c.is_some.result c.requires.side c.is_some.ensures c.mirror.ensures.value
+    mirrors-at c.args.obstacle.now c.args.ends (slice_get (sides_of c.args.obstacle.now) c.args.i) c.args.side c.mirror_by.result
+    c.is_some.result c.requires.side c.is_some.ensures c.mirror_by.ensures.value

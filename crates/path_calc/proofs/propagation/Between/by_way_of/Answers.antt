@@ -9,7 +9,6 @@ use Rattle.path_shape.specs.declared.path.Path.{Path}
 use Rattle.scene_parts.specs.declared.crossing.Crossing.{Crossing}
 use Rattle.image_source.specs.Mirrors.{IsMirror}
 use Rattle.image_source.specs.Dimensions.{dimension_squared, needed_squared}
-use Rattle.image_source.specs.LegCuts.{leg_crossings_of}
 use Rattle.term_barrier.specs.Edges.{FitsEdge}
 use Rattle.path_calc.specs.Lengths.{reflected_distance}
 use Rattle.path_calc.specs.Contributions.{reflection_level}
@@ -36,7 +35,7 @@ pub along-requires-clause-edges : goal.along-requires-clause-edges
 along-requires-clause-edges c =
     subst (λ (cs : List Crossing). All (λ (crossing : Crossing). FitsEdge crossing.edge) cs)
     (sym (c.as_slice-2.ensures.value ∙ c.in_ok-crossings.ensures ∙ ap crossings_on (c.as_slice.ensures.value ∙ c.in_ok-legs.ensures)))
-    (leg-crossings-fit c.args.mirror.now c.args.self.now.ends c.obstacles.result.now (subst IsMirror c.mirror.view_is c.mirror.invariant))
+    (leg-crossings-fit c.args.mirror.now c.args.self.now.ends c.args.self.now.scene.now.obstacles (subst IsMirror c.mirror.view_is c.mirror.invariant))
 
 pub returns : goal.returns
 returns c =
@@ -48,7 +47,7 @@ returns c =
     record {
       value = by-way-is c.of.result book ends c.args.obstacle.now c.args.side unfolded legs d
           (c.reflected_distance-distance.ensures.value ∙ ap (λ (m : Reflection). enc (reflected_distance m.square ends.hs ends.hr)) c.mirror.view_is)
-          (c.as_slice.ensures.value ∙ c.in_ok-legs.ensures ∙ ap (leg_crossings_of unfolded ends) c.obstacles.ensures.value)
+          (c.as_slice.ensures.value ∙ c.in_ok-legs.ensures)
           (ap (λ (m : Reflected). m.wall) c.of.ensures)
           (ap (λ (m : Reflected). m.path) c.of.ensures
           ∙ c.in_ok-path.ensures.value

@@ -1,0 +1,133 @@
+//! A scene with an index of the sides of its obstacles, or without one.
+ghost use Rattle.std.specs.Prelude.{◌≡◌, map, IfOk};
+ghost use Rattle.scene_parts.specs.Sides.{sides_of};
+ghost use Rattle.scene_book.specs.Book.{IsWithin, NamesAreApart};
+ghost use Rattle.part_grid.specs.Numbered.{numbered};
+ghost use Rattle.sight_cut.specs.Cuts.{crossings_of};
+ghost use Rattle.image_source.specs.LegCuts.{leg_crossings_of};
+
+use image_source::{Leg, Mirror, leg_crossings, leg_crossings_near};
+use part_grid::{Found, Grid};
+use scene_book::Scene;
+use scene_parts::{Crossing, Ends, Foliage, Globals, NoMemory, Obstacle, PointSource, Zone};
+use sight_cut::{crossings, crossings_near};
+use std::alloc::Global;
+use std::marker::Model;
+
+/// A scene, and an index of all sides of its obstacles, where there is one: with it a path looks only at the sides near
+/// it, and without it at all. Contracts see it as the scene.
+#[derive(Drop)]
+pub struct IndexedScene<'a> {
+    scene: &'a Scene,
+    grid: Option<&'a Grid>,
+}
+
+impl<'a> Model for IndexedScene<'a> {
+    ghost use Rattle.std.specs.Prelude.{◌≡◌, map, IfSome};
+    ghost use Rattle.scene_book.specs.Book.{Book};
+    ghost use Rattle.scene_parts.specs.Sides.{sides_of};
+    ghost use Rattle.part_grid.specs.Numbered.{numbered};
+
+    ghost Value = { Book };
+
+    ghost view = { λ s. s.scene.now };
+
+    ghost invariant = { λ s. IfSome s.grid (λ grid. grid.now ≡ numbered (map sides_of s.scene.now.obstacles)) };
+}
+
+impl<'a> IndexedScene<'a> {
+    /// A scene without an index.
+    pub fn plain(scene: &'a Scene) -> IndexedScene<'a>
+        ensures { result ≡ scene.now }
+    {
+        IndexedScene { scene, grid: None }
+    }
+
+    /// A scene with an index, which stands for its obstacles.
+    pub fn by(scene: &'a Scene, grid: &'a Grid) -> IndexedScene<'a>
+        requires stands { grid.now ≡ numbered (map sides_of scene.now.obstacles) }
+        ensures { result ≡ scene.now }
+    {
+        IndexedScene {
+            scene,
+            grid: Some(grid),
+        }
+    }
+
+    /// The sources, at most 128.
+    pub fn sources(&self) -> &[PointSource]
+        ensures value { result.now ≡ self.now.sources }
+        ensures within { IsWithin self.now }
+        ensures apart { NamesAreApart self.now }
+    {
+        self.scene.sources()
+    }
+
+    /// What holds of the whole scene.
+    pub fn globals(&self) -> &Globals
+        ensures { result.now ≡ self.now.globals }
+    {
+        self.scene.globals()
+    }
+
+    /// The obstacles.
+    pub(crate) fn obstacles(&self) -> &[Obstacle]
+        ensures value { result.now ≡ self.now.obstacles }
+        ensures within { IsWithin self.now }
+        ensures apart { NamesAreApart self.now }
+    {
+        self.scene.obstacles()
+    }
+
+    /// The zones.
+    pub(crate) fn zones(&self) -> &[Zone]
+        ensures value { result.now ≡ self.now.zones }
+        ensures within { IsWithin self.now }
+        ensures apart { NamesAreApart self.now }
+    {
+        self.scene.zones()
+    }
+
+    /// The foliage.
+    pub(crate) fn foliage(&self) -> &[Foliage]
+        ensures value { result.now ≡ self.now.foliage }
+        ensures within { IsWithin self.now }
+        ensures apart { NamesAreApart self.now }
+    {
+        self.scene.foliage()
+    }
+
+    /// All sides that cross a line of sight, in their order. The buffers are lent to the search.
+    pub(crate) fn crossings(
+        &self,
+        alloc: Global,
+        ends: Ends,
+        found: &mut Found,
+    ) -> Result<Vec<Crossing>, NoMemory>
+        ensures { IfOk result (λ crossings. crossings.items ≡ crossings_of ends self.now.obstacles) }
+    {
+        let obstacles = self.scene.obstacles();
+        match self.grid {
+            Some(grid) => crossings_near(alloc, grid, obstacles, ends, found),
+            None => crossings(alloc, obstacles, ends),
+        }
+    }
+
+    /// All sides that cross the legs of a path by way of a wall, in their order. The buffers are lent to the search.
+    pub(crate) fn leg_crossings(
+        &self,
+        alloc: Global,
+        mirror: &Mirror,
+        ends: Ends,
+        found: &mut Found,
+    ) -> Result<Vec<(Leg, Crossing)>, NoMemory>
+        ensures { IfOk result (λ crossings. crossings.items
+            ≡ leg_crossings_of mirror.now ends self.now.obstacles) }
+    {
+        let obstacles = self.scene.obstacles();
+        match self.grid {
+            Some(grid) => leg_crossings_near(alloc, grid, obstacles, mirror, ends, found),
+            None => leg_crossings(alloc, obstacles, mirror, ends),
+        }
+    }
+}
