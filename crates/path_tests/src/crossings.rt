@@ -3,7 +3,7 @@ use crate::obstacles::{Wall, obstacles};
 use crate::places::at;
 use scene_geom::Band;
 use scene_parts::{Cut, Obstacle, Shape};
-use sight_cut::cuts;
+use sight_cut::{cuts, cuts_near, grid_of};
 use std::alloc::{AllocError, Global};
 use std::process::Abort;
 use std::test::Fail;
@@ -202,6 +202,13 @@ fn is_cut(
         return Err(AllocError);
     };
     are_found(rt, &found, case.cuts);
+    let Ok(grid) = grid_of(alloc, obstacles) else {
+        return Err(AllocError);
+    };
+    let Ok(near) = cuts_near(alloc, &grid, obstacles, s, hs, r, hr, case.band) else {
+        return Err(AllocError);
+    };
+    are_found(rt, &near, case.cuts);
     Ok(())
 }
 

@@ -9,17 +9,29 @@ pub(crate) type Wall = (Shape, &'static [(i64, i64)], i64, i64);
 pub(crate) fn obstacles(alloc: Global, walls: &[Wall]) -> Result<Vec<Obstacle>, AllocError> {
     let mut obstacles = Vec::new(alloc);
     for (shape, corners, h, rho) in walls {
-        let mut points = Vec::new(alloc);
-        for (x, y) in *corners {
-            points.push(RawPt { x: *x, y: *y })?;
-        }
-        let name = PlainName::from_vec(b"a".to_vec(alloc)?);
-        let raw = raw(*shape, name, RawPoints::from_vec(points), *h, *rho);
-        if let Ok(Checked::Part(Part::Obstacle(obstacle))) = check(alloc, raw) {
-            obstacles.push(obstacle)?;
-        }
+        add_obstacle(alloc, &mut obstacles, *shape, corners, (*h, *rho))?;
     }
     Ok(obstacles)
+}
+
+/// Adds an obstacle with these corners, of this height and reflection, if it is accepted.
+pub(crate) fn add_obstacle(
+    alloc: Global,
+    obstacles: &mut Vec<Obstacle>,
+    shape: Shape,
+    corners: &[(i64, i64)],
+    (h, rho): (i64, i64),
+) -> Result<(), AllocError> {
+    let mut points = Vec::new(alloc);
+    for (x, y) in corners {
+        points.push(RawPt { x: *x, y: *y })?;
+    }
+    let name = PlainName::from_vec(b"a".to_vec(alloc)?);
+    let raw = raw(shape, name, RawPoints::from_vec(points), h, rho);
+    if let Ok(Checked::Part(Part::Obstacle(obstacle))) = check(alloc, raw) {
+        obstacles.push(obstacle)?;
+    }
+    Ok(())
 }
 
 fn raw(shape: Shape, name: PlainName, points: RawPoints, h: i64, rho: i64) -> RawPart {

@@ -2,9 +2,10 @@
 use crate::obstacles::{Wall, obstacles};
 use crate::places;
 use fix_interval::{Truth, hull, ratio};
-use image_source::{Leg, Mirror, big_enough, leg_cuts, mirror};
+use image_source::{Leg, Mirror, big_enough, leg_cuts, leg_cuts_near, mirror};
 use scene_geom::{Band, Pt};
 use scene_parts::{Cut, Obstacle, Shape, sides};
+use sight_cut::grid_of;
 use std::alloc::{AllocError, Global};
 use std::process::Abort;
 use std::test::Fail;
@@ -550,10 +551,18 @@ fn is_cut(
         return Err(AllocError);
     };
     let (s, r) = (at(source), at(receiver));
-    let Ok(found) = leg_cuts(alloc, obstacles, &m, s, source.2, r, receiver.2, case.band) else {
+    let (hs, hr) = (source.2, receiver.2);
+    let Ok(found) = leg_cuts(alloc, obstacles, &m, s, hs, r, hr, case.band) else {
         return Err(AllocError);
     };
     are_found(rt, &found, case.cuts);
+    let Ok(grid) = grid_of(alloc, obstacles) else {
+        return Err(AllocError);
+    };
+    let Ok(near) = leg_cuts_near(alloc, &grid, obstacles, &m, s, hs, r, hr, case.band) else {
+        return Err(AllocError);
+    };
+    are_found(rt, &near, case.cuts);
     Ok(())
 }
 

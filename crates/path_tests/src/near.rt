@@ -1,0 +1,136 @@
+//! What is found by the index of obstacles, beside what is found by a look at all sides, in a town over several hundred
+//! cells.
+use crate::obstacles::add_obstacle;
+use crate::places::at;
+use image_source::{Leg, leg_crossings, leg_crossings_near, mirror};
+use part_grid::Found;
+use scene_geom::Pt;
+use scene_parts::{Crossing, Ends, NoMemory, Obstacle, Shape, sides};
+use sight_cut::{crossings, crossings_near, grid_of};
+use std::alloc::{AllocError, Global};
+use std::process::Abort;
+use std::test::Fail;
+
+/// Sources and receivers: both coordinates in mm. Some lie on the borders of cells.
+const SPOTS: [(i64, i64); 7] = [
+    (0, 0),
+    (-65_536, 65_536),
+    (655_360, -589_824),
+    (-700_001, 699_999),
+    (700_000, 700_000),
+    (-1, -720_000),
+    (196_608, 3_999_999),
+];
+
+/// How many crossings were found on a line of sight, and most on the legs of a reflection.
+#[derive(Clone, Copy)]
+struct Counts {
+    lines: usize,
+    legs: usize,
+}
+
+/// Barriers and buildings at places that are scattered over a square of 1.4 km.
+fn town(alloc: Global) -> Result<Vec<Obstacle>, AllocError> {
+    let mut obstacles = Vec::new(alloc);
+    for n in 0..64u32 {
+        let x = i64::from(n * 37 % 64) * 22_003 - 704_096;
+        let y = i64::from(n * 23 % 64) * 21_001 - 672_032;
+        let i = i64::from(n);
+        let (width, depth) = (20_000 + i * 900, 70_000 - i * 700);
+        let bend = [(x, y), (x + width, y + depth), (x - depth, y + width)];
+        add_obstacle(alloc, &mut obstacles, Shape::Barrier, &bend, (9_000, 800))?;
+        let house = [
+            (x, y + 30_000),
+            (x + width, y + 30_000),
+            (x + width, y + 45_000),
+            (x + 1, y + 45_000),
+        ];
+        add_obstacle(
+            alloc,
+            &mut obstacles,
+            Shape::Building,
+            &house,
+            (12_000, 500),
+        )?;
+    }
+    Ok(obstacles)
+}
+
+fn ends(s: Pt, r: Pt) -> Ends {
+    Ends {
+        s,
+        hs: 1_500,
+        r,
+        hr: 4_000,
+    }
+}
+
+/// Asserts that two crossings are one.
+fn is_same(rt: &impl Abort, a: &Crossing, b: &Crossing) {
+    assert_eq!(rt; a.cut(), b.cut());
+    assert_eq!(rt; a.edge.side, b.edge.side);
+    assert_eq!(rt; a.edge.dir, b.edge.dir);
+    assert_eq!(rt; a.bands, b.bands);
+}
+
+/// Asserts that both searches find the same on a line of sight, and on the legs of all reflections between its ends.
+fn compare(
+    rt: &impl Abort,
+    alloc: Global,
+    obstacles: &[Obstacle],
+    ends: Ends,
+    found: &mut Found,
+) -> Result<Counts, NoMemory> {
+    assert!(rt; obstacles.len() < 1000);
+    let grid = grid_of(alloc, obstacles)?;
+    let all = crossings(alloc, obstacles, ends)?;
+    let near = crossings_near(alloc, &grid, obstacles, ends, found)?;
+    assert_eq!(rt; all.len(), near.len());
+    for (a, b) in all.iter().zip(near.iter()) {
+        is_same(rt, a, b);
+    }
+    let mut legs = 0;
+    for wall in obstacles {
+        for i in 0..sides(wall) {
+            let Some(m) = mirror(wall, i, ends.s, ends.hs, ends.r, ends.hr) else {
+                continue;
+            };
+            let all = leg_crossings(alloc, obstacles, &m, ends)?;
+            let near = leg_crossings_near(alloc, &grid, obstacles, &m, ends, found)?;
+            are_same(rt, &all, &near);
+            legs = all.len().max(legs);
+        }
+    }
+    Ok(Counts {
+        lines: all.len(),
+        legs,
+    })
+}
+
+/// Asserts that the same crossings of legs are in both lists.
+fn are_same(rt: &impl Abort, all: &[(Leg, Crossing)], near: &[(Leg, Crossing)]) {
+    assert_eq!(rt; all.len(), near.len());
+    for (a, b) in all.iter().zip(near) {
+        assert_eq!(rt; a.0, b.0);
+        is_same(rt, &a.1, &b.1);
+    }
+}
+
+#[test]
+fn the_index_finds_what_is_found_without_it(rt: HostRuntime) -> Result<(), Fail> {
+    let obstacles = town(rt.alloc())?;
+    let mut found = Found::new(rt.alloc());
+    let (mut lines, mut legs) = (0, 0);
+    for s in &SPOTS {
+        for r in &SPOTS {
+            let ends = ends(at(*s), at(*r));
+            let Ok(counts) = compare(&rt, rt.alloc(), &obstacles, ends, &mut found) else {
+                return Err(AllocError.into());
+            };
+            lines = counts.lines.max(lines);
+            legs = counts.legs.max(legs);
+        }
+    }
+    assert!(rt; lines > 5 && legs > 5);
+    Ok(())
+}
