@@ -1,13 +1,16 @@
 //! What is near, from outside: each expected list was calculated from the definition, by an independent program over
 //! fractions.
 use super::{Found, Grid, Owned, Place, cells_meet};
-use scene_geom::{Pt, Side};
+use scene_geom::{Dir, Frac, Pt, Side};
 use std::alloc::{AllocError, Global};
 use std::process::Abort;
 use std::test::Fail;
 
 /// The greatest coordinate.
 const M: i64 = 4_000_000;
+
+/// The greatest component of a direction.
+const GREATEST: i64 = 2_110_000_000_000_000_000;
 
 /// A place.
 type At = (i64, i64);
@@ -157,6 +160,69 @@ const IN_PLAN: [Query; 19] = [
     ((-65_536, 65_535), (65_535, -65_536), "0.0", "0.0 5.0"),
 ];
 
+/// The start of a way, the components and the divisor of its direction, its end, and the places near it.
+type Way = (At, (i64, i64, i64), (i64, i64), &'static str);
+
+/// What is near ways in the city: some end a fraction of a millimetre before the border of a cell, or leave the plan.
+const WAYS: [Way; 16] = [
+    ((0, 0), (1, 0, 1), (65_535, 1), "0.0 3.0 0.1"),
+    ((0, 0), (1, 0, 1), (65_536, 1), "0.0 1.1 3.0 0.1"),
+    ((0, 0), (3, 1, 7), (458_752, 3), "0.0 1.1 3.0 0.1"),
+    ((0, 0), (3, 1, 7), (458_751, 3), "0.0 3.0 0.1"),
+    (
+        (65_536, 65_536),
+        (-3, -2, 5),
+        (327_681, 3),
+        "0.0 1.1 2.2 3.0 0.1",
+    ),
+    (
+        (65_536, 65_536),
+        (-3, -2, 5),
+        (327_680, 3),
+        "0.0 1.1 3.0 0.1",
+    ),
+    ((200_000, -1), (0, 5, 3), (3, 5), "1.0"),
+    ((200_000, -1), (0, 5, 3), (2, 5), ""),
+    ((-1, -1), (-7, 9, 2), (200_000, 9), "2.0 2.2 3.0"),
+    (
+        (4_000_000, -4_000_000),
+        (-1, 1, 1),
+        (8_000_000, 1),
+        "0.0 2.2 3.0 0.1",
+    ),
+    (
+        (4_000_000, -4_000_000),
+        (-1, 1, 1),
+        (16_000_000, 1),
+        "0.0 2.2 3.0 0.1",
+    ),
+    (
+        (-100_000, 131_072),
+        (100_001, -65_536, 1),
+        (5, 2),
+        "0.0 1.1 2.2 3.0 0.1",
+    ),
+    (
+        (0, 0),
+        (-1, 5_000_000_000_000, 1),
+        (65_535, 5_000_000_000_000),
+        "0.0 2.2 3.0 0.1",
+    ),
+    (
+        (10_000, 10_000),
+        (68_718_952_449, 68_718_952_448, 68_718_952_449),
+        (1, 2),
+        "0.0 3.0 0.1",
+    ),
+    (
+        (-65_537, -65_537),
+        (1, 1, 68_718_952_449),
+        (2_970_000_000_000, 1),
+        "2.0 3.0",
+    ),
+    ((5_000, 5_000), (0, 0, 1), (1, 2), "0.0 3.0 0.1"),
+];
+
 fn at((x, y): At) -> Pt {
     Pt::new(x.clamp(-M, M), y.clamp(-M, M))
 }
@@ -284,4 +350,39 @@ fn cells_meet_where_they_are_near(rt: HostRuntime) {
             at((205_000, 5000))
         )
     );
+}
+
+/// Expects the places near a way.
+fn expect_way(
+    rt: &impl Abort,
+    alloc: Global,
+    grid: &Grid,
+    way: &Way,
+    found: &mut Found,
+) -> Result<(), AllocError> {
+    let (from, (x, y, w), (n, d), expected) = *way;
+    let dir = Dir {
+        x: x.clamp(-GREATEST, GREATEST).into(),
+        y: y.clamp(-GREATEST, GREATEST).into(),
+        w: w.clamp(1, 68_718_952_449).into(),
+    };
+    let end = Frac {
+        n: n.clamp(1, 2_970_000_000_000).into(),
+        d: d.clamp(1, 5_940_000_000_000).into(),
+    };
+    grid.find_near_way(at(from), dir, end, found)?;
+    let near = listed(alloc, found.places())?;
+    assert!(rt; near.as_str() == expected);
+    Ok(())
+}
+
+#[test]
+fn the_city_has_these_near_ways(rt: HostRuntime) -> Result<(), Fail> {
+    let sides = sides(rt.alloc(), &CITY)?;
+    let grid = Grid::build(rt.alloc(), sides.as_slice())?;
+    let mut found = Found::new(rt.alloc());
+    for way in &WAYS {
+        expect_way(&rt, rt.alloc(), &grid, way, &mut found)?;
+    }
+    Ok(())
 }
