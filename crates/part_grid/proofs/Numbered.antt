@@ -1,10 +1,11 @@
 -- Sides with their numbers: where each of them stands, and what a search of those near a line finds.
 use Rattle.std.proofs.Common.{◌≡◌, ℕ, zero, suc, ◌+◌, ◌<◌, Bool, true, false, cond, List, [], ◌∷◌, ◌++◌, length, get_or, take, map, filter, flat_map, arith, ap, ◌∙◌, sym, refl}
-use Rattle.std.specs.Prelude.{Option, Some, None, slice_get}
+use Rattle.std.specs.Prelude.{◌||◌, Option, Some, None, slice_get}
 use Rattle.std.specs.Option.{option_and_then}
-use Rattle.std.specs.List.{All, enumerate_from, filter_map, cons_option}
+use Rattle.std.specs.List.{All, enumerate_from, filter_map, cons_option, list_any}
 use Rattle.std.proofs.lemmas.List.{take_more, get_or-map, length-map}
 use Rattle.std.proofs.lemmas.List.Elements.{All-append, All-filter, All-get_or, All-nil, filter_map-append}
+use Rattle.std.proofs.lemmas.List.Folds.{list_any-append, list_any_more}
 use Rattle.std.proofs.lemmas.Option.{slice_get_within, get_or_from_slice_get}
 use Rattle.scene_geom.specs.declared.plan.Side.{Side}
 use Rattle.part_grid.specs.declared.owned.Owned.{Owned}
@@ -95,6 +96,20 @@ filter_map-near test found (owned ∷ sides) none = by_test (test owned) refl (f
 abbrev pub looked_up : {O X : Type 0} → (ℕ → ℕ → O → Side → Option X) → List O → Owned → Option X
 looked_up found obstacles owned = option_and_then (λ o. found owned.obstacle owned.index o owned.side) (slice_get obstacles owned.obstacle)
 
+-- the obstacle and the side that were read by a place are those of the side that was found
+stands : {O : Type 0} (sides_of : O → List Side) (obstacles : List O) (sides : List Owned) (i : ℕ) (d : Owned) (place : Place) (o : O) (side : Side)
+    → IsFoundAt sides_of obstacles sides i d place → o ≡ get_or obstacles place.obstacle o → slice_get (sides_of o) place.index ≡ Some side
+    → (slice_get obstacles (get_or sides i d).obstacle ≡ Some o) × ((get_or sides i d).side ≡ side)
+stands sides_of obstacles sides i d place o side is o-is side-is =
+    let owned = get_or sides i d in
+    let obstacle : o ≡ is.at.obstacle = obstacle-is sides_of obstacles sides i d place o is o-is in
+    let same : Some side ≡ Some owned.side =
+    sym side-is ∙ ap (λ x. slice_get (sides_of x) place.index) obstacle ∙ ap (λ (p : Place). slice_get (sides_of is.at.obstacle) p.index) is.same ∙ is.at.is in
+    (is.at.at ∙ ap Some (sym obstacle), one-of owned.side side (sym same))
+  where
+    one-of : (x y : Side) → Some x ≡ Some y → x ≡ y
+    one-of x y e = cc
+
 -- one place more
 pub found-more : {O X : Type 0} (sides_of : O → List Side) (found : ℕ → ℕ → O → Side → Option X) (obstacles : List O) (sides : List Owned) (i : ℕ) (d : Owned) (place : Place) (o : O) (side : Side)
     → IsFoundAt sides_of obstacles sides i d place → o ≡ get_or obstacles place.obstacle o → slice_get (sides_of o) place.index ≡ Some side
@@ -102,19 +117,12 @@ pub found-more : {O X : Type 0} (sides_of : O → List Side) (found : ℕ → �
     ≡ filter_map (looked_up found obstacles) (take i sides) ++ cons_option (found place.obstacle place.index o side) []
 found-more sides_of found obstacles sides i d place o side is o-is side-is =
     let owned = get_or sides i d in
-    let obstacle : o ≡ is.at.obstacle = obstacle-is sides_of obstacles sides i d place o is o-is in
-    let same : Some side ≡ Some owned.side =
-    sym side-is ∙ ap (λ x. slice_get (sides_of x) place.index) obstacle ∙ ap (λ (p : Place). slice_get (sides_of is.at.obstacle) p.index) is.same ∙ is.at.is in
+    let there = stands sides_of obstacles sides i d place o side is o-is side-is in
     let here : looked_up found obstacles owned ≡ found place.obstacle place.index o side =
-    ap (option_and_then (λ o. found owned.obstacle owned.index o owned.side)) is.at.at
-    ∙ ap (λ x. found owned.obstacle owned.index x owned.side) (sym obstacle)
-    ∙ ap (found owned.obstacle owned.index o) (Some-injective owned.side side (sym same))
+    ap (option_and_then (λ o. found owned.obstacle owned.index o owned.side)) there.0 ∙ ap (found owned.obstacle owned.index o) there.1
     ∙ ap (λ (p : Place). found p.obstacle p.index o side) (sym is.same) in
     ap (filter_map (looked_up found obstacles)) (take_more sides i d is.within) ∙ filter_map-append (looked_up found obstacles) (take i sides) (owned ∷ [])
     ∙ ap (λ x. filter_map (looked_up found obstacles) (take i sides) ++ cons_option x []) here
-  where
-    Some-injective : (x y : Side) → Some x ≡ Some y → x ≡ y
-    Some-injective x y e = cc
 
 one-by-one : {O X : Type 0} (found : ℕ → ℕ → O → Side → Option X) (obstacles : List O) (i : ℕ) (o : O) → slice_get obstacles i ≡ Some o → (n : ℕ) (sides : List Side)
     → filter_map (looked_up found obstacles) (map (owned_by i) (enumerate_from n sides)) ≡ filter_map (λ side. found i side.0 o side.1) (enumerate_from n sides)
@@ -140,3 +148,50 @@ pub found-by-obstacles : {O X : Type 0} (sides_of : O → List Side) (found : �
     → filter_map (looked_up found obstacles) (numbered (map sides_of obstacles))
     ≡ flat_map (λ o. filter_map (λ side. found o.0 side.0 o.1 side.1) (enumerate_from 0 (sides_of o.1))) (enumerate_from 0 obstacles)
 found-by-obstacles sides_of found obstacles = from-number sides_of found obstacles 0 obstacles (λ k. ap (slice_get obstacles) (omega arith))
+
+-- ---- whether one of the sides passes a test, given the obstacle of its number
+abbrev pub or_none : {O : Type 0} → (O → Bool) → Option O → Bool
+or_none test None = false
+or_none test (Some o) = test o
+
+abbrev pub looked_any : {O : Type 0} → (O → Side → Bool) → List O → Owned → Bool
+looked_any hit obstacles owned = or_none (λ o. hit o owned.side) (slice_get obstacles owned.obstacle)
+
+-- those that a search leaves out don't matter where none of them passes
+pub any-near : (test f : Owned → Bool) (sides : List Owned) → ((owned : Owned) → test owned ≡ false → f owned ≡ false) → list_any f (filter test sides) ≡ list_any f sides
+any-near test f [] none = refl
+any-near test f (owned ∷ sides) none = by_test (test owned) refl (any-near test f sides none) where
+  by_test : (b : Bool) → test owned ≡ b → list_any f (filter test sides) ≡ list_any f sides → list_any f (cond b (owned ∷ filter test sides) (filter test sides)) ≡ list_any f (owned ∷ sides)
+  by_test true e h = ap (λ b. f owned || b) h
+  by_test false e h = h ∙ ap (λ b. b || list_any f sides) (sym (none owned e))
+
+any-one : {O : Type 0} (hit : O → Side → Bool) (obstacles : List O) (i : ℕ) (o : O) → slice_get obstacles i ≡ Some o → (n : ℕ) (sides : List Side)
+    → list_any (looked_any hit obstacles) (map (owned_by i) (enumerate_from n sides)) ≡ list_any (hit o) sides
+any-one hit obstacles i o at n [] = refl
+any-one hit obstacles i o at n (side ∷ sides) =
+    ap (λ x. or_none (λ o. hit o side) x || list_any (looked_any hit obstacles) (map (owned_by i) (enumerate_from (n + 1) sides))) at
+    ∙ ap (λ b. hit o side || b) (any-one hit obstacles i o at (n + 1) sides)
+
+any-from : {O : Type 0} (sides_of : O → List Side) (hit : O → Side → Bool) (obstacles : List O) (n : ℕ) (rest : List O) → ((k : ℕ) → slice_get obstacles (n + k) ≡ slice_get rest k)
+    → list_any (looked_any hit obstacles) (flat_map numbered_sides (enumerate_from n (map sides_of rest))) ≡ list_any (λ o. list_any (hit o) (sides_of o)) rest
+any-from sides_of hit obstacles n [] same = refl
+any-from sides_of hit obstacles n (o ∷ rest) same =
+    list_any-append (looked_any hit obstacles) (numbered_sides (n, sides_of o)) (flat_map numbered_sides (enumerate_from (n + 1) (map sides_of rest)))
+    ∙ ap (λ b. b || list_any (looked_any hit obstacles) (flat_map numbered_sides (enumerate_from (n + 1) (map sides_of rest))))
+    (any-one hit obstacles n o (ap (slice_get obstacles) (omega arith) ∙ same 0) 0 (sides_of o))
+    ∙ ap (λ b. list_any (hit o) (sides_of o) || b) (any-from sides_of hit obstacles (n + 1) rest (λ k. ap (slice_get obstacles) (omega arith) ∙ same (suc k)))
+
+-- one of all sides of an index passes where one of some obstacle does
+pub any-by-obstacles : {O : Type 0} (sides_of : O → List Side) (hit : O → Side → Bool) (obstacles : List O)
+    → list_any (looked_any hit obstacles) (numbered (map sides_of obstacles)) ≡ list_any (λ o. list_any (hit o) (sides_of o)) obstacles
+any-by-obstacles sides_of hit obstacles = any-from sides_of hit obstacles 0 obstacles (λ k. ap (slice_get obstacles) (omega arith))
+
+-- one place more
+pub any-more : {O : Type 0} (sides_of : O → List Side) (hit : O → Side → Bool) (obstacles : List O) (sides : List Owned) (i : ℕ) (d : Owned) (place : Place) (o : O) (side : Side)
+    → IsFoundAt sides_of obstacles sides i d place → o ≡ get_or obstacles place.obstacle o → slice_get (sides_of o) place.index ≡ Some side
+    → list_any (looked_any hit obstacles) (take (i + 1) sides) ≡ (list_any (looked_any hit obstacles) (take i sides) || hit o side)
+any-more sides_of hit obstacles sides i d place o side is o-is side-is =
+    let found = stands sides_of obstacles sides i d place o side is o-is side-is in
+    list_any_more (looked_any hit obstacles) sides i d is.within
+    ∙ ap (λ b. list_any (looked_any hit obstacles) (take i sides) || b)
+    (ap (or_none (λ o. hit o (get_or sides i d).side)) found.0 ∙ ap (hit o) found.1)

@@ -19,3 +19,4 @@ pub mod Stretching
 pub mod Tracing
 pub mod Corners
 pub mod SmallEnds
+pub mod Barred

@@ -4,6 +4,7 @@
 
 mod absorption;
 mod addition;
+mod blocked;
 mod bundles;
 mod calculation;
 mod energies;

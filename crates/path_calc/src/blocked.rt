@@ -1,0 +1,68 @@
+//! What is in the way of a string, among the sides near its segments.
+ghost use Rattle.std.specs.Prelude.{◌≡◌, ◌&&◌, ◌||◌, map, IfOk, OnOk};
+ghost use Rattle.std.specs.List.{list_any};
+ghost use Rattle.scene_geom.specs.Crossing.{blocks_of};
+ghost use Rattle.scene_parts.specs.Sides.{sides_of};
+ghost use Rattle.scene_parts.specs.Crossings.{counts_in};
+ghost use Rattle.part_grid.specs.Numbered.{numbered};
+ghost use Rattle.path_calc.specs.LateralPaths.{is_in_the_way};
+ghost use Rattle.path_calc.specs.Strings.{is_within};
+ghost use Rattle.scene_geom.specs.declared.band.Band.{Band};
+
+use part_grid::{Found, Grid};
+use scene_geom::{Pt, Side, blocks};
+use scene_parts::{Breadth, Ends, NoMemory, Obstacle, side_of};
+use std::alloc::Global;
+
+/// How broad those obstacles are of which a side crosses a segment of the string that turns at these corners, by the
+/// index of the obstacles: for each segment only the sides near it are looked at. The buffers are lent to the search. An
+/// obstacle may be told more than once.
+pub(crate) fn blocking_near(
+    alloc: Global,
+    grid: &Grid,
+    obstacles: &[Obstacle],
+    ends: Ends,
+    corners: &[Pt],
+    found: &mut Found,
+) -> Result<Vec<Breadth>, NoMemory>
+    requires stands { grid.now ≡ numbered (map sides_of obstacles.now) }
+    ensures { IfOk result (λ blocking. (band : Band) → list_any (is_within band) blocking.items
+        ≡ list_any (is_in_the_way band ends corners.now) obstacles.now) }
+{
+    let mut blocking = Vec::new(alloc);
+    let mut from = ends.s;
+    for corner in corners {
+        let segment = Side { from, to: *corner };
+        add_blocking(&mut blocking, grid, obstacles, ends, segment, found)?;
+        from = *corner;
+    }
+    let last = Side { from, to: ends.r };
+    add_blocking(&mut blocking, grid, obstacles, ends, last, found)?;
+    Ok(blocking)
+}
+
+/// Adds how broad those obstacles are of which a side crosses a segment of a string.
+fn add_blocking(
+    blocking: &mut Vec<Breadth>,
+    grid: &Grid,
+    obstacles: &[Obstacle],
+    ends: Ends,
+    segment: Side,
+    found: &mut Found,
+) -> Result<(), NoMemory>
+    requires stands { grid.now ≡ numbered (map sides_of obstacles.now) }
+    ensures { OnOk result ((band : Band) → list_any (is_within band) blocking.new.items
+        ≡ (list_any (is_within band) blocking.old.items
+        || list_any (λ o. counts_in band ends o
+        && list_any (λ side. blocks_of side segment.from segment.to) (sides_of o)) obstacles.now)) }
+{
+    grid.find_near(segment.from, segment.to, found)?;
+    for place in found.places() {
+        let obstacle = &obstacles[place.obstacle as usize];
+        let side = side_of(obstacle, place.index);
+        if blocks(side, segment.from, segment.to) {
+            blocking.push(Breadth::of(obstacle, ends.s, ends.r))?;
+        }
+    }
+    Ok(())
+}
