@@ -5,11 +5,19 @@ ghost use Rattle.scene_book.specs.Book.{IsWithin, NamesAreApart};
 ghost use Rattle.part_grid.specs.Numbered.{numbered};
 ghost use Rattle.sight_cut.specs.Cuts.{crossings_of};
 ghost use Rattle.image_source.specs.LegCuts.{leg_crossings_of};
+ghost use Rattle.std.specs.List.{list_any};
+ghost use Rattle.scene_geom.specs.declared.band.Band.{Band};
+ghost use Rattle.path_calc.specs.LateralPaths.{is_in_the_way};
+ghost use Rattle.path_calc.specs.Strings.{is_within};
 
+use crate::blocked::{blocking, blocking_near};
 use image_source::{Leg, Mirror, leg_crossings, leg_crossings_near};
 use part_grid::{Found, Grid};
 use scene_book::Scene;
-use scene_parts::{Crossing, Ends, Foliage, Globals, NoMemory, Obstacle, PointSource, Zone};
+use scene_geom::Pt;
+use scene_parts::{
+    Breadth, Crossing, Ends, Foliage, Globals, NoMemory, Obstacle, PointSource, Zone,
+};
 use sight_cut::{crossings, crossings_near};
 use std::alloc::Global;
 use std::marker::Model;
@@ -128,6 +136,25 @@ impl<'a> IndexedScene<'a> {
         match self.grid {
             Some(grid) => leg_crossings_near(alloc, grid, obstacles, mirror, ends, found),
             None => leg_crossings(alloc, obstacles, mirror, ends),
+        }
+    }
+
+    /// How broad those obstacles are that are in the way of the string which turns at these corners: in a band in which
+    /// one of them is large enough, sound doesn't go along it. The buffers are lent to the search.
+    pub(crate) fn blocking(
+        &self,
+        alloc: Global,
+        ends: Ends,
+        corners: &[Pt],
+        found: &mut Found,
+    ) -> Result<Vec<Breadth>, NoMemory>
+        ensures { IfOk result (λ blocking. (band : Band) → list_any (is_within band) blocking.items
+            ≡ list_any (is_in_the_way band ends corners.now) self.now.obstacles) }
+    {
+        let obstacles = self.scene.obstacles();
+        match self.grid {
+            Some(grid) => blocking_near(alloc, grid, obstacles, ends, corners, found),
+            None => blocking(alloc, obstacles, ends, corners),
         }
     }
 }

@@ -7,11 +7,13 @@ ghost use Rattle.scene_geom.specs.Bands.{all_bands};
 ghost use Rattle.path_calc.specs.Strings.{AreStretched, lateral_of, both_of, d_z_over, numbers_in};
 ghost use Rattle.path_calc.specs.Tracing.{segments_after, segments_in_band};
 
+use crate::indexed::IndexedScene;
 use crate::segments::Segs;
 use crate::strings::Strings;
 use fix_interval::Iv;
+use part_grid::Found;
 use scene_geom::Band;
-use scene_parts::{Crossing, Ends, NoMemory, Obstacle};
+use scene_parts::{Crossing, Ends, NoMemory};
 use std::alloc::Global;
 
 /// By how much sound is screened in a band that goes round the left and the right, where it does: D_z in dB.
@@ -21,12 +23,12 @@ pub(crate) struct LateralScreening {
     pub(crate) right: Option<Iv>,
 }
 
-/// What all bands share of a line of sight: the obstacles, the ends, the crossings, and how far source and receiver are
+/// What all bands share of a line of sight: the scene, the ends, the crossings, and how far source and receiver are
 /// apart in metres.
 #[derive(Drop)]
 struct Sight<'a> {
     alloc: Global,
-    obstacles: &'a [Obstacle],
+    scene: &'a IndexedScene<'a>,
     ends: Ends,
     crossings: &'a [Crossing],
     d: Iv,
@@ -39,49 +41,50 @@ impl<'a> Sight<'a> {
         &self,
         strings: &mut Strings,
         band: Band,
+        found: &mut Found,
         trace: &mut Segs,
     ) -> Result<LateralScreening, NoMemory>
         requires source_height { IsHeight self.now.ends.hs }
         requires receiver_height { IsHeight self.now.ends.hr }
         requires distance { IsOnMap self.now.d }
-        requires strings { AreStretched strings.old self.now.ends self.now.obstacles.now }
-        requires crossings { self.now.crossings.now ≡ crossings_of self.now.ends self.now.obstacles.now }
-        ensures strings { OnOk result (AreStretched strings.new self.now.ends self.now.obstacles.now) }
+        requires strings { AreStretched strings.old self.now.ends self.now.scene.now.obstacles }
+        requires crossings { self.now.crossings.now ≡ crossings_of self.now.ends self.now.scene.now.obstacles }
+        ensures strings { OnOk result (AreStretched strings.new self.now.ends self.now.scene.now.obstacles) }
         ensures numbers { OnOk result
-            (strings.new.numbers.items ≡ numbers_in band (crossings_of self.now.ends self.now.obstacles.now)) }
+            (strings.new.numbers.items ≡ numbers_in band (crossings_of self.now.ends self.now.scene.now.obstacles)) }
         ensures trace { OnOk result (trace.new ≡ trace.old
-            ++ segments_after strings.old.numbers.items self.now.ends self.now.obstacles.now band) }
+            ++ segments_after strings.old.numbers.items self.now.ends self.now.scene.now.obstacles band) }
         ensures value { IfOk result (λ lateral. both_of lateral
-            ≡ d_z_over self.now.ends self.now.obstacles.now self.now.d band) }
+            ≡ d_z_over self.now.ends self.now.scene.now.obstacles self.now.d band) }
         ensures bounds { IfOk result IsLateralScreening }
     {
-        let (alloc, obstacles, ends) = (self.alloc, self.obstacles, self.ends);
-        strings.turn_to(alloc, obstacles, ends, self.crossings, band, trace)?;
+        let (alloc, scene, ends) = (self.alloc, self.scene, self.ends);
+        strings.turn_to(alloc, scene, ends, self.crossings, band, found, trace)?;
         Ok(strings.d_z(self.ends, self.d, band))
     }
 
     /// D_z round the sides in each band. Bands in which the same obstacles screen share their strings. The segments of all
     /// strings are added to the trace.
-    fn d_z(&self, trace: &mut Segs) -> Result<Vec<LateralScreening>, NoMemory>
+    fn d_z(&self, found: &mut Found, trace: &mut Segs) -> Result<Vec<LateralScreening>, NoMemory>
         requires source_height { IsHeight self.now.ends.hs }
         requires receiver_height { IsHeight self.now.ends.hr }
         requires distance { IsOnMap self.now.d }
-        requires crossings { self.now.crossings.now ≡ crossings_of self.now.ends self.now.obstacles.now }
+        requires crossings { self.now.crossings.now ≡ crossings_of self.now.ends self.now.scene.now.obstacles }
         ensures value { IfOk result (λ lateral. (band : Band) → both_of (lateral_of lateral.items band)
-            ≡ d_z_over self.now.ends self.now.obstacles.now self.now.d band) }
+            ≡ d_z_over self.now.ends self.now.scene.now.obstacles self.now.d band) }
         ensures bounds { IfOk result (λ lateral. All IsLateralScreening lateral.items) }
         ensures trace { OnOk result (trace.new ≡ trace.old
-            ++ flat_map (segments_in_band self.now.ends self.now.obstacles.now) all_bands) }
+            ++ flat_map (segments_in_band self.now.ends self.now.scene.now.obstacles) all_bands) }
     {
         let mut strings = Strings::none(self.alloc);
-        let at_63 = self.d_z_in(&mut strings, Band::Hz63, trace)?;
-        let at_125 = self.d_z_in(&mut strings, Band::Hz125, trace)?;
-        let at_250 = self.d_z_in(&mut strings, Band::Hz250, trace)?;
-        let at_500 = self.d_z_in(&mut strings, Band::Hz500, trace)?;
-        let at_1000 = self.d_z_in(&mut strings, Band::Hz1000, trace)?;
-        let at_2000 = self.d_z_in(&mut strings, Band::Hz2000, trace)?;
-        let at_4000 = self.d_z_in(&mut strings, Band::Hz4000, trace)?;
-        let at_8000 = self.d_z_in(&mut strings, Band::Hz8000, trace)?;
+        let at_63 = self.d_z_in(&mut strings, Band::Hz63, found, trace)?;
+        let at_125 = self.d_z_in(&mut strings, Band::Hz125, found, trace)?;
+        let at_250 = self.d_z_in(&mut strings, Band::Hz250, found, trace)?;
+        let at_500 = self.d_z_in(&mut strings, Band::Hz500, found, trace)?;
+        let at_1000 = self.d_z_in(&mut strings, Band::Hz1000, found, trace)?;
+        let at_2000 = self.d_z_in(&mut strings, Band::Hz2000, found, trace)?;
+        let at_4000 = self.d_z_in(&mut strings, Band::Hz4000, found, trace)?;
+        let at_8000 = self.d_z_in(&mut strings, Band::Hz8000, found, trace)?;
         let in_bands = [
             at_63, at_125, at_250, at_500, at_1000, at_2000, at_4000, at_8000,
         ];
@@ -91,34 +94,35 @@ impl<'a> Sight<'a> {
 
 /// D_z round the sides in each band, of the obstacles that screen there, where source and receiver are `d` apart in
 /// metres. Where nothing crosses the line of sight, the list is empty: most paths need no memory for it. The segments of
-/// all strings are added to the trace.
+/// all strings are added to the trace. The buffers are lent to the search of what stands near the strings.
 pub(crate) fn lateral_screening(
     alloc: Global,
-    obstacles: &[Obstacle],
+    scene: &IndexedScene<'_>,
     ends: Ends,
     crossings: &[Crossing],
     d: Iv,
+    found: &mut Found,
     trace: &mut Segs,
 ) -> Result<Vec<LateralScreening>, NoMemory>
     requires source_height { IsHeight ends.hs }
     requires receiver_height { IsHeight ends.hr }
     requires distance { IsOnMap d }
-    requires crossings { crossings.now ≡ crossings_of ends obstacles.now }
+    requires crossings { crossings.now ≡ crossings_of ends scene.now.obstacles }
     ensures value { IfOk result (λ lateral. (band : Band)
-        → both_of (lateral_of lateral.items band) ≡ d_z_over ends obstacles.now d band) }
+        → both_of (lateral_of lateral.items band) ≡ d_z_over ends scene.now.obstacles d band) }
     ensures bounds { IfOk result (λ lateral. All IsLateralScreening lateral.items) }
     ensures trace { OnOk result (trace.new ≡ trace.old
-        ++ flat_map (segments_in_band ends obstacles.now) all_bands) }
+        ++ flat_map (segments_in_band ends scene.now.obstacles) all_bands) }
 {
     if crossings.is_empty() {
         return Ok(Vec::new(alloc));
     }
     let sight = Sight {
         alloc,
-        obstacles,
+        scene,
         ends,
         crossings,
         d,
     };
-    sight.d_z(trace)
+    sight.d_z(found, trace)
 }

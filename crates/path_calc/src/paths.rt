@@ -67,10 +67,11 @@ pub(crate) fn paths_between(
     trace.push(Seg::Straight(source.at, receiver.at))?;
     let lateral = lateral_screening(
         alloc,
-        scene.obstacles(),
+        scene,
         ends,
         crossings.as_slice(),
         distance,
+        found,
         trace,
     )?;
     let reflected = between.reflected(found)?;

@@ -4,23 +4,22 @@ ghost use Rattle.std.specs.Bool.{OnTrue};
 ghost use Rattle.std.specs.List.{list_any};
 ghost use Rattle.scene_parts.specs.Ranges.{IsHeight};
 ghost use Rattle.scene_parts.specs.Views.{Obstacle as ObstacleView};
-ghost use Rattle.scene_parts.specs.Sides.{sides_of};
-ghost use Rattle.edge_chain.specs.Chain.{blocks_chain};
 ghost use Rattle.term_barrier.specs.Limits.{IsScreening};
-ghost use Rattle.path_calc.specs.LateralPaths.{is_in_the_way};
 ghost use Rattle.path_calc.specs.Ranges.{IsOnMap, IsShort, IsLateralScreening};
 ghost use Rattle.path_calc.specs.Strings.{numbers_in as numbers_of, IsStretched, AreStretched};
 ghost use Rattle.path_calc.specs.Trace.{string_segments};
 ghost use Rattle.path_calc.specs.Tracing.{same_numbers, segments_between};
 ghost use Rattle.path_calc.specs.Strings.{is_within, leads_along, d_z_round, lateral_in};
 
+use crate::indexed::IndexedScene;
 use crate::lateral::LateralScreening;
 use crate::screening_obstacles::{corners_at, numbers_in};
 use crate::segments::{Seg, Segs};
-use edge_chain::{Hand, chain, is_blocked};
+use edge_chain::{Hand, chain};
 use fix_interval::Iv;
+use part_grid::Found;
 use scene_geom::{Band, Pt};
-use scene_parts::{Breadth, Crossing, Ends, NoMemory, Obstacle, side_of, sides};
+use scene_parts::{Breadth, Crossing, Ends, NoMemory};
 use std::alloc::Global;
 use term_barrier::d_z_side;
 
@@ -57,16 +56,18 @@ impl Strings {
     /// The strings round the obstacles of these numbers.
     fn round(
         alloc: Global,
-        obstacles: &[Obstacle],
+        scene: &IndexedScene<'_>,
         ends: Ends,
         numbers: Vec<u32>,
+        found: &mut Found,
     ) -> Result<Strings, NoMemory>
         ensures numbers { IfOk result (λ strings. strings.numbers.items ≡ numbers.items) }
-        ensures stretched { IfOk result (λ strings. AreStretched strings ends obstacles.now) }
+        ensures stretched { IfOk result (λ strings. AreStretched strings ends scene.now.obstacles) }
     {
-        let points = corners_at(alloc, obstacles, numbers.as_slice())?;
-        let left = Stretched::round(alloc, obstacles, ends, points.as_slice(), Hand::Left)?;
-        let right = Stretched::round(alloc, obstacles, ends, points.as_slice(), Hand::Right)?;
+        let points = corners_at(alloc, scene.obstacles(), numbers.as_slice())?;
+        let points = points.as_slice();
+        let left = Stretched::round(alloc, scene, ends, points, Hand::Left, found)?;
+        let right = Stretched::round(alloc, scene, ends, points, Hand::Right, found)?;
         Ok(Strings {
             numbers,
             left,
@@ -75,25 +76,26 @@ impl Strings {
     }
 
     /// The strings in another band, with these crossings: they stay where the same obstacles screen there. Else others are
-    /// stretched, and their segments are added to the trace.
+    /// stretched, and their segments are added to the trace. The buffers are lent to the search of what stands near them.
     pub(crate) fn turn_to(
         &mut self,
         alloc: Global,
-        obstacles: &[Obstacle],
+        scene: &IndexedScene<'_>,
         ends: Ends,
         crossings: &[Crossing],
         band: Band,
+        found: &mut Found,
         trace: &mut Segs,
     ) -> Result<(), NoMemory>
-        requires { AreStretched self.old ends obstacles.now }
+        requires { AreStretched self.old ends scene.now.obstacles }
         ensures numbers { OnOk result (self.new.numbers.items ≡ numbers_of band crossings.now) }
-        ensures stretched { OnOk result (AreStretched self.new ends obstacles.now) }
+        ensures stretched { OnOk result (AreStretched self.new ends scene.now.obstacles) }
         ensures trace { OnOk result (trace.new ≡ trace.old
             ++ segments_between ends self.old.numbers.items self.new) }
     {
         let numbers = numbers_in(alloc, crossings, band)?;
         if !are_same(numbers.as_slice(), self.numbers.as_slice()) {
-            *self = Strings::round(alloc, obstacles, ends, numbers)?;
+            *self = Strings::round(alloc, scene, ends, numbers, found)?;
             self.left.add_to(trace, ends)?;
             self.right.add_to(trace, ends)?;
         }
@@ -132,18 +134,19 @@ impl Stretched {
     /// The string round some points on a hand.
     fn round(
         alloc: Global,
-        obstacles: &[Obstacle],
+        scene: &IndexedScene<'_>,
         ends: Ends,
         points: &[Pt],
         hand: Hand,
+        found: &mut Found,
     ) -> Result<Stretched, NoMemory>
-        ensures { IfOk result (λ string. IsStretched string ends obstacles.now points.now hand) }
+        ensures { IfOk result (λ string. IsStretched string ends scene.now.obstacles points.now hand) }
     {
         let corners = chain(alloc, points, ends.s, ends.r, hand)?;
         if corners.as_slice().is_empty() {
             return Ok(Stretched::none(alloc));
         }
-        let blocking = blocking(alloc, obstacles, ends, corners.as_slice())?;
+        let blocking = scene.blocking(alloc, ends, corners.as_slice(), found)?;
         Ok(Stretched { corners, blocking })
     }
 
@@ -187,37 +190,6 @@ fn are_same(a: &[u32], b: &[u32]) -> bool
     ensures same { OnTrue result (a.now ≡ b.now) }
 {
     a == b
-}
-
-/// How broad those obstacles are of which a side crosses a segment of the string that turns at these corners.
-fn blocking(
-    alloc: Global,
-    obstacles: &[Obstacle],
-    ends: Ends,
-    corners: &[Pt],
-) -> Result<Vec<Breadth>, NoMemory>
-    ensures { IfOk result (λ found. (band : Band) → list_any (is_within band) found.items
-        ≡ list_any (is_in_the_way band ends corners.now) obstacles.now) }
-{
-    let mut found = Vec::new(alloc);
-    for obstacle in obstacles {
-        if obstructs(obstacle, ends, corners) {
-            found.push(Breadth::of(obstacle, ends.s, ends.r))?;
-        }
-    }
-    Ok(found)
-}
-
-/// Whether a side of an obstacle crosses a segment of a string.
-fn obstructs(obstacle: &Obstacle, ends: Ends, corners: &[Pt]) -> bool
-    ensures { result ≡ list_any (blocks_chain corners.now ends.s ends.r) (sides_of obstacle.now) }
-{
-    for i in 0..sides(obstacle) {
-        if is_blocked(corners, ends.s, ends.r, side_of(obstacle, i)) {
-            return true;
-        }
-    }
-    false
 }
 
 /// Whether one of some obstacles is large enough in a band.

@@ -61,8 +61,8 @@ pub fn cuts_near(
     cuts_in(alloc, crossings.as_slice(), band)
 }
 
-/// What `crossings` gives, by the index of the obstacles: of their sides only those near the line of sight are looked at.
-/// The buffers are lent to the search.
+/// What `crossings` gives, by the index of the obstacles: only the sides near the line of sight are looked at. The
+/// buffers are lent to the search.
 pub fn crossings_near(
     alloc: Global,
     grid: &Grid,

@@ -3,7 +3,7 @@ use Rattle.std.specs.Prelude.{All, flat_map, pos}
 use Rattle.fix_interval.specs.Tree.{enc}
 use Rattle.scene_geom.specs.declared.band.Band.{Band}
 use Rattle.scene_geom.specs.Bands.{all_bands}
-use Rattle.scene_parts.specs.Views.{Source, Receiver, Obstacle}
+use Rattle.scene_parts.specs.Views.{Source, Receiver}
 use Rattle.scene_geom.specs.declared.fraction.Frac.{Frac}
 use Rattle.scene_geom.specs.Fraction.{over}
 use Rattle.path_shape.specs.Shape.{direct_path, plan_square}
@@ -52,7 +52,6 @@ returns-clause-value c =
           (c.in_ok-direct.ensures.value ∙ ap (λ (q : Frac). propagation_along book c.direct-path.result q d found) square ∙ ap (λ (p : Path). propagation_along book p (direct_square s r) d found) path);
       lateral = λ (band : Band). lateral-is (record { direct = c.in_ok-direct.direct; lateral = c.in_ok-lateral.lateral; reflected = c.in_ok-reflected.reflected }) book s r d band length (
           c.in_ok-lateral.ensures.value band
-          ∙ ap (λ (os : List Obstacle). d_z_over (record { s = c.source.inside.at; hs = c.source.inside.h; r = c.receiver.inside.at; hr = c.receiver.inside.h }) os d band) c.obstacles.ensures.value
           ∙ ap (λ (e : Ends). d_z_over e book.obstacles d band) ends);
       reflected = c.in_ok-reflected.ensures.value ∙ ap (λ (e : Ends). map (reflected_of book.globals e) (reflected_paths book e)) ends;
     }
@@ -68,7 +67,6 @@ returns-clause-trace c =
     trace-whole c.args.trace.now c.push.new.self c.lateral_screening.new.trace c.add_walls.new.trace book s r
     (c.in_ok-push.ensures ∙ ap (λ (e : Ends). c.args.trace.now ++ Straight e.s e.r ∷ []) ends)
     (c.in_ok-lateral.ensures.trace
-    ∙ ap (λ (os : List Obstacle). c.push.new.self ++ flat_map (segments_in_band there os) all_bands) c.obstacles.ensures.value
     ∙ ap (λ (e : Ends). c.push.new.self ++ flat_map (segments_in_band e book.obstacles) all_bands) ends)
     (c.in_ok-add_walls.ensures
     ∙ ap (λ (found : List Reflected). c.lateral_screening.new.trace ++ map (λ (path : Reflected). path.wall) found)

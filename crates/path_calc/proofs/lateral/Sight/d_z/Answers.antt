@@ -6,12 +6,12 @@ use Rattle.path_calc.proofs.Tracing.{numbers-placed, none-before, after-is, eigh
 use Rattle.path_calc.proofs.lateral.Sight.d_z.Goals as goal
 
 pub d_z_in-requires-clause-strings : goal.d_z_in-requires-clause-strings
-d_z_in-requires-clause-strings c = c.none-strings.ensures.stretched c.args.self.now.ends c.args.self.now.obstacles.now
+d_z_in-requires-clause-strings c = c.none-strings.ensures.stretched c.args.self.now.ends c.args.self.now.scene.now.obstacles
 
 pub returns-clause-trace : goal.returns-clause-trace
 returns-clause-trace c =
     let ends = c.args.self.now.ends in
-    let obstacles = c.args.self.now.obstacles.now in
+    let obstacles = c.args.self.now.scene.now.obstacles in
     eight-added (segments_in_band ends obstacles) c.args.trace.now c.d_z_in.new.trace c.d_z_in-2.new.trace c.d_z_in-3.new.trace c.d_z_in-4.new.trace
     c.d_z_in-5.new.trace c.d_z_in-6.new.trace c.d_z_in-7.new.trace c.d_z_in-8.new.trace
     (c.in_ok-at_63.ensures.trace ∙ ap (λ (l : List Seg). c.args.trace.now ++ l) (after-is Hz63 ends obstacles _ (none-before ends obstacles _ c.none-strings.ensures.numbers)))

@@ -4,7 +4,7 @@ use Rattle.std.specs.List.{list_any}
 use Rattle.scene_geom.specs.declared.band.Band.{Band}
 use Rattle.path_calc.specs.LateralPaths.{is_in_the_way}
 use Rattle.path_calc.specs.Strings.{is_within}
-use Rattle.path_calc.proofs.strings.blocking.Given as goal
+use Rattle.path_calc.proofs.blocked.blocking.Given as goal
 
 abbrev pub invariant-loop-obstacle : goal.invariant-loop-obstacle
 invariant-loop-obstacle l = (band : Band)

@@ -1,7 +1,7 @@
 use Rattle.edge_chain.specs.Chain.{blocks_chain}
 use Rattle.scene_parts.specs.Sides.{sides_of}
 use Rattle.path_calc.proofs.Stretching.{side-crosses, side-passed}
-use Rattle.path_calc.proofs.strings.obstructs.Goals as goal
+use Rattle.path_calc.proofs.blocked.obstructs.Goals as goal
 
 pub returns-then-is_blocked : goal.returns-then-is_blocked
 returns-then-is_blocked c =
