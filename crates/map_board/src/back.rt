@@ -1,5 +1,6 @@
 //! Jobs and answers that come back to the rows of a board: what they have in common.
 ghost use Rattle.std.specs.Prelude.{◌≡◌, ◌+◌, ◌<◌, ◌^◌, length, slice_get, Some};
+ghost use Rattle.scene_book.specs.Lists.{named};
 ghost use Rattle.map_board.specs.Back.{row_with, SuitsAt};
 ghost use Rattle.map_board.specs.Journal.{first_naming};
 ghost use Rattle.map_board.specs.Log.{entries_after};
@@ -8,8 +9,9 @@ ghost use Rattle.map_board.specs.Rows.{row_named, version_out, with_row};
 use crate::later::entries_since;
 use crate::log::LogEntry;
 use crate::namings::first_naming;
-use crate::rows::{Back, find_receiver, put_back};
+use crate::rows::{Back, put_back};
 use crate::state::Board;
+use scene_book::Scene;
 
 /// Where a job or an answer comes back: the place of its row, and the edits since its version.
 pub(crate) struct Landing<'a> {
@@ -32,7 +34,7 @@ impl Board {
         ensures later { result.later.now ≡ entries_after self.now.journal version }
         ensures few { version + length result.later.now < 2 ^ 64 }
     {
-        let place = find_receiver(self.hold.scene.receivers(), name);
+        let place = place_in(&self.hold.scene, name);
         let later = entries_since(self.log.entries.as_slice(), self.version(), version);
         Landing { place, later }
     }
@@ -45,5 +47,15 @@ impl Board {
         } }
     {
         put_back(&mut self.rows[place], back);
+    }
+}
+
+/// The place of the receiver of a name, or the number of receivers where there is none.
+fn place_in(scene: &Scene, name: &[u8]) -> usize
+    ensures { slice_get scene.now.receivers result ≡ named (λ r. r.name) name.now scene.now.receivers }
+{
+    match scene.receiver_place(name) {
+        Some(place) => place,
+        None => scene.receivers().len(),
     }
 }

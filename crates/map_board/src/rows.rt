@@ -1,7 +1,6 @@
 //! The rows of a board.
-ghost use Rattle.std.specs.Prelude.{◌≡◌, ◌≤◌, false, Some, None, IsSome, IfSome, IfNone, length, slice_get, count_by};
+ghost use Rattle.std.specs.Prelude.{◌≡◌, ◌≤◌, false, Some, None, IsSome, IfSome, IfNone, length, count_by};
 ghost use Rattle.std.specs.List.{list_any};
-ghost use Rattle.scene_book.specs.Lists.{named};
 ghost use Rattle.map_board.specs.Back.{held_with};
 ghost use Rattle.map_board.specs.Boards.{held_shown, is_held_current, is_held_needy, is_held_out, is_held_unsettled, IsNeedyAt};
 
@@ -9,7 +8,6 @@ use crate::answers::Shown;
 use crate::scenes::PreparedScene;
 use path_cache::Bundle;
 use path_calc::Levels;
-use scene_parts::Receiver;
 use std::sync::Arc;
 
 /// The bundles of a receiver, and beside each whether an edit touched it since.
@@ -128,18 +126,6 @@ pub(crate) fn put_back(row: &mut HeldRow, back: Back)
     if kept.is_some() {
         row.kept = kept;
     }
-}
-
-/// The place of the receiver of a name, or the number of receivers where there is none.
-pub(crate) fn find_receiver(receivers: &[Receiver], name: &[u8]) -> usize
-    ensures { slice_get receivers.now result ≡ named (λ r. r.name) name.now receivers.now }
-{
-    for (place, receiver) in receivers.iter().enumerate() {
-        if name == receiver.name.items() {
-            return place;
-        }
-    }
-    receivers.len()
 }
 
 /// How many jobs were taken, answers kept, answers gone, and jobs given back. Each count stops at 2^64 - 1.

@@ -1,12 +1,12 @@
 -- Things filed under their names: the entries of a map and the list of its values.
-use Rattle.std.proofs.Common.{◌≡◌, ℕ, refl, sym, ◌∙◌, ap, Bool, true, false, cond, List, [], ◌∷◌, ◌++◌}
-use Rattle.std.specs.Prelude.{bytes_eq, Vec}
-use Rattle.std.specs.List.{IsDistinct, AllByRecursion}
+use Rattle.std.proofs.Common.{◌≡◌, ℕ, refl, sym, ◌∙◌, ap, Bool, true, false, cond, List, [], ◌∷◌, ◌++◌, length, suc, Some, None}
+use Rattle.std.specs.Prelude.{bytes_eq, nat_lt, Vec}
+use Rattle.std.specs.List.{IsDistinct, AllByRecursion, position, position_or_len}
 use Rattle.std.specs.Map.{keys_of, lookup, values_of, remove_entry}
 use Rattle.std.specs.declared.alloc.Global.{Global}
 use Rattle.std.proofs.lemmas.Slice.Eq.{bytes_eq-Decides}
 use Rattle.indexmap.specs.IndexMap.{insert_entry, insert_all}
-use Rattle.scene_book.specs.Lists.{named, put_in, put_all, take_out, NoneNamed, AreApart}
+use Rattle.scene_book.specs.Lists.{named, place_of, put_in, put_all, take_out, NoneNamed, AreApart}
 use Rattle.scene_book.specs.Filed.{AreFiled, same_key}
 
 abbrev pub is_key : List ℕ → Vec ℕ Global → Bool
@@ -16,6 +16,21 @@ module _ {T : Type 0} (name_of : T → List ℕ) where
   pub named-lookup : (name : List ℕ) (es : List (Vec ℕ Global × T)) → AreFiled name_of es → lookup (is_key name) es ≡ named name_of name (values_of es)
   named-lookup name [] h = refl
   named-lookup name (e ∷ es) h = rw (h.0, named-lookup name es h.1) refl
+
+  place-first : (name : List ℕ) (es : List (Vec ℕ Global × T)) → AreFiled name_of es
+      → position_or_len (is_key name) (keys_of es) ≡ position_or_len (λ thing. bytes_eq name (name_of thing)) (values_of es)
+  place-first name [] h = refl
+  place-first name (e ∷ es) h = rw (h.0, place-first name es h.1) refl
+
+  as-many : (es : List (Vec ℕ Global × T)) → length (keys_of es) ≡ length (values_of es)
+  as-many [] = refl
+  as-many (e ∷ es) = ap suc (as-many es)
+
+  pub place-lookup : (name : List ℕ) (es : List (Vec ℕ Global × T)) → AreFiled name_of es → position (is_key name) (keys_of es) ≡ place_of name_of name (values_of es)
+  place-lookup name es h =
+      let first = place-first name es h in
+      let count = as-many es in
+      λ i. cond (nat_lt (first i) (count i)) (Some (first i)) None
 
   put-step : (b : Bool) (e : Vec ℕ Global × T) (thing : T) (es rest : List (Vec ℕ Global × T)) (put : List T) → values_of rest ≡ put
       → values_of (cond b ((e.0, thing) ∷ es) (e ∷ rest)) ≡ cond b (thing ∷ values_of es) (e.1 ∷ put)

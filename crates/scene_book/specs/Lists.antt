@@ -1,9 +1,14 @@
 -- Lists of named things, in the order of insertion.
 use Rattle.std.specs.Prelude.{◌≡◌, ℕ, ◌+◌, false, bytes_eq, List, [], ◌∷◌, Option, if◌then◌else◌, find}
+use Rattle.std.specs.List.{position}
 
 -- the first thing of a name
 abbrev pub named : {A : Type 0} → (A → List ℕ) → List ℕ → List A → Option A
 named name_of name things = find (λ thing. bytes_eq name (name_of thing)) things
+
+-- the place of the first thing of a name
+abbrev pub place_of : {A : Type 0} → (A → List ℕ) → List ℕ → List A → Option ℕ
+place_of name_of name things = position (λ thing. bytes_eq name (name_of thing)) things
 
 -- a thing put in: in the place of the one of its name, else at the end
 abbrev pub put_in : {A : Type 0} → (A → List ℕ) → A → List A → List A

@@ -3,7 +3,7 @@ ghost use Rattle.std.specs.Prelude.{◌≡◌, ◌≤◌, List, [], ℕ, ◌+◌
 ghost use Rattle.std.specs.Option.{option_copied};
 ghost use Rattle.scene_parts.specs.declared.kinds.Class.{Class as ClassWord};
 ghost use Rattle.scene_book.specs.Applying.{room_in};
-ghost use Rattle.scene_book.specs.Lists.{named, put_in, take_out, put_all, AreApart};
+ghost use Rattle.scene_book.specs.Lists.{named, place_of, put_in, take_out, put_all, AreApart};
 
 use super::edits::EditFault;
 use super::filing::{filed, insert_all, key_of};
@@ -90,6 +90,13 @@ impl<T: Named> Register<T> {
         ensures { option_copied result ≡ named T.name_of name.now self.now }
     {
         self.things.get(name)
+    }
+
+    /// The place of the thing of a name.
+    pub fn place(&self, name: &[u8]) -> Option<usize>
+        ensures { result ≡ place_of T.name_of name.now self.now }
+    {
+        self.things.get_index_of(name)
     }
 
     /// Whether there are few enough once a thing is put, else `Full`.

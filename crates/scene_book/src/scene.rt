@@ -1,6 +1,6 @@
 //! The scene.
 ghost use Rattle.std.specs.Prelude.{◌≡◌, Ok, IfOk, OnOk, OnErr};
-ghost use Rattle.scene_book.specs.Lists.{named, put_in, take_out, AreApart};
+ghost use Rattle.scene_book.specs.Lists.{named, place_of, put_in, take_out, AreApart};
 ghost use Rattle.scene_book.specs.Book.{IsWithin, NamesAreApart, empty_book, side_total, with_setting};
 ghost use Rattle.scene_book.specs.Applying.{holder, class_of_shape, part_named, put_where_room, put_receivers as put_receivers_of, without_any, Leaves};
 
@@ -106,6 +106,13 @@ impl Scene {
         ensures apart { NamesAreApart self.now }
     {
         self.receivers.items()
+    }
+
+    /// The place of the receiver of a name.
+    pub fn receiver_place(&self, name: &[u8]) -> Option<usize>
+        ensures { result ≡ place_of (λ r. r.name) name.now self.now.receivers }
+    {
+        self.receivers.place(name)
     }
 
     /// What holds of the whole scene.

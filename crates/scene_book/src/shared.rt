@@ -2,7 +2,7 @@
 ghost use Rattle.std.specs.Prelude.{◌≡◌, ◌≤◌, [], ◌<◌, ◌^◌, length, IfOk, IfNone, OnOk, OnErr, is_some};
 ghost use Rattle.std.specs.Option.{option_copied};
 ghost use Rattle.scene_book.specs.Applying.{room_in};
-ghost use Rattle.scene_book.specs.Lists.{named, put_in, take_out, put_all, AreApart};
+ghost use Rattle.scene_book.specs.Lists.{named, place_of, put_in, take_out, put_all, AreApart};
 
 use super::edits::EditFault;
 use super::limits::at_most;
@@ -56,6 +56,16 @@ impl<T: Named> Shared<T> {
     {
         match &self.register {
             Some(register) => register.get(name),
+            None => None,
+        }
+    }
+
+    /// The place of the thing of a name.
+    pub fn place(&self, name: &[u8]) -> Option<usize>
+        ensures { result ≡ place_of T.name_of name.now self.now }
+    {
+        match &self.register {
+            Some(register) => register.place(name),
             None => None,
         }
     }
