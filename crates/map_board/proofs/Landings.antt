@@ -1,12 +1,12 @@
 -- Answers and jobs that come back to the rows of a board.
-use Rattle.std.proofs.Common.{◌≡◌, ℕ, zero, suc, ◌+◌, ◌-◌, ◌<◌, ◌≤◌, Bool, true, false, cond, List, [], ◌∷◌, length, get_or, take, drop, set, Some, None, refl, sym, ap, ◌∙◌, subst, arith, length-drop, ◌⊎◌, inl, inr}
+use Rattle.std.proofs.Common.{◌≡◌, ℕ, zero, suc, ◌+◌, ◌-◌, ◌<◌, ◌≤◌, Bool, true, false, cond, List, [], ◌∷◌, length, take, drop, set, Some, None, refl, sym, ap, ◌∙◌, subst, arith, length-drop, ◌⊎◌, inl, inr}
 use Rattle.std.specs.Prelude.{bytes_eq, Option, Contains, IsSome, IfSome, slice_get, is_some, unwrap_or, All}
 use Rattle.std.specs.Option.{option_map, option_and_then}
 use Rattle.std.specs.declared.sync.Arc.{Arc}
 use Rattle.std.specs.declared.alloc.Global.{Global}
 use Rattle.std.proofs.lemmas.List.{take_all, length-take-le}
 use Rattle.std.proofs.lemmas.List.Elements.{All-head, All-tail}
-use Rattle.std.proofs.lemmas.Option.{slice_get_within, get_or_from_slice_get}
+use Rattle.std.proofs.lemmas.Option.{slice_get_within}
 use Rattle.scene_parts.specs.Views.{Receiver}
 use Rattle.scene_book.specs.Book.{Book, empty_book}
 use Rattle.scene_book.specs.Lists.{named, AreApart}
@@ -39,7 +39,7 @@ use Rattle.map_board.proofs.Since.{right-later, touching-later, fresh-later, ans
 
 -- what contracts see of a board
 abbrev pub seen : Inside → State
-seen b = record { journal = b.past; rows = rows_of b.hold.value.scene.receivers b.rows.items; finished = b.finished; counts = counts_of b.counts }
+seen b = record { journal = b.past; rows = rows_of b.hold.value.scene.receivers b.rows; finished = b.finished; counts = counts_of b.counts }
 
 -- ---- where it comes back
 
@@ -114,10 +114,10 @@ pub record IsReached (journal : List Edit) (entries : List LogEntry) (version : 
   pub later : drop (length entries - (length journal - version)) entries ≡ entries_after journal version
 
 -- the log reaches back to a version that is out
-pub reached : (b : Inside) → IsBoard b.version b.past b.hold.value.scene b.rows.items b.log b.namings.items → (name : List ℕ) (version : ℕ)
+pub reached : (b : Inside) → IsBoard b.version b.past b.hold.value.scene b.rows b.log b.namings.items → (name : List ℕ) (version : ℕ)
     → version_out name (seen b).rows ≡ Some version → IsReached b.past b.log.entries.items version
 reached b board name version out =
-    let within = out-within b.past b.hold.value.scene.receivers b.rows.items b.log.start version name board.each board.reaches out in
+    let within = out-within b.past b.hold.value.scene.receivers b.rows b.log.start version name board.each board.reaches out in
     let all = length-after b.past b.log.start board.logged.past in
     let count = ap length board.logged.entries in
     let before : length b.log.entries.items - (length b.past - version) ≡ version - b.log.start = omega (arith, all, count, within.from, within.past) in
@@ -281,39 +281,38 @@ held-row r back held = go back.kept held.kept where
   go None o = refl
   go (Some k) o = refl
 
-module _ (b : Inside) (board : IsBoard b.version b.past b.hold.value.scene b.rows.items b.log b.namings.items) (place : ℕ) (back : Back)
+module _ (b : Inside) (board : IsBoard b.version b.past b.hold.value.scene b.rows b.log b.namings.items) (place : ℕ) (back : Back)
     (suits : SuitsAt (seen b) place back) where
-  at : At b.past b.hold.value.scene.receivers b.rows.items place
-  at = at-place b.past b.hold.value.scene.receivers b.rows.items place suits.row board.each suits.there
+  pub at : At b.past b.hold.value.scene.receivers b.rows place
+  at = at-place b.past b.hold.value.scene.receivers b.rows place suits.row board.each suits.there
 
   row-is : row_of at.r at.held ≡ suits.row
   row-is = cc (at.row, suits.there)
 
-  pub place-below : place < length b.rows.items
-  place-below = slice_get_within b.rows.items place at.held at.there
+  pub place-below : place < length b.rows
+  place-below = slice_get_within b.rows place at.held at.there
 
-  module _ (x new : HeldRow) (x_is : x ≡ get_or b.rows.items place x) (new_is : new ≡ held_with back x) where
-    is : new ≡ held_with back at.held
-    is = new_is ∙ ap (held_with back) (x_is ∙ get_or_from_slice_get b.rows.items place at.held x at.there)
+  -- the rows with it
+  abbrev pub rows-back : List HeldRow
+  rows-back = set b.rows place (held_with back at.held)
 
-    holds : RowHolds b.past at.r new
-    holds =
-        let r_is : at.r ≡ suits.row.receiver = ap (λ (row : Row). row.receiver) row-is in
-        subst (RowHolds b.past at.r) (sym is)
-        (subst (λ (r : Receiver). RowHolds b.past r (held_with back at.held)) (sym r_is)
-        (suits.holds at.held board.accepted ((λ i. row_of (sym r_is i) at.held) ∙ row-is) (subst (λ (r : Receiver). RowHolds b.past r at.held) r_is at.holds)))
+  holds : RowHolds b.past at.r (held_with back at.held)
+  holds =
+      let r_is : at.r ≡ suits.row.receiver = ap (λ (row : Row). row.receiver) row-is in
+      subst (λ (r : Receiver). RowHolds b.past r (held_with back at.held)) (sym r_is)
+      (suits.holds at.held board.accepted ((λ i. row_of (sym r_is i) at.held) ∙ row-is) (subst (λ (r : Receiver). RowHolds b.past r at.held) r_is at.holds))
 
-    -- another row stands there
-    pub board-with : IsBoard b.version b.past b.hold.value.scene (set b.rows.items place new) b.log b.namings.items
-    board-with =
-        board-set b.version b.past b.hold.value.scene b.rows.items b.log b.namings.items place at.r new board at.receiver holds (subst (IsOutSince b.log.start) (sym is) tt)
+  -- another row stands there
+  pub board-with : IsBoard b.version b.past b.hold.value.scene rows-back b.log b.namings.items
+  board-with =
+      board-set b.version b.past b.hold.value.scene b.rows b.log b.namings.items place at.r (held_with back at.held) board at.receiver holds tt
 
-    -- contracts see the row of that place changed
-    pub rows-with : (row : Row) → slice_get (seen b).rows place ≡ Some row
-        → record (seen b) { rows = rows_of b.hold.value.scene.receivers (set b.rows.items place new) }
-        ≡ record (seen b) { rows = with_row row.receiver.name (row_with back.kept) (seen b).rows }
-    rows-with row there =
-        let same : row_of at.r at.held ≡ row = cc (at.row, there) in
-        let changed : row_of at.r new ≡ row_with back.kept (row_of at.r at.held) = ap (row_of at.r) is ∙ held-row at.r back at.held in
-        ap (λ rows. record (seen b) { rows = rows }) (rows-set b.hold.value.scene.receivers b.rows.items place at.r at.held new (row_with back.kept) board.apart at.receiver at.there changed)
-        ∙ ap (λ (y : Row). record (seen b) { rows = with_row y.receiver.name (row_with back.kept) (seen b).rows }) same
+  -- contracts see the row of that place changed
+  pub rows-with : (row : Row) → slice_get (seen b).rows place ≡ Some row
+      → record (seen b) { rows = rows_of b.hold.value.scene.receivers rows-back }
+      ≡ record (seen b) { rows = with_row row.receiver.name (row_with back.kept) (seen b).rows }
+  rows-with row there =
+      let same : row_of at.r at.held ≡ row = cc (at.row, there) in
+      let changed : row_of at.r (held_with back at.held) ≡ row_with back.kept (row_of at.r at.held) = held-row at.r back at.held in
+      ap (λ rows. record (seen b) { rows = rows }) (rows-set b.hold.value.scene.receivers b.rows place at.r at.held (held_with back at.held) (row_with back.kept) board.apart at.receiver at.there changed)
+      ∙ ap (λ (y : Row). record (seen b) { rows = with_row y.receiver.name (row_with back.kept) (seen b).rows }) same

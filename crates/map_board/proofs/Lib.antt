@@ -6,6 +6,7 @@ pub mod Keeping
 pub mod Lawful
 pub mod RowsRight
 pub mod Scanning
+pub mod Needy
 pub mod Places
 pub mod Taking
 pub mod Unmarked

@@ -1,12 +1,12 @@
 -- A job for a needy row, and the row after it was taken.
-use Rattle.std.proofs.Common.{◌≡◌, ℕ, suc, ◌+◌, ◌<◌, Bool, true, false, cond, List, [], ◌∷◌, length, get_or, take, set, Some, None, refl, sym, ap, ◌∙◌, subst, arith}
+use Rattle.std.proofs.Common.{◌≡◌, ℕ, suc, ◌+◌, ◌<◌, Bool, true, false, cond, List, [], ◌∷◌, length, take, set, Some, None, refl, sym, ap, ◌∙◌, subst, arith}
 use Rattle.std.specs.Prelude.{Option, Contains, IsSomeAnd, slice_get, is_some, not, ◌&&◌, count_by}
 use Rattle.std.specs.List.{list_any}
 use Rattle.std.specs.Option.{option_map}
 use Rattle.std.specs.declared.sync.Arc.{Arc}
 use Rattle.std.specs.declared.alloc.Global.{Global}
 use Rattle.std.proofs.lemmas.List.{take_all}
-use Rattle.std.proofs.lemmas.Option.{slice_get_within, get_or_from_slice_get}
+use Rattle.std.proofs.lemmas.Option.{slice_get_within}
 use Rattle.std.proofs.lemmas.List.Sums.{sum_by-cons}
 use Rattle.scene_parts.specs.Views.{Source, Receiver}
 use Rattle.scene_book.specs.Book.{Book, empty_book}
@@ -28,7 +28,7 @@ use Rattle.map_board.specs.Rows.{Row, State, row_named, with_row, one_more, show
 use Rattle.map_board.specs.Due.{is_due, due_of}
 use Rattle.map_board.specs.Jobs.{IsFit}
 use Rattle.map_board.specs.Machine.{with_out, TakesJob, IsIdle}
-use Rattle.map_board.specs.Boards.{kept_of, row_of, rows_of, counts_of, shown_by, is_held_needy, is_held_out, CacheIsRight, CacheIsThere, SceneIsThere, RowHolds, EachHolds, IsBoard, NeedyAt, IsNeedyAt}
+use Rattle.map_board.specs.Boards.{kept_of, row_of, rows_of, counts_of, shown_by, row_out, is_held_needy, is_held_out, CacheIsRight, CacheIsThere, SceneIsThere, RowHolds, EachHolds, IsBoard, NeedyAt, IsNeedyAt}
 use Rattle.map_board.proofs.Keeping.{none-of, this-row}
 use Rattle.map_board.proofs.Places.{At, at-place, held-at, held-needy, any-needy, count-held, each-lengths, rows-lengths, board-set, row-at, rows-set}
 use Rattle.map_board.proofs.RowsRight.{taken-right}
@@ -88,9 +88,6 @@ ready journal rs hs place row each there needy =
     }
 
 -- ---- the row after it
-
-abbrev pub row_out : ℕ → HeldRow → HeldRow
-row_out version held = record held { out = Some version; cache = None; hold = None }
 
 -- what is kept of a needy row is stale
 by-some : (kept : KeptLevels) (by : Option ℕ) (out : Bool) → (not (is_current (shown_since (kept_of kept) by)) && not out) ≡ true → is_some by ≡ true
@@ -159,35 +156,31 @@ idle-seen journal rs hs finished tally state count view each unfinished none cou
       out = counted ∙ sym (count-held journal rs hs each);
     })
 
--- what was taken out of the row at a place is what it had
-module _ (journal : List Edit) (scene : Book) (hs : List HeldRow) (place : ℕ) (same : scene ≡ newest_scene journal) (rdy : Ready journal scene.receivers hs place)
-    (x : HeldRow) (is : x ≡ get_or hs place x) where
-  pub item : x ≡ rdy.at.held
-  item = is ∙ get_or_from_slice_get hs place rdy.at.held x rdy.at.there
+-- what is taken out of the row at a place is what it has
+module _ (journal : List Edit) (scene : Book) (hs : List HeldRow) (place : ℕ) (same : scene ≡ newest_scene journal) (rdy : Ready journal scene.receivers hs place) where
+  pub has-cache : IsSomeAnd (slice_get hs place) (λ held. is_some held.cache ≡ true)
+  has-cache = subst (λ o. IsSomeAnd o (λ (held : HeldRow). is_some held.cache ≡ true)) (sym rdy.at.there) (ap (λ o. is_some o) rdy.cached)
 
-  pub has-cache : is_some x.cache ≡ true
-  has-cache = ap (λ (h : HeldRow). is_some h.cache) item ∙ ap (λ o. is_some o) rdy.cached
+  pub has-hold : IsSomeAnd (slice_get hs place) (λ held. is_some held.hold ≡ true)
+  has-hold = subst (λ o. IsSomeAnd o (λ (held : HeldRow). is_some held.hold ≡ true)) (sym rdy.at.there) (ap (λ o. is_some o) rdy.holds)
 
-  pub has-hold : is_some x.hold ≡ true
-  has-hold = ap (λ (h : HeldRow). is_some h.hold) item ∙ ap (λ o. is_some o) rdy.holds
+  pub cache-is : (cache : Cache) → rdy.at.held.cache ≡ Some cache → rdy.cache ≡ cache
+  cache-is cache found = let both : Some rdy.cache ≡ Some cache = sym rdy.cached ∙ found in cc both
 
-  pub cache-is : (cache : Cache) → x.cache ≡ Some cache → rdy.cache ≡ cache
-  cache-is cache found = let both : Some rdy.cache ≡ Some cache = sym (ap (λ (h : HeldRow). h.cache) item ∙ rdy.cached) ∙ found in cc both
+  pub hold-is : (hold : Arc PreparedScene Global) → rdy.at.held.hold ≡ Some hold → rdy.hold ≡ hold
+  hold-is hold found = let both : Some rdy.hold ≡ Some hold = sym rdy.holds ∙ found in cc both
 
-  pub hold-is : (hold : Arc PreparedScene Global) → x.hold ≡ Some hold → rdy.hold ≡ hold
-  hold-is hold found = let both : Some rdy.hold ≡ Some hold = sym (ap (λ (h : HeldRow). h.hold) item ∙ rdy.holds) ∙ found in cc both
-
-  pub scene-is : (hold : Arc PreparedScene Global) → x.hold ≡ Some hold → scene ≡ hold.value.scene
+  pub scene-is : (hold : Arc PreparedScene Global) → rdy.at.held.hold ≡ Some hold → scene ≡ hold.value.scene
   scene-is hold found = same ∙ (sym rdy.scene ∙ ap (λ (h : Arc PreparedScene Global). h.value.scene) (hold-is hold found))
 
-  pub place-within : (hold : Arc PreparedScene Global) → x.hold ≡ Some hold → place < length hold.value.scene.receivers
+  pub place-within : (hold : Arc PreparedScene Global) → rdy.at.held.hold ≡ Some hold → place < length hold.value.scene.receivers
   place-within hold found =
       subst (λ (book : Book). place < length book.receivers) (scene-is hold found) (slice_get_within scene.receivers place rdy.at.r rdy.at.receiver)
 
-  pub can-refresh : (cache : Cache) → x.cache ≡ Some cache → CanRefresh cache.bundles.items cache.marks.items
+  pub can-refresh : (cache : Cache) → rdy.at.held.cache ≡ Some cache → CanRefresh cache.bundles.items cache.marks.items
   can-refresh cache found = subst (λ (c : Cache). CanRefresh c.bundles.items c.marks.items) (cache-is cache found) rdy.right.can
 
-  pub are-within : (cache : Cache) (hold : Arc PreparedScene Global) → x.cache ≡ Some cache → x.hold ≡ Some hold → (r : Receiver)
+  pub are-within : (cache : Cache) (hold : Arc PreparedScene Global) → rdy.at.held.cache ≡ Some cache → rdy.at.held.hold ≡ Some hold → (r : Receiver)
       → slice_get hold.value.scene.receivers place ≡ Some r → AreWithin hold.value.scene r cache.bundles.items cache.marks.items
   are-within cache hold cached held r there =
       let at : slice_get scene.receivers place ≡ Some r = ap (λ (book : Book). slice_get book.receivers place) (scene-is hold held) ∙ there in

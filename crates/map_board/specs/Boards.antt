@@ -1,6 +1,6 @@
 -- What a board holds, and what it keeps.
-use Rattle.std.specs.Prelude.{◌≡◌, ℕ, ◌≤◌, Bool, true, ◌&&◌, ◌||◌, not, is_some, List, [], ◌∷◌, length, map, slice_get, All, Contains, IsSome, IsSomeAnd, IfSome, Option, Some, None}
-use Rattle.std.specs.List.{zip}
+use Rattle.std.specs.Prelude.{◌≡◌, ℕ, ◌≤◌, Bool, true, false, ◌&&◌, ◌||◌, not, is_some, List, [], ◌∷◌, length, map, take, slice_get, All, Contains, IsSome, IsSomeAnd, IfSome, Option, Some, None}
+use Rattle.std.specs.List.{zip, list_any}
 use Rattle.std.specs.Option.{option_map}
 use Rattle.scene_parts.specs.Views.{Source, Receiver}
 use Rattle.scene_book.specs.Book.{Book, empty_book}
@@ -149,3 +149,11 @@ pub record NeedyAt (state : State) (place : ℕ) : Type 0 where
 -- the held row at a place is needy
 abbrev pub IsNeedyAt : List HeldRow → ℕ → Type 0
 IsNeedyAt helds place = IsSomeAnd (slice_get helds place) (λ held. is_held_needy held ≡ true)
+
+-- none of the held rows before a place is needy
+abbrev pub NoneNeedyBefore : ℕ → List HeldRow → Type 0
+NoneNeedyBefore place helds = list_any is_held_needy (take place helds) ≡ false
+
+-- a held row with a job of a version out, which has its bundles and its scene
+abbrev pub row_out : ℕ → HeldRow → HeldRow
+row_out version held = record held { out = Some version; cache = None; hold = None }

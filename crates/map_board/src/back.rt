@@ -9,7 +9,7 @@ ghost use Rattle.map_board.specs.Rows.{row_named, version_out, with_row};
 use crate::later::entries_since;
 use crate::log::LogEntry;
 use crate::namings::first_naming;
-use crate::rows::{Back, put_back};
+use crate::rows::Back;
 use crate::state::Board;
 use scene_book::Scene;
 
@@ -46,7 +46,7 @@ impl Board {
           rows = with_row row.receiver.name (row_with back.kept) self.old.rows;
         } }
     {
-        put_back(&mut self.rows[place], back);
+        self.rows.put_back(place, back);
     }
 }
 

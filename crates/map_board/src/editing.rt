@@ -6,6 +6,7 @@ ghost use Rattle.map_board.specs.Journal.{newest_scene};
 ghost use Rattle.map_board.specs.Machine.{edited, EditsTo};
 ghost use Rattle.map_board.specs.Changes.{IsPlan};
 
+use crate::held_rows::HeldRows;
 use crate::namings::{NamedReceivers, named_receivers, note};
 use crate::past::Past;
 use crate::renewing::{Change, carry_over, fresh_rows, least_out};
@@ -69,11 +70,11 @@ impl Board {
             return Err(EditFault::NoMemory);
         }
         let plan = Plan::of(alloc, &self.hold.scene, &edit, self.version + 1)?;
-        Ok(self.carry_out(edit, plan)?)
+        Ok(self.carry_out(alloc, edit, plan)?)
     }
 
     /// Carries out the plan of an edit.
-    fn carry_out(&mut self, edit: Edit, plan: Plan) -> Result<u64, NoMemory>
+    fn carry_out(&mut self, alloc: Global, edit: Edit, plan: Plan) -> Result<u64, NoMemory>
         requires fits { suc (length self.old.journal) < 2 ^ 64 }
         requires plan { IsPlan edit (suc (length self.old.journal)) (newest_scene self.old.journal) plan }
         ensures version { IfOk result (λ version. version ≡ suc (length self.old.journal)) }
@@ -86,7 +87,7 @@ impl Board {
             old,
             named,
             hold,
-            rows,
+            mut rows,
         } = plan;
         self.version += 1;
         let change = Change {
@@ -95,14 +96,15 @@ impl Board {
             version: self.version,
             past: Snapshot::of(&self.past),
         };
-        let olds = mem::replace(&mut self.rows, rows);
+        let olds = mem::replace(&mut self.rows, HeldRows::of(Vec::new(alloc)));
         carry_over(
-            &mut self.rows,
-            olds,
+            &mut rows,
+            olds.into_vec(),
             self.hold.scene.receivers(),
             hold.scene.receivers(),
             &change,
         );
+        self.rows = HeldRows::of(rows);
         self.hold = hold;
         let Change {
             logged: Logged { edit, old },
@@ -113,7 +115,7 @@ impl Board {
         let (past, edit) = mem::replace(&mut self.past, Past::none()).and(edit);
         self.past = past;
         self.log.add(Logged { edit, old }, globals);
-        self.log.trim(least_out(&self.rows, version));
+        self.log.trim(least_out(self.rows.as_slice(), version));
         note(&mut self.namings, version, named);
         Ok(version)
     }

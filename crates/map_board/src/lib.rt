@@ -6,6 +6,7 @@ mod answers;
 mod back;
 mod calls;
 mod editing;
+mod held_rows;
 mod jobs;
 mod landing;
 mod later;

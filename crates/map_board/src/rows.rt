@@ -2,7 +2,7 @@
 ghost use Rattle.std.specs.Prelude.{◌≡◌, ◌≤◌, false, Some, None, IsSome, IfSome, IfNone, length, count_by};
 ghost use Rattle.std.specs.List.{list_any};
 ghost use Rattle.map_board.specs.Back.{held_with};
-ghost use Rattle.map_board.specs.Boards.{held_shown, is_held_current, is_held_needy, is_held_out, is_held_unsettled, IsNeedyAt};
+ghost use Rattle.map_board.specs.Boards.{held_shown, is_held_current, is_held_needy, is_held_out, is_held_unsettled, row_out, IsNeedyAt, NoneNeedyBefore};
 
 use crate::answers::Shown;
 use crate::scenes::PreparedScene;
@@ -96,7 +96,7 @@ pub(crate) fn take_row(row: &mut HeldRow, version: u64) -> (Cache, Arc<PreparedS
     requires hold { IsSome row.old.hold }
     ensures cache { row.old.cache ≡ Some result.0 }
     ensures hold { row.old.hold ≡ Some result.1 }
-    ensures row { row.new ≡ record row.old { out = Some version; cache = None; hold = None } }
+    ensures row { row.new ≡ row_out version row.old }
 {
     row.out = Some(version);
     let (Some(cache), Some(hold)) = (row.cache.take(), row.hold.take()) else {
@@ -137,13 +137,15 @@ pub(crate) struct Tally {
     pub back: u64,
 }
 
-/// The first row that is neither current nor out.
-pub(crate) fn first_needy(rows: &[HeldRow]) -> Option<usize>
+/// The first row from a place on that is neither current nor out.
+pub(crate) fn next_needy(rows: &[HeldRow], from: usize) -> Option<usize>
+    requires { NoneNeedyBefore from rows.now }
     ensures none { IfNone result (list_any is_held_needy rows.now ≡ false) }
     ensures some { IfSome result (λ place. IsNeedyAt rows.now place) }
+    ensures before { IfSome result (λ place. NoneNeedyBefore place rows.now) }
 {
-    for (place, row) in rows.iter().enumerate() {
-        if row.is_needy() {
+    for place in from..rows.len() {
+        if rows[place].is_needy() {
             return Some(place);
         }
     }

@@ -7,11 +7,12 @@ ghost use Rattle.map_board.specs.Boards.{is_unsettled, NeedyAt};
 
 use crate::answers::Shown;
 use crate::calls::Took;
+use crate::held_rows::HeldRows;
 use crate::jobs::Job;
 use crate::log::Log;
 use crate::namings::Naming;
 use crate::past::Past;
-use crate::rows::{HeldRow, Tally, count_out, first_needy, is_any_unsettled, take_row};
+use crate::rows::{Tally, count_out, is_any_unsettled};
 use crate::scenes::PreparedScene;
 use scene_book::Scene;
 use scene_parts::NoMemory;
@@ -25,7 +26,7 @@ use std::sync::Arc;
 pub struct Board {
     pub(crate) version: u64,
     pub(crate) hold: Arc<PreparedScene>,
-    pub(crate) rows: Vec<HeldRow>,
+    pub(crate) rows: HeldRows,
     pub(crate) finished: bool,
     pub(crate) counts: Tally,
     pub(crate) log: Log,
@@ -41,12 +42,12 @@ impl Model for Board {
 
     ghost view = { λ b. record {
       journal = b.past;
-      rows = rows_of b.hold.value.scene.receivers b.rows.items;
+      rows = rows_of b.hold.value.scene.receivers b.rows;
       finished = b.finished;
       counts = counts_of b.counts;
     } };
 
-    ghost invariant = { λ b. IsBoard b.version b.past b.hold.value.scene b.rows.items b.log b.namings.items };
+    ghost invariant = { λ b. IsBoard b.version b.past b.hold.value.scene b.rows b.log b.namings.items };
 }
 
 impl Board {
@@ -58,7 +59,7 @@ impl Board {
         Ok(Board {
             version: 0,
             hold: Arc::new(alloc, scene)?,
-            rows: Vec::new(alloc),
+            rows: HeldRows::of(Vec::new(alloc)),
             finished: false,
             counts: Tally {
                 taken: 0,
@@ -83,7 +84,7 @@ impl Board {
     pub fn rows(&self) -> u32
         ensures { result ≡ length self.now.rows }
     {
-        self.rows.len() as u32
+        self.rows.as_slice().len() as u32
     }
 
     /// How many jobs were taken, answers kept, answers gone, and jobs given back.
@@ -110,7 +111,7 @@ impl Board {
         requires { row < length self.now.rows }
         ensures { slice_get (map (shown_of self.now.journal) self.now.rows) row ≡ Some result }
     {
-        self.rows[row as usize].shown()
+        self.rows.as_slice()[row as usize].shown()
     }
 
     /// Whether no row is needy or out.
@@ -128,7 +129,7 @@ impl Board {
         if self.finished {
             return Took::Finished;
         }
-        match first_needy(self.rows.as_slice()) {
+        match self.rows.first_needy() {
             Some(place) => Took::Job(self.take_at(place)),
             None => Took::Idle {
                 taken: count_out(self.rows.as_slice()),
@@ -143,7 +144,7 @@ impl Board {
         ensures { TakesJob self.old result self.new }
     {
         let version = self.version;
-        let (cache, hold) = take_row(&mut self.rows[place], version);
+        let (cache, hold) = self.rows.take_row(place, version);
         self.counts.taken = self.counts.taken.saturating_add(1);
         Job::of(version, place as u32, hold, cache)
     }

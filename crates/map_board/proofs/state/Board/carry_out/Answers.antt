@@ -1,6 +1,5 @@
 use Rattle.std.proofs.Common.{◌≡◌, ℕ, ◌-◌, ◌≤◌, sym, ap, ◌∙◌, subst, arith, length, add-one, drop, List, [], ◌∷◌, ◌++◌, Ok}
-use Rattle.std.specs.Prelude.{All, Vec}
-use Rattle.std.specs.declared.alloc.Global.{Global}
+use Rattle.std.specs.Prelude.{All}
 use Rattle.std.proofs.lemmas.List.{length_push}
 use Rattle.scene_parts.specs.Views.{Receiver}
 use Rattle.scene_book.specs.Limits.{most_receivers}
@@ -22,11 +21,11 @@ least : (c : After-least_out) → c.self.inside.log.start ≤ c.least_out.result
 least c =
     let b = c.self.inside in
     let e = c.args.edit in
-    let rows = subst (λ (v : Vec HeldRow Global). All (IsOutSince b.log.start) v.items) (sym c.replace-olds.ensures.value) c.self.invariant.reaches in
-    let outs = outs-stay b.log.start e c.of.result.value (c.of.result.value ++ e ∷ []) c.receivers.result.now c.receivers-2.result.now c.replace-olds.result.items c.carry_over.new.made.items
+    let rows = subst (All (IsOutSince b.log.start)) (sym (c.into_vec.ensures ∙ c.replace-olds.ensures.value)) c.self.invariant.reaches in
+    let outs = outs-stay b.log.start e c.of.result.value (c.of.result.value ++ e ∷ []) c.receivers.result.now c.receivers-2.result.now c.into_vec.result.items c.carry_over.new.made.items
     rows c.carry_over.ensures.each c.carry_over.ensures.rows in
     c.least_out.ensures.start b.log.start (omega (arith, c.self.invariant.logged.past, c.self.invariant.newest))
-    (subst (All (IsOutSince b.log.start)) (sym c.deref-4.ensures.value) outs)
+    (subst (All (IsOutSince b.log.start)) (sym (c.as_slice.ensures ∙ c.of-3.ensures)) outs)
 
 pub trim-requires-clause-from : goal.trim-requires-clause-from
 trim-requires-clause-from c =
@@ -35,7 +34,7 @@ trim-requires-clause-from c =
 pub trim-requires-clause-to : goal.trim-requires-clause-to
 trim-requires-clause-to c =
     let b = c.self.inside in
-    let count = log-count b.version b.past b.hold.value.scene b.rows.items b.log b.namings.items c.self.invariant in
+    let count = log-count b.version b.past b.hold.value.scene b.rows b.log b.namings.items c.self.invariant in
     let more = ap length c.add.ensures.entries ∙ length_push c.reserve.new.self.entries.items (record { logged = record { edit = c.and-past.result.1; old = c.args.plan.old }; globals = c.globals.result.now }) in
     let same = ap length c.reserve.ensures.entries in
     omega (arith, count, more, same, c.add.ensures.start, c.reserve.ensures.start, c.least_out.ensures.newest, c.self.invariant.newest)
@@ -54,13 +53,13 @@ invariant_of-self-2 c =
     let entries = c.add.ensures.entries
     ∙ (λ i. c.reserve.ensures.entries i ++ record { logged = record { edit = c.and-past.ensures.edit i; old = plan.old }; globals = c.globals.result.now } ∷ []) in
     let past : b.past ++ e ∷ [] ≡ c.and-past.result.0 = ap (λ (j : List Edit). j ++ e ∷ []) (sym c.replace.ensures.value) ∙ sym c.and-past.ensures.past in
-    subst (λ (x : ℕ × List Edit). IsBoard x.0 x.1 plan.hold.value.scene c.carry_over.new.made.items c.trim.new.self c.note.new.namings.items)
-    (λ i. (sym (add-one b.version) i, past i))
-    (board-after b.version b.past b.hold.value.scene b.rows.items b.log b.namings.items c.self.invariant e plan.old plan.hold.value.scene accepted c.globals.result.now globals
+    subst (λ (x : ℕ × List Edit × List HeldRow). IsBoard x.0 x.1 plan.hold.value.scene x.2 c.trim.new.self c.note.new.namings.items)
+    (λ i. (sym (add-one b.version) i, past i, sym c.of-3.ensures i))
+    (board-after b.version b.past b.hold.value.scene b.rows b.log b.namings.items c.self.invariant e plan.old plan.hold.value.scene accepted c.globals.result.now globals
     c.carry_over.new.made.items c.trim.new.self c.note.new.namings.items c.least_out.result
     (subst (λ (h : PreparedScene). length h.scene.receivers ≤ most_receivers) c.deref-3.ensures c.receivers-2.ensures.within.receivers)
     (subst (λ (h : PreparedScene). AreApart (λ r. r.name) h.scene.receivers) c.deref-3.ensures c.receivers-2.ensures.apart.receivers)
-    each (subst (All (IsOutSince c.least_out.result)) c.deref-4.ensures.value c.least_out.ensures.reaches) (least (goal.at.invariant_of-self-2 c).After-least_out)
+    each (subst (All (IsOutSince c.least_out.result)) (c.as_slice.ensures ∙ c.of-3.ensures) c.least_out.ensures.reaches) (least (goal.at.invariant_of-self-2 c).After-least_out)
     (omega (arith, c.least_out.ensures.newest)) c.trim.ensures.start
     (c.trim.ensures.entries ∙ (λ i. drop (c.least_out.result - start i) (entries i)))
     (c.note.ensures ∙ (λ i. c.reserve-2.ensures.items i ++ noted (add-one b.version i) (c.requires.plan.named i))))

@@ -9,6 +9,6 @@ use Rattle.map_board.proofs.state.Board.settled.Goals as goal
 pub returns : goal.returns
 returns c =
     ap not (c.is_any_unsettled.ensures
-    ∙ (ap (list_any is_held_unsettled) c.as_slice.ensures.value
-    ∙ (sym (any-unsettled c.self.inside.past c.self.inside.hold.value.scene.receivers c.self.inside.rows.items c.self.invariant.each)
+    ∙ (ap (list_any is_held_unsettled) c.as_slice.ensures
+    ∙ (sym (any-unsettled c.self.inside.past c.self.inside.hold.value.scene.receivers c.self.inside.rows c.self.invariant.each)
     ∙ ap (λ (s : State). list_any (is_unsettled s.journal) s.rows) c.self.view_is)))

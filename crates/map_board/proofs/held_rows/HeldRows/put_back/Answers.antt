@@ -1,0 +1,21 @@
+use Rattle.std.proofs.Common.{◌≡◌, ap, ◌∙◌, arith, List}
+use Rattle.std.specs.Prelude.{slice_get, slice_set}
+use Rattle.std.proofs.lemmas.Option.{get_or_from_slice_get}
+use Rattle.map_board.specs.declared.rows.HeldRow.{HeldRow}
+use Rattle.map_board.specs.Back.{held_with}
+use Rattle.map_board.specs.Boards.{is_held_needy}
+use Rattle.map_board.proofs.Needy.{none-put-past}
+use Rattle.map_board.proofs.held_rows.HeldRows.put_back.Goals as goal
+
+pub invariant_of-self : goal.invariant_of-self
+invariant_of-self c =
+    none-put-past is_held_needy c.self.inside.rows.items c.min-self-inside.result c.self.inside.passed c.args.place c.put_back.new.row
+    (omega (arith, c.min-self-inside.ensures)) (omega (arith, c.min-self-inside.ensures)) c.self.invariant
+
+pub returns : goal.returns
+returns c held there =
+    let item = c.index_mut.ensures.value
+    ∙ get_or_from_slice_get c.self.inside.rows.items c.args.place held c.index_mut.result.now
+    (ap (λ (hs : List HeldRow). slice_get hs c.args.place) c.self.view_is ∙ there) in
+    let new = c.put_back.ensures ∙ ap (held_with c.args.back) item in
+    λ i. slice_set (c.self.view_is i) c.args.place (new i)

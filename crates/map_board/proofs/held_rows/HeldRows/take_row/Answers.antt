@@ -1,0 +1,33 @@
+use Rattle.std.proofs.Common.{◌≡◌, ap, sym, ◌∙◌, Some, List}
+use Rattle.std.specs.Prelude.{slice_get, slice_set}
+use Rattle.std.proofs.lemmas.Option.{get_or_from_slice_get}
+use Rattle.map_board.specs.declared.rows.HeldRow.{HeldRow}
+use Rattle.map_board.specs.Boards.{is_held_needy, row_out}
+use Rattle.map_board.proofs.Needy.{none-put, out-rests}
+use Rattle.map_board.proofs.held_rows.HeldRows.take_row.Goals as goal
+use Rattle.map_board.proofs.held_rows.HeldRows.take_row.Goals.{After-index_mut}
+
+-- the row at the place
+item : (c : After-index_mut) (held : HeldRow) → slice_get c.args.self.now c.args.place ≡ Some held → c.index_mut.result.now ≡ held
+item c held there =
+    c.index_mut.ensures.value
+    ∙ get_or_from_slice_get c.self.inside.rows.items c.args.place held c.index_mut.result.now
+    (ap (λ (hs : List HeldRow). slice_get hs c.args.place) c.self.view_is ∙ there)
+
+pub invariant_of-self : goal.invariant_of-self
+invariant_of-self c =
+    none-put is_held_needy c.self.inside.rows.items c.self.inside.passed c.args.place c.take_row.new.row
+    (ap is_held_needy c.take_row.ensures.row ∙ out-rests c.args.version c.index_mut.result.now) c.self.invariant
+
+pub returns-clause-cache : goal.returns-clause-cache
+returns-clause-cache c held there =
+    ap (λ (h : HeldRow). h.cache) (sym (item (goal.at.returns-clause-cache c).After-index_mut held there)) ∙ c.take_row.ensures.cache
+
+pub returns-clause-hold : goal.returns-clause-hold
+returns-clause-hold c held there =
+    ap (λ (h : HeldRow). h.hold) (sym (item (goal.at.returns-clause-hold c).After-index_mut held there)) ∙ c.take_row.ensures.hold
+
+pub returns-clause-rows : goal.returns-clause-rows
+returns-clause-rows c held there =
+    let new = c.take_row.ensures.row ∙ ap (row_out c.args.version) (item (goal.at.returns-clause-rows c).After-index_mut held there) in
+    λ i. slice_set (c.self.view_is i) c.args.place (new i)
