@@ -2,8 +2,6 @@
 use Rattle.std.proofs.Common.{◌≡◌, ℕ, suc, ◌≤◌, Bool, true, cond, List, [], length, Some, None, refl, sym, ap, ◌∙◌, subst, arith}
 use Rattle.std.specs.Prelude.{Option, IsSomeAnd, is_some}
 use Rattle.std.specs.Option.{option_map, option_or}
-use Rattle.std.specs.declared.sync.Arc.{Arc}
-use Rattle.std.specs.declared.alloc.Global.{Global}
 use Rattle.scene_parts.specs.Views.{Source, Receiver}
 use Rattle.scene_book.specs.declared.edits.Edit.{Edit}
 use Rattle.path_calc.specs.Bundles.{Bundle}
@@ -14,7 +12,6 @@ use Rattle.touch_test.proofs.Edits.{answers-old}
 use Rattle.map_board.specs.declared.rows.Cache.{Cache}
 use Rattle.map_board.specs.declared.rows.KeptLevels.{KeptLevels}
 use Rattle.map_board.specs.declared.rows.HeldRow.{HeldRow}
-use Rattle.map_board.specs.declared.scenes.PreparedScene.{PreparedScene}
 use Rattle.map_board.specs.declared.renewing.Change.{Change}
 use Rattle.map_board.specs.Journal.{newest_scene, names, touches, first_touching}
 use Rattle.map_board.specs.Rows.{Kept}
@@ -22,7 +19,7 @@ use Rattle.map_board.specs.Held.{AreWithin}
 use Rattle.map_board.specs.Facts.{RowIsRight}
 use Rattle.map_board.specs.Machine.{new_row}
 use Rattle.map_board.specs.Marks.{marks_after}
-use Rattle.map_board.specs.Boards.{kept_of, row_of, CacheIsRight, CacheIsThere, SceneIsThere, ByIsRight, RowHolds}
+use Rattle.map_board.specs.Boards.{kept_of, row_of, CacheIsRight, CacheIsThere, ByIsRight, RowHolds}
 use Rattle.map_board.specs.Changes.{scene_before, scene_after, journal_after, IsChange, IsFresh}
 use Rattle.map_board.proofs.Journals.{newest-more, first-more}
 use Rattle.map_board.proofs.RowsRight.{new-right, more-right}
@@ -42,9 +39,6 @@ module _ (change : Change) (is : IsChange change) where
   pub newest-after : newest_scene (journal_after change) ≡ scene_after change
   newest-after = newest-more past edit
 
-  scene-there : (out : Option ℕ) (hold : Arc PreparedScene Global) → hold.value.scene ≡ scene_after change → SceneIsThere (journal_after change) out (Some hold)
-  scene-there out hold same = same ∙ sym newest-after
-
   -- ---- a row made anew
 
   no-bundles : (r : Receiver) (cache : Cache) → cache.bundles.items ≡ [] → cache.marks.items ≡ [] → CacheIsRight (journal_after change) r None cache
@@ -61,7 +55,7 @@ module _ (change : Change) (is : IsChange change) where
     none_due : (source : Source) → is_wanted cache.bundles.items cache.marks.items source ≡ true
     none_due source = (λ i. is_wanted (none_kept i) (none_marked i) source)
 
-  pub fresh-row : (r : Receiver) (held : HeldRow) → IsFresh change.version (scene_after change) held → row_of r held ≡ new_row (suc (length past)) r
+  pub fresh-row : (r : Receiver) (held : HeldRow) → IsFresh change.version held → row_of r held ≡ new_row (suc (length past)) r
   fresh-row r held fresh = λ i. record {
     receiver = r;
     since = (fresh.since ∙ is.version) i;
@@ -69,22 +63,17 @@ module _ (change : Change) (is : IsChange change) where
     out = fresh.out i;
   }
 
-  pub fresh-holds : (r : Receiver) (held : HeldRow) → IsFresh change.version (scene_after change) held → RowHolds (journal_after change) r held
+  pub fresh-holds : (r : Receiver) (held : HeldRow) → IsFresh change.version held → RowHolds (journal_after change) r held
   fresh-holds r held fresh = record {
     right = subst (RowIsRight (journal_after change)) (sym (fresh-row r held fresh)) (new-right past edit r);
     by = subst (ByIsRight (journal_after change) r) (sym fresh.kept) tt;
     bundles = subst (λ (x : Option KeptLevels × Option ℕ). CacheIsThere (journal_after change) r (option_map kept_of x.0) x.1 held.cache) (λ i. (sym fresh.kept i, sym fresh.out i))
         (there held.cache fresh.empty);
-    scene = subst (λ o. SceneIsThere (journal_after change) o held.hold) (sym fresh.out) (shown held.hold fresh.hold);
     stale = λ version kept out. absurd (cc (out, fresh.out));
   } where
     there : (cache : Option Cache) → IsSomeAnd cache (λ c. (c.bundles.items ≡ []) × (c.marks.items ≡ [])) → IsSomeAnd cache (CacheIsRight (journal_after change) r None)
     there None empty = empty
     there (Some cache) empty = no-bundles r cache empty.0 empty.1
-
-    shown : (hold : Option (Arc PreparedScene Global)) → IsSomeAnd hold (λ h. h.value.scene ≡ scene_after change) → SceneIsThere (journal_after change) None hold
-    shown None none = absurd none
-    shown (Some hold) same = scene-there None hold same
 
   -- ---- kept levels
 
@@ -153,13 +142,11 @@ module _ (change : Change) (is : IsChange change) where
         (right-of cache some).fresh (kept_of levels) (ap (option_map kept_of) kept) (sym (kept-by levels kept) ∙ none)
 
     -- while it is out, it keeps what it knows
-    pub out-holds : (hold : Arc PreparedScene Global) → hold.value.scene ≡ scene_after change → held.cache ≡ None
-        → RowHolds (journal_after change) r (record { since = held.since; kept = held.kept; out = held.out; cache = None; hold = Some hold })
-    out-holds hold same none = record {
-      right = more-row (record { since = held.since; kept = held.kept; out = held.out; cache = None; hold = Some hold }) refl;
+    pub out-holds : held.cache ≡ None → RowHolds (journal_after change) r (record { since = held.since; kept = held.kept; out = held.out; cache = None })
+    out-holds none = record {
+      right = more-row (record { since = held.since; kept = held.kept; out = held.out; cache = None }) refl;
       by = by held.kept refl;
       bundles = there held.out (out-of none);
-      scene = scene-there held.out hold same;
       stale = holds.stale;
     } where
       there : (out : Option ℕ) → is_some out ≡ true → CacheIsThere (journal_after change) r (option_map kept_of held.kept) out None
@@ -175,15 +162,13 @@ module _ (change : Change) (is : IsChange change) where
       by (Some levels) kept = stale-still r levels (kept-past levels kept) (kept-by levels kept) (stale levels held.out kept refl (out-of none))
 
     -- with its bundles, it gets their marks
-    pub marked-holds : (kept : Option KeptLevels) (cache more : Cache) (hold : Arc PreparedScene Global) → hold.value.scene ≡ scene_after change
-        → held.cache ≡ Some cache → option_map kept_of kept ≡ option_map kept_of held.kept → ByIsRight (journal_after change) r kept
+    pub marked-holds : (kept : Option KeptLevels) (cache more : Cache) → held.cache ≡ Some cache → option_map kept_of kept ≡ option_map kept_of held.kept → ByIsRight (journal_after change) r kept
         → more.bundles.items ≡ cache.bundles.items → more.marks.items ≡ marks_after edit change.logged.old r cache.bundles.items cache.marks.items
-        → RowHolds (journal_after change) r (record { since = held.since; kept = kept; out = held.out; cache = Some more; hold = Some hold })
-    marked-holds kept cache more hold same some levels by bundles marks = record {
-      right = more-row (record { since = held.since; kept = kept; out = held.out; cache = Some more; hold = Some hold }) (λ i. record { receiver = r; since = held.since; kept = levels i; out = held.out });
+        → RowHolds (journal_after change) r (record { since = held.since; kept = kept; out = held.out; cache = Some more })
+    marked-holds kept cache more some levels by bundles marks = record {
+      right = more-row (record { since = held.since; kept = kept; out = held.out; cache = Some more }) (λ i. record { receiver = r; since = held.since; kept = levels i; out = held.out });
       by = by;
       bundles = subst (λ (o : Option ℕ). CacheIsThere (journal_after change) r (option_map kept_of kept) o (Some more)) (sym (free-of cache some)) right;
-      scene = scene-there held.out hold same;
       stale = λ v of out. absurd (cc (out, free-of cache some));
     } where
       right : CacheIsRight (journal_after change) r (option_map kept_of kept) more

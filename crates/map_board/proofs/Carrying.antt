@@ -119,13 +119,13 @@ module _ {A : Type 0} where
 -- ---- rows made anew
 
 module _ (change : Change) (is : IsChange change) where
-  pub each-fresh : (rs : List Receiver) (hs : List HeldRow) → length hs ≡ length rs → All (IsFresh change.version (scene_after change)) hs → EachHolds (journal_after change) rs hs
+  pub each-fresh : (rs : List Receiver) (hs : List HeldRow) → length hs ≡ length rs → All (IsFresh change.version) hs → EachHolds (journal_after change) rs hs
   each-fresh [] [] count all = tt
   each-fresh [] (h ∷ hs) count all = absurd (omega arith)
   each-fresh (r ∷ rs) [] count all = absurd (omega arith)
   each-fresh (r ∷ rs) (h ∷ hs) count all = (
-    fresh-holds change is r h (All-head (IsFresh change.version (scene_after change)) h hs all),
-    each-fresh rs hs (omega arith) (All-tail (IsFresh change.version (scene_after change)) h hs all),
+    fresh-holds change is r h (All-head (IsFresh change.version) h hs all),
+    each-fresh rs hs (omega arith) (All-tail (IsFresh change.version) h hs all),
   )
 
 fresh-at : (P : HeldRow → Type 0) (hs : List HeldRow) (k : ℕ) (h : HeldRow) → All P hs → slice_get hs k ≡ Some h → P h
@@ -172,7 +172,7 @@ module _ (change : Change) (olds news : List Receiver) (rows : List HeldRow) whe
     pub count : length made ≡ length news
     pub each : EachHolds (journal_after change) news made
     pub done : (k : ℕ) (r : Receiver) (h : HeldRow) → k < place → slice_get news k ≡ Some r → slice_get made k ≡ Some h → row_of r h ≡ after r
-    pub fresh : (k : ℕ) (h : HeldRow) → place ≤ k → slice_get made k ≡ Some h → IsFresh change.version (scene_after change) h
+    pub fresh : (k : ℕ) (h : HeldRow) → place ≤ k → slice_get made k ≡ Some h → IsFresh change.version h
     pub same : filter (is_unnamed change) (drop i olds) ≡ filter (is_unnamed change) (drop place news)
 
 module _ (change : Change) (is : IsChange change) (olds news : List Receiver) (rows : List HeldRow) where
@@ -197,7 +197,7 @@ module _ (change : Change) (is : IsChange change) (olds news : List Receiver) (r
         count = count;
         each = each-fresh change is news made count anew.each;
         done = λ k r h below. absurd (omega arith);
-        fresh = λ k h from there. fresh-at (IsFresh change.version (scene_after change)) made k h anew.each there;
+        fresh = λ k h from there. fresh-at (IsFresh change.version) made k h anew.each there;
         same =
             ap (filter (is_unnamed change)) old_are
             ∙ (sym (filter_agree (λ (r : Receiver). is_beside change.logged.edit (scene_before change) r.name) (is_unnamed change) beside (scene_before change).receivers)

@@ -1,10 +1,8 @@
 -- Answers and jobs that come back to the rows of a board.
 use Rattle.std.proofs.Common.{◌≡◌, ℕ, zero, suc, ◌+◌, ◌-◌, ◌<◌, ◌≤◌, Bool, true, false, cond, List, [], ◌∷◌, length, take, drop, set, Some, None, refl, sym, ap, ◌∙◌, subst, arith, length-drop, ◌⊎◌, inl, inr}
-use Rattle.std.specs.Prelude.{bytes_eq, Option, Contains, IsSome, IfSome, slice_get, is_some, unwrap_or, All}
+use Rattle.std.specs.Prelude.{bytes_eq, Option, Contains, IsSome, IfSome, slice_get, is_some, All}
 use Rattle.std.specs.Option.{option_map, option_and_then}
-use Rattle.std.specs.declared.sync.Arc.{Arc}
-use Rattle.std.specs.declared.alloc.Global.{Global}
-use Rattle.std.proofs.lemmas.List.{take_all, length-take-le}
+use Rattle.std.proofs.lemmas.List.{length-take-le}
 use Rattle.std.proofs.lemmas.List.Elements.{All-head, All-tail}
 use Rattle.std.proofs.lemmas.Option.{slice_get_within}
 use Rattle.scene_parts.specs.Views.{Receiver}
@@ -20,16 +18,15 @@ use Rattle.map_board.specs.declared.rows.Back.{Back}
 use Rattle.map_board.specs.declared.rows.Cache.{Cache}
 use Rattle.map_board.specs.declared.rows.KeptLevels.{KeptLevels}
 use Rattle.map_board.specs.declared.rows.HeldRow.{HeldRow}
-use Rattle.map_board.specs.declared.scenes.PreparedScene.{PreparedScene}
 use Rattle.map_board.specs.Views.{Job, Answer}
 use Rattle.map_board.specs.Held.{AreWithin, IsJob, no_marks}
-use Rattle.map_board.specs.Journal.{book_after_all, scene_at, newest_scene, first_naming, first_touching, AreAccepted}
+use Rattle.map_board.specs.Journal.{scene_at, newest_scene, first_naming, first_touching, AreAccepted}
 use Rattle.map_board.specs.Rows.{Kept, Row, State, row_named, version_out, with_row}
 use Rattle.map_board.specs.Jobs.{IsOutFor, MayReturn, IsFit, IsRight}
 use Rattle.map_board.specs.Log.{entries_after}
 use Rattle.map_board.specs.Later.{marks_after_all, first_entry_touching}
 use Rattle.map_board.specs.Back.{held_with, row_with, SuitsAt}
-use Rattle.map_board.specs.Boards.{kept_of, row_of, rows_of, counts_of, CacheIsRight, SceneIsThere, ByIsRight, RowHolds, EachHolds, IsOutSince, IsBoard}
+use Rattle.map_board.specs.Boards.{kept_of, row_of, rows_of, counts_of, CacheIsRight, ByIsRight, RowHolds, EachHolds, IsOutSince, IsBoard}
 use Rattle.map_board.proofs.Naming.{named-is, itself}
 use Rattle.map_board.proofs.Logging.{entries-length, later as logged-later}
 use Rattle.map_board.proofs.Places.{At, at-place, none-here, board-set, rows-set}
@@ -62,6 +59,15 @@ row-there journal (r ∷ rs) (h ∷ hs) name (suc place) each apart is =
           → slice_get (rows_of rs hs) place ≡ cond test (Some (row_of r h)) (row_named name (rows_of rs hs))
       go true same is later = absurd (cc (none-here r.name rs place r apart.0 is, itself r.name))
       go false other is later = later is
+
+-- and its receiver is that row's
+pub receiver-there : (journal : List Edit) (rs : List Receiver) (hs : List HeldRow) (name : List ℕ) (place : ℕ) (row : Row) → EachHolds journal rs hs
+    → AreApart (λ (r : Receiver). r.name) rs → slice_get rs place ≡ named (λ (r : Receiver). r.name) name rs
+    → row_named name (rows_of rs hs) ≡ Some row → slice_get rs place ≡ Some row.receiver
+receiver-there journal rs hs name place row each apart is found =
+    let at = at-place journal rs hs place row each (row-there journal rs hs name place each apart is ∙ found) in
+    let row_is : row_of at.r at.held ≡ row = cc (at.row, row-there journal rs hs name place each apart is, found) in
+    at.receiver ∙ ap (λ (x : Row). Some x.receiver) row_is
 
 -- what may come back and is named by no edit since is awaited
 pub is-awaited : (journal : List Edit) (rows : List Row) (version : ℕ) (r : Receiver) → MayReturn journal rows version r
@@ -127,15 +133,6 @@ reached b board name version out =
       later = (λ i. drop (before i) (board.logged.entries i)) ∙ logged-later b.past b.log.start version within.from;
     }
 
--- ---- its scene
-
-scene-back : (journal : List Edit) (version : ℕ) (held : Option (Arc PreparedScene Global)) (hold : Arc PreparedScene Global) → SceneIsThere journal (Some version) held
-    → hold.value.scene ≡ scene_at journal version → (unwrap_or held hold).value.scene ≡ newest_scene journal
-scene-back journal version (Some h) hold there is = there
-scene-back journal version None hold there is =
-    let newest : version ≡ length journal = cc there in
-    is ∙ ap (λ es. book_after_all es empty_book) (take_all version journal (omega (arith, newest)))
-
 -- ---- bundles with the marks of all edits since
 
 cache-right : (journal : List Edit) (r : Receiver) (kept : Option Kept) (bundles : List Bundle) (marks : List Bool) (cache : Cache)
@@ -156,8 +153,7 @@ module _ (journal : List Edit) (r : Receiver) (held : HeldRow) (back : Back) (ac
   module _ (answer : Answer) (same : answer.receiver ≡ r) (right : IsRight journal answer) (few : length answer.bundles ≤ 128) (out : held.out ≡ Some answer.version)
       (later : List LogEntry) (later_is : later ≡ entries_after journal answer.version)
       (levels : back.kept ≡ Some (record { version = answer.version; by = first_entry_touching answer.receiver answer.bundles answer.version later; levels = answer.levels }))
-      (bundles : back.cache.bundles.items ≡ answer.bundles) (marks : back.cache.marks.items ≡ marks_after_all later answer.receiver answer.bundles (no_marks answer.bundles))
-      (scene : back.hold.value.scene ≡ answer.scene) where
+      (bundles : back.cache.bundles.items ≡ answer.bundles) (marks : back.cache.marks.items ≡ marks_after_all later answer.receiver answer.bundles (no_marks answer.bundles)) where
     abbrev kept : Kept
     kept = record { version = answer.version; levels = answer.levels }
 
@@ -194,7 +190,6 @@ module _ (journal : List Edit) (r : Receiver) (held : HeldRow) (back : Back) (ac
           right = kept-right journal (row_of r held) answer past out same right holds.right;
           by = touching-later journal answer.version accepted r answer.bundles are;
           bundles = cache-right journal r (Some kept) answer.bundles marks_since back.cache bundles marked after fresh;
-          scene = scene-back journal answer.version held.hold back.hold (subst (λ (o : Option ℕ). SceneIsThere journal o held.hold) out holds.scene) (scene ∙ right.scene);
           stale = λ version kept none is. absurd (cc none);
         })
 
@@ -203,7 +198,7 @@ module _ (journal : List Edit) (r : Receiver) (held : HeldRow) (back : Back) (ac
   module _ (job : Job) (same : job.receiver ≡ r) (place : ℕ) (is_job : IsJob place job) (rows : List Row) (fit : IsFit journal rows job)
       (found : row_named job.receiver.name rows ≡ Some (row_of r held)) (out : held.out ≡ Some job.version)
       (later : List LogEntry) (later_is : later ≡ entries_after journal job.version) (levels : back.kept ≡ None) (bundles : back.cache.bundles.items ≡ job.kept)
-      (marks : back.cache.marks.items ≡ marks_after_all later job.receiver job.kept job.marks) (scene : back.hold.value.scene ≡ job.scene) where
+      (marks : back.cache.marks.items ≡ marks_after_all later job.receiver job.kept job.marks) where
     abbrev of_row : Option Kept
     of_row = option_map kept_of held.kept
 
@@ -240,7 +235,6 @@ module _ (journal : List Edit) (r : Receiver) (held : HeldRow) (back : Back) (ac
           right = freed-right journal (row_of r held) holds.right;
           by = holds.by;
           bundles = cache-right journal r of_row job.kept job_marks back.cache bundles marked job_after (job_fresh held.kept refl);
-          scene = scene-back journal job.version held.hold back.hold (subst (λ (o : Option ℕ). SceneIsThere journal o held.hold) out holds.scene) (scene ∙ fit.scene);
           stale = λ version kept none is. absurd (cc none);
         })
 
@@ -251,25 +245,25 @@ pub answer-suits : (state : State) (place : ℕ) (back : Back) (answer : Answer)
     → (later : List LogEntry) → later ≡ entries_after state.journal answer.version
     → back.kept ≡ Some (record { version = answer.version; by = first_entry_touching answer.receiver answer.bundles answer.version later; levels = answer.levels })
     → back.cache.bundles.items ≡ answer.bundles → back.cache.marks.items ≡ marks_after_all later answer.receiver answer.bundles (no_marks answer.bundles)
-    → back.hold.value.scene ≡ answer.scene → SuitsAt state place back
-answer-suits state place back answer out there right few later later_is levels bundles marks scene = record {
+    → SuitsAt state place back
+answer-suits state place back answer out there right few later later_is levels bundles marks = record {
   row = out.row;
   there = there;
   holds = λ held accepted is holds.
       holds-kept state.journal out.row.receiver held back accepted holds answer (sym out.receiver) right few (ap (λ (row : Row). row.out) is ∙ out.out)
-      later later_is levels bundles marks scene;
+      later later_is levels bundles marks;
 }
 
 pub job-suits : (state : State) (place : ℕ) (back : Back) (job : Job) (out : IsOutFor state.rows job.version job.receiver)
     → slice_get state.rows place ≡ Some out.row → (job_place : ℕ) → IsJob job_place job → IsFit state.journal state.rows job
     → (later : List LogEntry) → later ≡ entries_after state.journal job.version → back.kept ≡ None → back.cache.bundles.items ≡ job.kept
-    → back.cache.marks.items ≡ marks_after_all later job.receiver job.kept job.marks → back.hold.value.scene ≡ job.scene → SuitsAt state place back
-job-suits state place back job out there job_place is_job fit later later_is levels bundles marks scene = record {
+    → back.cache.marks.items ≡ marks_after_all later job.receiver job.kept job.marks → SuitsAt state place back
+job-suits state place back job out there job_place is_job fit later later_is levels bundles marks = record {
   row = out.row;
   there = there;
   holds = λ held accepted is holds.
       holds-freed state.journal out.row.receiver held back accepted holds job (sym out.receiver) job_place is_job state.rows fit
-      (out.found ∙ ap (λ row. Some row) (sym is)) (ap (λ (row : Row). row.out) is ∙ out.out) later later_is levels bundles marks scene;
+      (out.found ∙ ap (λ row. Some row) (sym is)) (ap (λ (row : Row). row.out) is ∙ out.out) later later_is levels bundles marks;
 }
 
 -- ---- a board with it

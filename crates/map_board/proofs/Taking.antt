@@ -3,8 +3,6 @@ use Rattle.std.proofs.Common.{◌≡◌, ℕ, suc, ◌+◌, ◌<◌, Bool, true,
 use Rattle.std.specs.Prelude.{Option, Contains, IsSomeAnd, slice_get, is_some, not, ◌&&◌, count_by}
 use Rattle.std.specs.List.{list_any}
 use Rattle.std.specs.Option.{option_map}
-use Rattle.std.specs.declared.sync.Arc.{Arc}
-use Rattle.std.specs.declared.alloc.Global.{Global}
 use Rattle.std.proofs.lemmas.List.{take_all}
 use Rattle.std.proofs.lemmas.Option.{slice_get_within}
 use Rattle.std.proofs.lemmas.List.Sums.{sum_by-cons}
@@ -20,7 +18,6 @@ use Rattle.map_board.specs.declared.rows.Cache.{Cache}
 use Rattle.map_board.specs.declared.rows.KeptLevels.{KeptLevels}
 use Rattle.map_board.specs.declared.rows.HeldRow.{HeldRow}
 use Rattle.map_board.specs.declared.rows.Tally.{Tally}
-use Rattle.map_board.specs.declared.scenes.PreparedScene.{PreparedScene}
 use Rattle.map_board.specs.Views.{Job}
 use Rattle.map_board.specs.Held.{AreWithin, IsJobOf}
 use Rattle.map_board.specs.Journal.{book_after_all, scene_at, newest_scene}
@@ -28,7 +25,7 @@ use Rattle.map_board.specs.Rows.{Row, State, row_named, with_row, one_more, show
 use Rattle.map_board.specs.Due.{is_due, due_of}
 use Rattle.map_board.specs.Jobs.{IsFit}
 use Rattle.map_board.specs.Machine.{with_out, TakesJob, IsIdle}
-use Rattle.map_board.specs.Boards.{kept_of, row_of, rows_of, counts_of, shown_by, row_out, is_held_needy, is_held_out, CacheIsRight, CacheIsThere, SceneIsThere, RowHolds, EachHolds, IsBoard, NeedyAt, IsNeedyAt}
+use Rattle.map_board.specs.Boards.{kept_of, row_of, rows_of, counts_of, shown_by, row_out, is_held_needy, is_held_out, CacheIsRight, CacheIsThere, RowHolds, EachHolds, IsBoard, NeedyAt, IsNeedyAt}
 use Rattle.map_board.proofs.Keeping.{none-of, this-row}
 use Rattle.map_board.proofs.Places.{At, at-place, held-at, held-needy, any-needy, count-held, each-lengths, rows-lengths, board-set, row-at, rows-set}
 use Rattle.map_board.proofs.RowsRight.{taken-right}
@@ -42,9 +39,6 @@ pub record Ready (journal : List Edit) (rs : List Receiver) (hs : List HeldRow) 
   pub cache : Cache
   pub cached : at.held.cache ≡ Some cache
   pub right : CacheIsRight journal at.r (option_map kept_of at.held.kept) cache
-  pub hold : Arc PreparedScene Global
-  pub holds : at.held.hold ≡ Some hold
-  pub scene : hold.value.scene ≡ newest_scene journal
 
 record Found {A : Type 0} (o : Option A) (P : A → Type 0) : Type 0 where
   x : A
@@ -54,11 +48,6 @@ record Found {A : Type 0} (o : Option A) (P : A → Type 0) : Type 0 where
 found-and : {A : Type 0} (o : Option A) (P : A → Type 0) → IsSomeAnd o P → Found o P
 found-and None P h = absurd h
 found-and (Some x) P h = record { x = x; is = refl; holds = h }
-
-found-scene : (journal : List Edit) (hold : Option (Arc PreparedScene Global)) → SceneIsThere journal None hold
-    → Found hold (λ h. h.value.scene ≡ newest_scene journal)
-found-scene journal None h = absurd (cc h)
-found-scene journal (Some hold) h = record { x = hold; is = refl; holds = h }
 
 free-of : (current out : Bool) → (not current && not out) ≡ true → out ≡ false
 free-of current false h = refl
@@ -74,7 +63,6 @@ ready journal rs hs place row each there needy =
     let free : at.held.out ≡ None = none-of at.held.out (free-of (is_current (shown_of journal (row_of at.r at.held))) (is_some at.held.out) needy_here) in
     let cache = found-and at.held.cache (CacheIsRight journal at.r (option_map kept_of at.held.kept))
     (subst (λ (o : Option ℕ). CacheIsThere journal at.r (option_map kept_of at.held.kept) o at.held.cache) free at.holds.bundles) in
-    let hold = found-scene journal at.held.hold (subst (λ (o : Option ℕ). SceneIsThere journal o at.held.hold) free at.holds.scene) in
     record {
       at = at;
       needy = needy_here;
@@ -82,9 +70,6 @@ ready journal rs hs place row each there needy =
       cache = cache.x;
       cached = cache.is;
       right = cache.holds;
-      hold = hold.x;
-      holds = hold.is;
-      scene = hold.holds;
     }
 
 -- ---- the row after it
@@ -106,7 +91,6 @@ holds-out journal r held version newest needy holds = record {
   right = taken-right journal (row_of r held) version newest holds.right;
   by = holds.by;
   bundles = refl;
-  scene = ap (λ v. Some v) newest;
   stale = λ v kept out is. stale-needy held.since held.kept kept (is_some held.out) is needy;
 }
 
@@ -161,33 +145,21 @@ module _ (journal : List Edit) (scene : Book) (hs : List HeldRow) (place : ℕ) 
   pub has-cache : IsSomeAnd (slice_get hs place) (λ held. is_some held.cache ≡ true)
   has-cache = subst (λ o. IsSomeAnd o (λ (held : HeldRow). is_some held.cache ≡ true)) (sym rdy.at.there) (ap (λ o. is_some o) rdy.cached)
 
-  pub has-hold : IsSomeAnd (slice_get hs place) (λ held. is_some held.hold ≡ true)
-  has-hold = subst (λ o. IsSomeAnd o (λ (held : HeldRow). is_some held.hold ≡ true)) (sym rdy.at.there) (ap (λ o. is_some o) rdy.holds)
-
   pub cache-is : (cache : Cache) → rdy.at.held.cache ≡ Some cache → rdy.cache ≡ cache
   cache-is cache found = let both : Some rdy.cache ≡ Some cache = sym rdy.cached ∙ found in cc both
 
-  pub hold-is : (hold : Arc PreparedScene Global) → rdy.at.held.hold ≡ Some hold → rdy.hold ≡ hold
-  hold-is hold found = let both : Some rdy.hold ≡ Some hold = sym rdy.holds ∙ found in cc both
-
-  pub scene-is : (hold : Arc PreparedScene Global) → rdy.at.held.hold ≡ Some hold → scene ≡ hold.value.scene
-  scene-is hold found = same ∙ (sym rdy.scene ∙ ap (λ (h : Arc PreparedScene Global). h.value.scene) (hold-is hold found))
-
-  pub place-within : (hold : Arc PreparedScene Global) → rdy.at.held.hold ≡ Some hold → place < length hold.value.scene.receivers
-  place-within hold found =
-      subst (λ (book : Book). place < length book.receivers) (scene-is hold found) (slice_get_within scene.receivers place rdy.at.r rdy.at.receiver)
+  pub place-within : place < length scene.receivers
+  place-within = slice_get_within scene.receivers place rdy.at.r rdy.at.receiver
 
   pub can-refresh : (cache : Cache) → rdy.at.held.cache ≡ Some cache → CanRefresh cache.bundles.items cache.marks.items
   can-refresh cache found = subst (λ (c : Cache). CanRefresh c.bundles.items c.marks.items) (cache-is cache found) rdy.right.can
 
-  pub are-within : (cache : Cache) (hold : Arc PreparedScene Global) → rdy.at.held.cache ≡ Some cache → rdy.at.held.hold ≡ Some hold → (r : Receiver)
-      → slice_get hold.value.scene.receivers place ≡ Some r → AreWithin hold.value.scene r cache.bundles.items cache.marks.items
-  are-within cache hold cached held r there =
-      let at : slice_get scene.receivers place ≡ Some r = ap (λ (book : Book). slice_get book.receivers place) (scene-is hold held) ∙ there in
-      let r_is : rdy.at.r ≡ r = cc (at, rdy.at.receiver) in
-      let book_is : newest_scene journal ≡ hold.value.scene = sym same ∙ scene-is hold held in
+  pub are-within : (cache : Cache) → rdy.at.held.cache ≡ Some cache → (r : Receiver)
+      → slice_get scene.receivers place ≡ Some r → AreWithin scene r cache.bundles.items cache.marks.items
+  are-within cache cached r there =
+      let r_is : rdy.at.r ≡ r = cc (there, rdy.at.receiver) in
       subst (λ (y : Book × Receiver × Cache). AreWithin y.0 y.1 y.2.bundles.items y.2.marks.items)
-      (λ i. (book_is i, r_is i, cache-is cache cached i)) rdy.right.within
+      (λ i. (sym same i, r_is i, cache-is cache cached i)) rdy.right.within
 
 -- ---- the job
 
@@ -203,7 +175,7 @@ count-on p q (x ∷ xs) same =
 
 module _ (version : ℕ) (journal : List Edit) (scene : Book) (hs : List HeldRow) (log : Log) (namings : List Naming) (finished : Bool) (tally more : Tally) (place : ℕ) (job : Job)
     (board : IsBoard version journal scene hs log namings) (unfinished : finished ≡ false) (rdy : Ready journal scene.receivers hs place)
-    (of : IsJobOf version place rdy.hold.value.scene rdy.cache.bundles.items rdy.cache.marks.items job)
+    (of : IsJobOf version place scene rdy.cache.bundles.items rdy.cache.marks.items job)
     (counted : counts_of more ≡ record (counts_of tally) { taken = one_more (counts_of tally).taken }) where
   abbrev before : State
   before = record { journal = journal; rows = rows_of scene.receivers hs; finished = finished; counts = counts_of tally }
@@ -211,16 +183,11 @@ module _ (version : ℕ) (journal : List Edit) (scene : Book) (hs : List HeldRow
   abbrev after : State
   after = record { journal = journal; rows = rows_of scene.receivers (set hs place (row_out version rdy.at.held)); finished = finished; counts = counts_of more }
 
-  same-scene : rdy.hold.value.scene ≡ scene
-  same-scene = rdy.scene ∙ sym board.shows
-
   same-receiver : rdy.at.r ≡ job.receiver
-  same-receiver =
-      let there : slice_get scene.receivers place ≡ Some job.receiver = ap (λ (book : Book). slice_get book.receivers place) (sym same-scene) ∙ of.at_place in
-      cc (there, rdy.at.receiver)
+  same-receiver = cc (of.at_place, rdy.at.receiver)
 
   job-scene : job.scene ≡ newest_scene journal
-  job-scene = of.of_scene ∙ rdy.scene
+  job-scene = of.of_scene ∙ board.shows
 
   row : Row
   row = row_of rdy.at.r rdy.at.held

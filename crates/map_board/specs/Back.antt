@@ -1,5 +1,5 @@
 -- Rows to which jobs and answers come back.
-use Rattle.std.specs.Prelude.{◌≡◌, ℕ, Option, Some, None, unwrap_or, slice_get}
+use Rattle.std.specs.Prelude.{◌≡◌, ℕ, Option, Some, None, slice_get}
 use Rattle.std.specs.Option.{option_map, option_or}
 use Rattle.scene_book.specs.Book.{empty_book}
 use Rattle.map_board.specs.declared.rows.Back.{Back}
@@ -9,14 +9,12 @@ use Rattle.map_board.specs.Journal.{AreAccepted}
 use Rattle.map_board.specs.Rows.{Row, State}
 use Rattle.map_board.specs.Boards.{kept_of, row_of, RowHolds}
 
--- a held row with what comes back, of which no job is out. It keeps its scene, where it has one, and its levels, where
--- none come back
+-- a held row with what comes back, of which no job is out. It keeps its levels, where none come back
 abbrev pub held_with : Back → HeldRow → HeldRow
 held_with back held = record held {
   kept = option_or back.kept held.kept;
   out = None;
   cache = Some back.cache;
-  hold = Some (unwrap_or held.hold back.hold);
 }
 
 -- what contracts see of it

@@ -9,8 +9,6 @@ use Rattle.scene_book.specs.Lists.{AreApart}
 use Rattle.scene_book.specs.declared.edits.Edit.{Edit}
 use Rattle.path_calc.specs.Show.{sources_within, bundles_of}
 use Rattle.path_cache.specs.Refreshed.{CanRefresh, Stand, is_wanted}
-use Rattle.std.specs.declared.sync.Arc.{Arc}
-use Rattle.std.specs.declared.alloc.Global.{Global}
 use Rattle.map_board.specs.declared.answers.Shown.{Shown}
 use Rattle.map_board.specs.declared.answers.Shown.TheVariants.{New}
 use Rattle.map_board.specs.declared.log.Log.{Log}
@@ -20,7 +18,6 @@ use Rattle.map_board.specs.declared.rows.Cache.{Cache}
 use Rattle.map_board.specs.declared.rows.KeptLevels.{KeptLevels}
 use Rattle.map_board.specs.declared.rows.HeldRow.{HeldRow}
 use Rattle.map_board.specs.declared.rows.Tally.{Tally}
-use Rattle.map_board.specs.declared.scenes.PreparedScene.{PreparedScene}
 use Rattle.map_board.specs.Journal.{newest_scene, first_touching, AreAccepted}
 use Rattle.map_board.specs.Rows.{Kept, Row, Counts, State, shown_since, is_current, is_needy, is_out}
 use Rattle.map_board.specs.Log.{IsLog}
@@ -94,11 +91,6 @@ abbrev pub CacheIsThere : List Edit → Receiver → Option Kept → Option ℕ 
 CacheIsThere journal r kept None cache = IsSomeAnd cache (CacheIsRight journal r kept)
 CacheIsThere journal r kept (Some version) cache = cache ≡ None
 
--- the newest scene is there, unless a job of the newest version is out
-abbrev pub SceneIsThere : List Edit → Option ℕ → Option (Arc PreparedScene Global) → Type 0
-SceneIsThere journal out None = out ≡ Some (length journal)
-SceneIsThere journal out (Some hold) = hold.value.scene ≡ newest_scene journal
-
 -- the first touching edit is noted
 abbrev pub ByIsRight : List Edit → Receiver → Option KeptLevels → Type 0
 ByIsRight journal r None = Unit {0}
@@ -108,7 +100,6 @@ pub record RowHolds (journal : List Edit) (r : Receiver) (held : HeldRow) : Type
   pub right : RowIsRight journal (row_of r held)
   pub by : ByIsRight journal r held.kept
   pub bundles : CacheIsThere journal r (option_map kept_of held.kept) held.out held.cache
-  pub scene : SceneIsThere journal held.out held.hold
   -- while a job is out, kept levels are stale
   pub stale : (version : ℕ) (kept : KeptLevels) → held.out ≡ Some version → held.kept ≡ Some kept → IsSome kept.by
 
@@ -154,6 +145,6 @@ IsNeedyAt helds place = IsSomeAnd (slice_get helds place) (λ held. is_held_need
 abbrev pub NoneNeedyBefore : ℕ → List HeldRow → Type 0
 NoneNeedyBefore place helds = list_any is_held_needy (take place helds) ≡ false
 
--- a held row with a job of a version out, which has its bundles and its scene
+-- a held row with a job of a version out, which has its bundles
 abbrev pub row_out : ℕ → HeldRow → HeldRow
-row_out version held = record held { out = Some version; cache = None; hold = None }
+row_out version held = record held { out = Some version; cache = None }

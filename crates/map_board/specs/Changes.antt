@@ -39,18 +39,17 @@ pub record IsChange (change : Change) : Type 0 where
   pub globals : change.globals ≡ (scene_before change).globals
   pub version : change.version ≡ suc (length change.past.value)
 
--- a row made anew at a version: it holds the scene, and nothing is kept or out
-pub record IsFresh (version : ℕ) (scene : Book) (held : HeldRow) : Type 0 where
+-- a row made anew at a version: nothing is kept or out
+pub record IsFresh (version : ℕ) (held : HeldRow) : Type 0 where
   pub since : held.since ≡ version
   pub kept : held.kept ≡ None
   pub out : held.out ≡ None
   pub empty : IsSomeAnd held.cache (λ cache. (cache.bundles.items ≡ []) × (cache.marks.items ≡ []))
-  pub hold : IsSomeAnd held.hold (λ hold. hold.value.scene ≡ scene)
 
 -- one for each receiver of a scene
 pub record AreFresh (version : ℕ) (scene : Book) (helds : List HeldRow) : Type 0 where
   pub count : length helds ≡ length scene.receivers
-  pub each : All (IsFresh version scene) helds
+  pub each : All (IsFresh version) helds
 
 -- what an edit of a scene needs: the scene after it and its old part, the receivers that it names, and fresh rows
 pub record IsPlan (edit : Edit) (version : ℕ) (before : Book) (plan : Plan) : Type 0 where

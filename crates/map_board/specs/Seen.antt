@@ -7,7 +7,7 @@ use Rattle.map_board.specs.Views.{Job, Answer}
 abbrev pub job_seen : JobInside → Job
 job_seen j =
     let r = j.receiver.value in
-    let scene = j.hold.value.scene in
+    let scene = j.scene.value in
     let due = count_wanted scene r j.kept.items j.marks.items in
     record { version = j.version; receiver = r; scene = scene; kept = j.kept.items; marks = j.marks.items; due = due }
 
@@ -15,7 +15,7 @@ abbrev pub answer_seen : AnswerInside → Answer
 answer_seen a = record {
   version = a.version;
   receiver = a.receiver.value;
-  scene = a.hold.value.scene;
+  scene = a.scene.value;
   bundles = a.bundles.items;
   levels = a.levels;
 }

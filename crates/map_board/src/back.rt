@@ -12,10 +12,12 @@ use crate::namings::first_naming;
 use crate::rows::Back;
 use crate::state::Board;
 use scene_book::Scene;
+use scene_parts::Receiver;
 
-/// Where a job or an answer comes back: the place of its row, and the edits since its version.
+/// Where a job or an answer comes back: the place of its row, its receiver, and the edits since its version.
 pub(crate) struct Landing<'a> {
     pub place: usize,
+    pub receiver: &'a Receiver,
     pub later: &'a [LogEntry],
 }
 
@@ -31,12 +33,19 @@ impl Board {
     pub(crate) fn landing_of<'a>(&'a self, version: u64, name: &[u8]) -> Landing<'a>
         requires { version_out name.now self.now.rows ≡ Some version }
         ensures place { slice_get self.now.rows result.place ≡ row_named name.now self.now.rows }
+        ensures receiver { (row : _) → row_named name.now self.now.rows ≡ Some row
+            → result.receiver.now ≡ row.receiver }
         ensures later { result.later.now ≡ entries_after self.now.journal version }
         ensures few { version + length result.later.now < 2 ^ 64 }
     {
-        let place = place_in(&self.hold.scene, name);
+        let scene = &self.hold.scene;
+        let place = place_in(scene, name);
         let later = entries_since(self.log.entries.as_slice(), self.version(), version);
-        Landing { place, later }
+        Landing {
+            place,
+            receiver: &scene.receivers()[place],
+            later,
+        }
     }
 
     /// Puts what comes back into the row at its place.

@@ -41,7 +41,7 @@ impl Plan {
         let old = after.apply(alloc, edit)?;
         let named = named_receivers(edit, &old)?;
         let hold = shared(alloc, after)?;
-        let rows = fresh_rows(alloc, &hold, version)?;
+        let rows = fresh_rows(alloc, &hold.scene, version)?;
         Ok(Plan {
             old,
             named,

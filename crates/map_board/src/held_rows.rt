@@ -5,9 +5,7 @@ ghost use Rattle.map_board.specs.Back.{held_with};
 ghost use Rattle.map_board.specs.Boards.{is_held_needy, row_out, IsNeedyAt};
 
 use crate::rows::{Back, Cache, HeldRow, next_needy, put_back, take_row};
-use crate::scenes::PreparedScene;
 use std::marker::Model;
-use std::sync::Arc;
 
 /// The rows of a board. A search for a needy row goes on from where the last one ended: none before that place is needy.
 /// Contracts see it as the list of rows.
@@ -69,12 +67,10 @@ impl HeldRows {
         }
     }
 
-    /// Marks the row at a place as out with a job of a version, and hands out its bundles and its scene.
-    pub(crate) fn take_row(&mut self, place: usize, version: u64) -> (Cache, Arc<PreparedScene>)
-        requires cache { IsSomeAnd (slice_get self.old place) (λ held. IsSome held.cache) }
-        requires hold { IsSomeAnd (slice_get self.old place) (λ held. IsSome held.hold) }
-        ensures cache { (held : _) → slice_get self.old place ≡ Some held → held.cache ≡ Some result.0 }
-        ensures hold { (held : _) → slice_get self.old place ≡ Some held → held.hold ≡ Some result.1 }
+    /// Marks the row at a place as out with a job of a version, and hands out its bundles.
+    pub(crate) fn take_row(&mut self, place: usize, version: u64) -> Cache
+        requires { IsSomeAnd (slice_get self.old place) (λ held. IsSome held.cache) }
+        ensures cache { (held : _) → slice_get self.old place ≡ Some held → held.cache ≡ Some result }
         ensures rows { (held : _) → slice_get self.old place ≡ Some held
             → self.new ≡ slice_set self.old place (row_out version held) }
     {

@@ -5,6 +5,7 @@ ghost use Rattle.path_cache.specs.Refreshed.{CanRefresh, refreshed};
 ghost use Rattle.map_board.specs.Held.{AreWithin, IsJobOf, no_marks};
 ghost use Rattle.map_board.specs.Jobs.{Answers};
 
+use crate::name_copies::NameCopy;
 use crate::rows::Cache;
 use crate::scenes::PreparedScene;
 use path_cache::{Bundle, Steps, refresh_prepared};
@@ -20,12 +21,16 @@ use std::sync::ledger::Ledger;
 /// What is to be calculated of a receiver: its bundles in the scene of a version, of those that its row had kept and of
 /// which some are marked. Contracts see it as a record of the version, the receiver, the scene, the kept bundles with their
 /// marks, and the number of bundles that have to be calculated.
+///
+/// Where a scene has as many owners as it can have, a job has none of it, and can't be solved.
 #[derive(Drop)]
 pub struct Job {
     pub(crate) version: u64,
     pub(crate) place: u32,
+    pub(crate) name: NameCopy,
     pub(crate) receiver: Snapshot<Receiver>,
-    pub(crate) hold: Arc<PreparedScene>,
+    pub(crate) scene: Snapshot<Scene>,
+    pub(crate) hold: Option<Arc<PreparedScene>>,
     pub(crate) kept: Vec<Bundle>,
     pub(crate) marks: Vec<bool>,
 }
@@ -35,12 +40,12 @@ impl Model for Job {
 
     ghost Value = { JobSeen };
 
-    ghost use Rattle.map_board.specs.Held.{IsJob};
+    ghost use Rattle.map_board.specs.Held.{IsJob, IsAtHand};
     ghost use Rattle.map_board.specs.Seen.{job_seen};
 
     ghost view = { job_seen };
 
-    ghost invariant = { λ j. IsJob j.place (job_seen j) };
+    ghost invariant = { λ j. IsJob j.place (job_seen j) × IsAtHand j.name j.hold (job_seen j) };
 }
 
 /// What was calculated for a job. Contracts see it as a record of the version, the receiver, the scene, the bundles and
@@ -48,9 +53,9 @@ impl Model for Job {
 #[derive(Drop)]
 pub struct Answer {
     pub(crate) version: u64,
-    pub(crate) place: u32,
+    pub(crate) name: NameCopy,
     pub(crate) receiver: Snapshot<Receiver>,
-    pub(crate) hold: Arc<PreparedScene>,
+    pub(crate) scene: Snapshot<Scene>,
     pub(crate) bundles: Vec<Bundle>,
     pub(crate) marks: Vec<bool>,
     pub(crate) levels: Levels,
@@ -66,7 +71,7 @@ impl Model for Answer {
 
     ghost view = { answer_seen };
 
-    ghost invariant = { λ a. IsAnswer a.place a.marks.items (answer_seen a) };
+    ghost invariant = { λ a. IsAnswer a.name a.marks.items (answer_seen a) };
 }
 
 /// The bundles that a job asks for, with room for a mark of each, and their levels.
@@ -81,19 +86,21 @@ struct Calculation {
 
 impl Job {
     /// The job for the receiver at a place in a scene, of the bundles that its row kept.
-    pub(crate) fn of(version: u64, place: u32, hold: Arc<PreparedScene>, cache: Cache) -> Job
-        requires place { place < length hold.value.scene.receivers }
+    pub(crate) fn of(version: u64, place: u32, hold: &Arc<PreparedScene>, cache: Cache) -> Job
+        requires place { place < length hold.now.value.scene.receivers }
         requires kept { CanRefresh cache.bundles.items cache.marks.items }
-        requires within { (r : _) → slice_get hold.value.scene.receivers place ≡ Some r
-            → AreWithin hold.value.scene r cache.bundles.items cache.marks.items }
-        ensures { IsJobOf version place hold.value.scene cache.bundles.items cache.marks.items result }
+        requires within { (r : _) → slice_get hold.now.value.scene.receivers place ≡ Some r
+            → AreWithin hold.now.value.scene r cache.bundles.items cache.marks.items }
+        ensures { IsJobOf version place hold.now.value.scene cache.bundles.items cache.marks.items result }
     {
-        let receiver = Snapshot::of(&hold.scene.receivers()[place as usize]);
+        let receiver = &hold.scene.receivers()[place as usize];
         Job {
             version,
             place,
-            receiver,
-            hold,
+            name: NameCopy::of(&receiver.name),
+            receiver: Snapshot::of(receiver),
+            scene: Snapshot::of(&hold.scene),
+            hold: hold.clone().ok(),
             kept: cache.bundles,
             marks: cache.marks,
         }
@@ -135,7 +142,10 @@ impl Job {
             ≡ refreshed self.now.scene self.now.receiver self.now.kept self.now.marks) }
         ensures steps { OnOk result (steps.new ≡ steps.old + self.now.due) }
     {
-        let hold: &PreparedScene = &self.hold;
+        let Some(hold) = &self.hold else {
+            return Err(NoMemory);
+        };
+        let hold: &PreparedScene = hold;
         let bundles = refresh_prepared(
             alloc,
             &hold.scene,
@@ -154,6 +164,13 @@ impl Job {
         })
     }
 
+    /// The name of its receiver.
+    pub(crate) fn name(&self) -> &[u8]
+        ensures { result.now ≡ self.now.receiver.name }
+    {
+        self.name.items()
+    }
+
     /// The job's receiver in its scene.
     fn receiver_in<'a>(&self, scene: &'a Scene) -> &'a Receiver
         requires { scene.now ≡ self.now.scene }
@@ -168,9 +185,11 @@ impl Job {
     {
         let Job {
             version,
-            place,
+            place: _,
+            name,
             receiver,
-            hold,
+            scene,
+            hold: _,
             kept: _,
             marks: _,
         } = self;
@@ -181,12 +200,21 @@ impl Job {
         } = calculation;
         Answer {
             version,
-            place,
+            name,
             receiver,
-            hold,
+            scene,
             bundles,
             marks,
             levels,
         }
+    }
+}
+
+impl Answer {
+    /// The name of its receiver.
+    pub(crate) fn name(&self) -> &[u8]
+        ensures { result.now ≡ self.now.receiver.name }
+    {
+        self.name.items()
     }
 }

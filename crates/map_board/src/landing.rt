@@ -13,6 +13,7 @@ use crate::later::{first_touching, mark_by_all};
 use crate::log::LogEntry;
 use crate::rows::{Back, Cache, KeptLevels};
 use crate::state::Board;
+use scene_parts::Receiver;
 
 impl Board {
     /// Keeps an answer, however many edits came after its version; or it is gone, where one of these named its receiver.
@@ -44,25 +45,22 @@ impl Board {
               (with_kept (record { version = answer.version; levels = answer.levels })) self.old.rows;
         } }
     {
-        let Landing { place, later } = self.landing_of(answer.version, answer.name());
-        let back = answer.landed(later);
+        let Landing {
+            place,
+            receiver,
+            later,
+        } = self.landing_of(answer.version, answer.name());
+        let back = answer.landed(later, receiver);
         self.land(place, back);
     }
 }
 
 impl Answer {
-    /// The name of its receiver.
-    fn name(&self) -> &[u8]
-        ensures { result.now ≡ self.now.receiver.name }
-    {
-        let receiver = &self.hold.scene.receivers()[self.place as usize];
-        receiver.name.items()
-    }
-
     /// What a row keeps of it where these edits came after its version: the levels with the first edit that touches the
-    /// receiver, the bundles with the edits' marks, and the scene.
-    fn landed(self, later: &[LogEntry]) -> Back
-        requires { self.version + length later.now < 2 ^ 64 }
+    /// receiver, and the bundles with the edits' marks.
+    fn landed(self, later: &[LogEntry], receiver: &Receiver) -> Back
+        requires few { self.version + length later.now < 2 ^ 64 }
+        requires receiver { receiver.now ≡ self.receiver }
         ensures kept { result.kept ≡ Some (record {
           version = self.version;
           by = first_entry_touching self.receiver self.bundles self.version later.now;
@@ -71,18 +69,16 @@ impl Answer {
         ensures bundles { result.cache.bundles.items ≡ self.bundles }
         ensures marks { result.cache.marks.items
             ≡ marks_after_all later.now self.receiver self.bundles (no_marks self.bundles) }
-        ensures scene { result.hold.value.scene ≡ self.scene }
     {
         let Answer {
             version,
-            place,
+            name: _,
             receiver: _,
-            hold,
+            scene: _,
             bundles,
             marks,
             levels,
         } = self;
-        let receiver = &hold.scene.receivers()[place as usize];
         let by = first_touching(later, version, bundles.as_slice(), receiver);
         let mut cache = Cache { bundles, marks };
         mark_by_all(&mut cache, later, receiver);
@@ -94,7 +90,6 @@ impl Answer {
         Back {
             kept: Some(kept),
             cache,
-            hold,
         }
     }
 }

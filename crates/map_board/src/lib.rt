@@ -15,6 +15,7 @@ mod log;
 mod looking;
 mod looks;
 mod marking;
+mod name_copies;
 mod namings;
 mod past;
 mod renewing;

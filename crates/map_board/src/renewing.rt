@@ -11,12 +11,10 @@ ghost use Rattle.map_board.specs.Changes.{scene_before, scene_after, journal_aft
 use crate::marking::mark;
 use crate::past::Past;
 use crate::rows::{Cache, HeldRow, KeptLevels};
-use crate::scenes::PreparedScene;
-use scene_book::Logged;
+use scene_book::{Logged, Scene};
 use scene_parts::{Globals, NoMemory, Receiver};
 use std::alloc::Global;
 use std::snapshot::Snapshot;
-use std::sync::Arc;
 use touch_test::{names_receiver, touches_row};
 
 /// An edit that the newest scene accepts, what held of that whole scene, the edit's version, and the journal before it,
@@ -31,22 +29,22 @@ pub(crate) struct Change {
 /// Rows made anew, one for each receiver of a scene.
 pub(crate) fn fresh_rows(
     alloc: Global,
-    hold: &Arc<PreparedScene>,
+    scene: &Scene,
     version: u64,
 ) -> Result<Vec<HeldRow>, NoMemory>
-    ensures { IfOk result (λ rows. AreFresh version hold.now.value.scene rows.items) }
+    ensures { IfOk result (λ rows. AreFresh version scene.now rows.items) }
 {
-    let receivers = hold.scene.receivers();
+    let receivers = scene.receivers();
     let mut rows = Vec::with_capacity(alloc, receivers.len())?;
     for _receiver in receivers {
-        rows.push(fresh_row(alloc, hold.clone()?, version))?;
+        rows.push(fresh_row(alloc, version))?;
     }
     Ok(rows)
 }
 
 /// A row made anew.
-fn fresh_row(alloc: Global, hold: Arc<PreparedScene>, version: u64) -> HeldRow
-    ensures { IsFresh version hold.value.scene result }
+fn fresh_row(alloc: Global, version: u64) -> HeldRow
+    ensures { IsFresh version result }
 {
     let cache = Cache {
         bundles: Vec::new(alloc),
@@ -57,7 +55,6 @@ fn fresh_row(alloc: Global, hold: Arc<PreparedScene>, version: u64) -> HeldRow
         kept: None,
         out: None,
         cache: Some(cache),
-        hold: Some(hold),
     }
 }
 
@@ -114,31 +111,25 @@ fn next_unnamed(receivers: &[Receiver], from: usize, change: &Change) -> usize
     receivers.len()
 }
 
-/// A row made anew becomes the row of a receiver, with the scene that it holds.
+/// A row made anew becomes the row of a receiver.
 fn take_over(made: &mut HeldRow, row: HeldRow, receiver: &Receiver, change: &Change)
     requires change { IsChange change.now }
     requires holds { RowHolds change.now.past.value receiver.now row }
-    requires fresh { IsFresh change.now.version (scene_after change.now) made.old }
     ensures row { row_of receiver.now made.new ≡ row_of receiver.now row }
     ensures holds { RowHolds (journal_after change.now) receiver.now made.new }
 {
-    let Some(hold) = made.hold.take() else {
-        unreachable!()
-    };
     *made = row;
-    renew(made, receiver, change, hold);
+    renew(made, receiver, change);
 }
 
-/// The row of a receiver after the edit, with the scene after it: bundles that the edit touches are marked, and kept levels
-/// are stale by it where it is the first that touches them.
-fn renew(row: &mut HeldRow, receiver: &Receiver, change: &Change, hold: Arc<PreparedScene>)
+/// The row of a receiver after the edit: bundles that the edit touches are marked, and kept levels are stale by it where it
+/// is the first that touches them.
+fn renew(row: &mut HeldRow, receiver: &Receiver, change: &Change)
     requires change { IsChange change.now }
     requires holds { RowHolds change.now.past.value receiver.now row.old }
-    requires scene { hold.value.scene ≡ scene_after change.now }
     ensures row { row_of receiver.now row.new ≡ row_of receiver.now row.old }
     ensures holds { RowHolds (journal_after change.now) receiver.now row.new }
 {
-    row.hold = Some(hold);
     if let Some(cache) = &mut row.cache {
         let one = mark(cache, &change.logged, &change.globals, receiver);
         touch(&mut row.kept, one, receiver, change);

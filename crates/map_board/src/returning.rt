@@ -11,6 +11,7 @@ use crate::later::mark_by_all;
 use crate::log::LogEntry;
 use crate::rows::{Back, Cache};
 use crate::state::Board;
+use scene_parts::Receiver;
 
 impl Board {
     /// Takes a job back: its row is needy again, with the bundles that the job had and the marks of all edits since, unless
@@ -35,46 +36,30 @@ impl Board {
           rows = with_row job.receiver.name (with_out None) self.old.rows;
         } }
     {
-        let Landing { place, later } = self.landing_of(job.version, job.name());
-        let back = job.returned(later);
+        let Landing {
+            place,
+            receiver,
+            later,
+        } = self.landing_of(job.version, job.name());
+        let back = job.returned(later, receiver);
         self.land(place, back);
     }
 }
 
 impl Job {
-    /// The name of its receiver.
-    fn name(&self) -> &[u8]
-        ensures { result.now ≡ self.now.receiver.name }
-    {
-        let receiver = &self.hold.scene.receivers()[self.place as usize];
-        receiver.name.items()
-    }
-
-    /// The bundles that were kept for it with the marks of these edits, and its scene.
-    fn returned(self, later: &[LogEntry]) -> Back
+    /// The bundles that were kept for it with the marks of these edits.
+    fn returned(self, later: &[LogEntry], receiver: &Receiver) -> Back
+        requires { receiver.now ≡ self.receiver }
         ensures levels { result.kept ≡ None }
         ensures bundles { result.cache.bundles.items ≡ self.kept }
         ensures marks { result.cache.marks.items
             ≡ marks_after_all later.now self.receiver self.kept self.marks }
-        ensures scene { result.hold.value.scene ≡ self.scene }
     {
-        let Job {
-            version: _,
-            place,
-            receiver: _,
-            hold,
-            kept,
-            marks,
-        } = self;
         let mut cache = Cache {
-            bundles: kept,
-            marks,
+            bundles: self.kept,
+            marks: self.marks,
         };
-        mark_by_all(&mut cache, later, &hold.scene.receivers()[place as usize]);
-        Back {
-            kept: None,
-            cache,
-            hold,
-        }
+        mark_by_all(&mut cache, later, receiver);
+        Back { kept: None, cache }
     }
 }

@@ -5,10 +5,8 @@ ghost use Rattle.map_board.specs.Back.{held_with};
 ghost use Rattle.map_board.specs.Boards.{held_shown, is_held_current, is_held_needy, is_held_out, is_held_unsettled, row_out, IsNeedyAt, NoneNeedyBefore};
 
 use crate::answers::Shown;
-use crate::scenes::PreparedScene;
 use path_cache::Bundle;
 use path_calc::Levels;
-use std::sync::Arc;
 
 /// The bundles of a receiver, and beside each whether an edit touched it since.
 #[derive(Drop)]
@@ -26,14 +24,13 @@ pub(crate) struct KeptLevels {
 }
 
 /// What a board holds for a receiver: the version that put it, the levels kept since, the version of the job that is out,
-/// the bundles (unless they are out with the job), and the newest scene (unless a job of the newest version took it).
+/// and the bundles (unless they are out with the job). It holds nothing of the scene.
 #[derive(Drop)]
 pub(crate) struct HeldRow {
     pub since: u64,
     pub kept: Option<KeptLevels>,
     pub out: Option<u64>,
     pub cache: Option<Cache>,
-    pub hold: Option<Arc<PreparedScene>>,
 }
 
 impl HeldRow {
@@ -90,39 +87,33 @@ impl HeldRow {
     }
 }
 
-/// Marks a row as out with a job of a version, and hands out its bundles and its scene.
-pub(crate) fn take_row(row: &mut HeldRow, version: u64) -> (Cache, Arc<PreparedScene>)
-    requires cache { IsSome row.old.cache }
-    requires hold { IsSome row.old.hold }
-    ensures cache { row.old.cache ≡ Some result.0 }
-    ensures hold { row.old.hold ≡ Some result.1 }
+/// Marks a row as out with a job of a version, and hands out its bundles.
+pub(crate) fn take_row(row: &mut HeldRow, version: u64) -> Cache
+    requires { IsSome row.old.cache }
+    ensures cache { row.old.cache ≡ Some result }
     ensures row { row.new ≡ row_out version row.old }
 {
     row.out = Some(version);
-    let (Some(cache), Some(hold)) = (row.cache.take(), row.hold.take()) else {
+    let Some(cache) = row.cache.take() else {
         unreachable!()
     };
-    (cache, hold)
+    cache
 }
 
-/// What comes back to a row: levels where they were calculated, its bundles, and the scene of which these are.
+/// What comes back to a row: levels where they were calculated, and its bundles.
 #[derive(Drop)]
 pub(crate) struct Back {
     pub kept: Option<KeptLevels>,
     pub cache: Cache,
-    pub hold: Arc<PreparedScene>,
 }
 
-/// Puts into a row what comes back to it. No job is out for it from now on; a scene that it has stays.
+/// Puts into a row what comes back to it. No job is out for it from now on.
 pub(crate) fn put_back(row: &mut HeldRow, back: Back)
     ensures { row.new ≡ held_with back row.old }
 {
-    let Back { kept, cache, hold } = back;
+    let Back { kept, cache } = back;
     row.out = None;
     row.cache = Some(cache);
-    if row.hold.is_none() {
-        row.hold = Some(hold);
-    }
     if kept.is_some() {
         row.kept = kept;
     }

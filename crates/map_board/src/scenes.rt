@@ -1,4 +1,4 @@
-//! A scene that rows and jobs hold together.
+//! A scene that a board and its jobs hold together.
 ghost use Rattle.std.specs.Prelude.{◌≡◌, IfOk, map};
 ghost use Rattle.path_calc.specs.Prepared.{prepared_of};
 

@@ -144,8 +144,8 @@ impl Board {
         ensures { TakesJob self.old result self.new }
     {
         let version = self.version;
-        let (cache, hold) = self.rows.take_row(place, version);
+        let cache = self.rows.take_row(place, version);
         self.counts.taken = self.counts.taken.saturating_add(1);
-        Job::of(version, place as u32, hold, cache)
+        Job::of(version, place as u32, &self.hold, cache)
     }
 }

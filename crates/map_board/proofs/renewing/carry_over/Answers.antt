@@ -60,13 +60,6 @@ take_over-requires-clause-holds c =
     each-at c.args.change.now.past.value c.args.olds.now c.args.rows.items c.loop-receiver.receiver-index c.receiver-item.result c.in-Some.row
     c.requires.each (there here) (its-row here).0
 
-pub take_over-requires-clause-fresh : goal.take_over-requires-clause-fresh
-take_over-requires-clause-fresh c =
-    let at = goal.at.take_over-requires-clause-fresh c in
-    let place = below at.After-next_unnamed-place (there at.After-items) (is-named at.After-names_receiver false c.if-names_receiver.false) in
-    c.loop-receiver.invariant.carried.fresh c.next_unnamed-place.result c.index_mut.result.now c.next_unnamed-place.ensures.from
-    (slice_get_read c.loop-receiver.made.items (length c.loop-receiver.made.items) c.next_unnamed-place.result c.index_mut.result.now refl place c.index_mut.ensures.value)
-
 pub loop-receiver-preserved : goal.loop-receiver-preserved
 loop-receiver-preserved c =
     let at = goal.at.loop-receiver-preserved c in

@@ -7,5 +7,5 @@ use Rattle.map_board.proofs.renewing.fresh_rows.Given as goal
 abbrev pub invariant-loop-receiver : goal.invariant-loop-receiver
 invariant-loop-receiver l = record {
   count : length l.rows.items ≡ l._receiver-index;
-  each : All (IsFresh l.version l.hold.value.scene) l.rows.items;
+  each : All (IsFresh l.version) l.rows.items;
 }

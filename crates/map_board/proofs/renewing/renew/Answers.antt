@@ -5,7 +5,7 @@ use Rattle.map_board.proofs.renewing.renew.Goals as goal
 
 pub returns-in_default-clause-holds : goal.returns-in_default-clause-holds
 returns-in_default-clause-holds c =
-    rw c.in_default.is (out-holds c.args.change.now c.requires.change c.args.receiver.now c.args.row.now c.requires.holds c.args.hold c.requires.scene c.in_default.is)
+    rw c.in_default.is (out-holds c.args.change.now c.requires.change c.args.receiver.now c.args.row.now c.requires.holds c.in_default.is)
 
 pub touch-requires-clause-past : goal.touch-requires-clause-past
 touch-requires-clause-past c =
@@ -21,5 +21,5 @@ touch-requires-clause-one c levels some none =
 
 pub returns-in-Some-clause-holds : goal.returns-in-Some-clause-holds
 returns-in-Some-clause-holds c =
-    marked-holds c.args.change.now c.requires.change c.args.receiver.now c.args.row.now c.requires.holds c.touch.new.kept c.in-Some.cache c.mark-one.new.cache c.args.hold
-    c.requires.scene c.in-Some.is c.touch.ensures.same c.touch.ensures.by (ap (λ b. b.items) c.mark-one.ensures.bundles) c.mark-one.ensures.marks
+    marked-holds c.args.change.now c.requires.change c.args.receiver.now c.args.row.now c.requires.holds c.touch.new.kept c.in-Some.cache c.mark-one.new.cache
+    c.in-Some.is c.touch.ensures.same c.touch.ensures.by (ap (λ b. b.items) c.mark-one.ensures.bundles) c.mark-one.ensures.marks

@@ -23,10 +23,6 @@ pub returns-clause-cache : goal.returns-clause-cache
 returns-clause-cache c held there =
     ap (λ (h : HeldRow). h.cache) (sym (item (goal.at.returns-clause-cache c).After-index_mut held there)) ∙ c.take_row.ensures.cache
 
-pub returns-clause-hold : goal.returns-clause-hold
-returns-clause-hold c held there =
-    ap (λ (h : HeldRow). h.hold) (sym (item (goal.at.returns-clause-hold c).After-index_mut held there)) ∙ c.take_row.ensures.hold
-
 pub returns-clause-rows : goal.returns-clause-rows
 returns-clause-rows c held there =
     let new = c.take_row.ensures.row ∙ ap (row_out c.args.version) (item (goal.at.returns-clause-rows c).After-index_mut held there) in

@@ -1,6 +1,10 @@
-use Rattle.std.proofs.Common.{◌≡◌, ◌+◌, ◌∙◌, ap, sym, arith, false}
+use Rattle.std.proofs.Common.{◌≡◌, ◌+◌, ◌∙◌, ap, sym, subst, arith, false}
+use Rattle.std.specs.Prelude.{Option, IfSome}
+use Rattle.std.specs.declared.sync.Arc.{Arc}
+use Rattle.std.specs.declared.alloc.Global.{Global}
 use Rattle.std.proofs.lemmas.Simd.{splat_is_map}
 use Rattle.path_calc.specs.Levels.{levels_of}
+use Rattle.map_board.specs.declared.scenes.PreparedScene.{PreparedScene}
 use Rattle.map_board.specs.Views.{Job}
 use Rattle.map_board.proofs.jobs.Job.calculate.Goals as goal
 
@@ -16,6 +20,9 @@ pub returns-clause-steps : goal.returns-clause-steps
 returns-clause-steps g c =
     let b = c.self.inside in
     let receiver : c.receiver_in.result.now ≡ b.receiver.value = c.receiver_in.ensures ∙ sym (ap (λ (j : Job). j.receiver) c.self.view_is) in
+    let shared : c.in-Some.hold.value.scene ≡ b.scene.value =
+    subst (λ (o : Option (Arc PreparedScene Global)). IfSome o (λ prepared. prepared.value.scene ≡ b.scene.value)) c.in-Some.is c.self.invariant.1.hold in
+    let scene : c.deref-hold.result.now.scene ≡ b.scene.value = ap (λ (prepared : PreparedScene). prepared.scene) c.deref-hold.ensures ∙ shared in
     c.in_ok-bundles.ensures.steps
     ∙ ap (λ n. c.args.steps.now + n)
-    (rw (c.deref-hold.ensures, receiver, c.deref-2.ensures.value, c.deref-3.ensures.value) (ap (λ (j : Job). j.due) c.self.view_is))
+    (rw (scene, receiver, c.deref-2.ensures.value, c.deref-3.ensures.value) (ap (λ (j : Job). j.due) c.self.view_is))

@@ -6,7 +6,7 @@ use Rattle.map_board.specs.Held.{IsJobOf}
 use Rattle.map_board.specs.Machine.{TakesJob}
 use Rattle.map_board.specs.Boards.{IsBoard, rows_of, counts_of, row_out}
 use Rattle.map_board.proofs.Places.{each-lengths, held-needy}
-use Rattle.map_board.proofs.Taking.{Ready, ready-seen, has-cache, has-hold, cache-is, hold-is, place-within, can-refresh, are-within, board-out, takes-job}
+use Rattle.map_board.proofs.Taking.{Ready, ready-seen, has-cache, cache-is, place-within, can-refresh, are-within, board-out, takes-job}
 use Rattle.map_board.proofs.state.Board.take_at.Goals as goal
 use Rattle.map_board.proofs.state.Board.take_at.Goals.{After-self}
 
@@ -16,15 +16,10 @@ row c =
     let b = c.self.inside in
     ready-seen b.past b.hold.value.scene.receivers b.rows b.finished b.counts c.args.self.now c.args.place c.self.view_is c.self.invariant.each c.requires.needy
 
-pub take_row-cache-requires-clause-cache : goal.take_row-cache-requires-clause-cache
-take_row-cache-requires-clause-cache c =
+pub take_row-cache-requires : goal.take_row-cache-requires
+take_row-cache-requires c =
     let b = c.self.inside in
-    has-cache b.past b.hold.value.scene b.rows c.args.place c.self.invariant.shows (row (goal.at.take_row-cache-requires-clause-cache c).After-self)
-
-pub take_row-cache-requires-clause-hold : goal.take_row-cache-requires-clause-hold
-take_row-cache-requires-clause-hold c =
-    let b = c.self.inside in
-    has-hold b.past b.hold.value.scene b.rows c.args.place c.self.invariant.shows (row (goal.at.take_row-cache-requires-clause-hold c).After-self)
+    has-cache b.past b.hold.value.scene b.rows c.args.place c.self.invariant.shows (row (goal.at.take_row-cache-requires c).After-self)
 
 pub overflow_cast-place : goal.overflow_cast-place
 overflow_cast-place c =
@@ -37,20 +32,20 @@ pub of-requires-clause-place : goal.of-requires-clause-place
 of-requires-clause-place c =
     let b = c.self.inside in
     let rdy = row (goal.at.of-requires-clause-place c).After-self in
-    place-within b.past b.hold.value.scene b.rows c.args.place c.self.invariant.shows rdy c.take_row-cache.result.1 (c.take_row-cache.ensures.hold rdy.at.held rdy.at.there)
+    place-within b.past b.hold.value.scene b.rows c.args.place c.self.invariant.shows rdy
 
 pub of-requires-clause-kept : goal.of-requires-clause-kept
 of-requires-clause-kept c =
     let b = c.self.inside in
     let rdy = row (goal.at.of-requires-clause-kept c).After-self in
-    can-refresh b.past b.hold.value.scene b.rows c.args.place c.self.invariant.shows rdy c.take_row-cache.result.0 (c.take_row-cache.ensures.cache rdy.at.held rdy.at.there)
+    can-refresh b.past b.hold.value.scene b.rows c.args.place c.self.invariant.shows rdy c.take_row-cache.result (c.take_row-cache.ensures.cache rdy.at.held rdy.at.there)
 
 pub of-requires-clause-within : goal.of-requires-clause-within
 of-requires-clause-within c =
     let b = c.self.inside in
     let rdy = row (goal.at.of-requires-clause-within c).After-self in
-    are-within b.past b.hold.value.scene b.rows c.args.place c.self.invariant.shows rdy c.take_row-cache.result.0 c.take_row-cache.result.1
-    (c.take_row-cache.ensures.cache rdy.at.held rdy.at.there) (c.take_row-cache.ensures.hold rdy.at.held rdy.at.there)
+    are-within b.past b.hold.value.scene b.rows c.args.place c.self.invariant.shows rdy c.take_row-cache.result
+    (c.take_row-cache.ensures.cache rdy.at.held rdy.at.there)
 
 pub invariant_of-self : goal.invariant_of-self
 invariant_of-self c =
@@ -64,11 +59,9 @@ pub returns : goal.returns
 returns c =
     let b = c.self.inside in
     let rdy = row (goal.at.returns c).After-self in
-    let cache = cache-is b.past b.hold.value.scene b.rows c.args.place c.self.invariant.shows rdy c.take_row-cache.result.0 (c.take_row-cache.ensures.cache rdy.at.held rdy.at.there) in
-    let hold = hold-is b.past b.hold.value.scene b.rows c.args.place c.self.invariant.shows rdy c.take_row-cache.result.1 (c.take_row-cache.ensures.hold rdy.at.held rdy.at.there) in
-    let of : IsJobOf b.version c.args.place rdy.hold.value.scene rdy.cache.bundles.items rdy.cache.marks.items c.of.result =
-    subst (λ h. IsJobOf b.version c.args.place h.value.scene rdy.cache.bundles.items rdy.cache.marks.items c.of.result) (sym hold)
-    (subst (λ k. IsJobOf b.version c.args.place c.take_row-cache.result.1.value.scene k.bundles.items k.marks.items c.of.result) (sym cache) c.of.ensures) in
+    let cache = cache-is b.past b.hold.value.scene b.rows c.args.place c.self.invariant.shows rdy c.take_row-cache.result (c.take_row-cache.ensures.cache rdy.at.held rdy.at.there) in
+    let of : IsJobOf b.version c.args.place b.hold.value.scene rdy.cache.bundles.items rdy.cache.marks.items c.of.result =
+    subst (λ k. IsJobOf b.version c.args.place b.hold.value.scene k.bundles.items k.marks.items c.of.result) (sym cache) c.of.ensures in
     let unfinished : b.finished ≡ false = ap (λ (s : State). s.finished) c.self.view_is ∙ c.requires.unfinished in
     let counted : counts_of (record b.counts { taken = c.saturating_add-self-inside.result }) ≡ record (counts_of b.counts) { taken = one_more b.counts.taken } =
     ap (λ n. counts_of (record b.counts { taken = n })) c.saturating_add-self-inside.ensures in
