@@ -36,7 +36,7 @@ use Rattle.map_board.proofs.Since.{right-later, touching-later, fresh-later, ans
 
 -- what contracts see of a board
 abbrev pub seen : Inside → State
-seen b = record { journal = b.past; rows = rows_of b.hold.value.scene.receivers b.rows; finished = b.finished; counts = counts_of b.counts }
+seen b = record { journal = b.past; rows = rows_of b.hold.value.scene.receivers b.rows.items; finished = b.finished; counts = counts_of b.counts }
 
 -- ---- where it comes back
 
@@ -120,10 +120,10 @@ pub record IsReached (journal : List Edit) (entries : List LogEntry) (version : 
   pub later : drop (length entries - (length journal - version)) entries ≡ entries_after journal version
 
 -- the log reaches back to a version that is out
-pub reached : (b : Inside) → IsBoard b.version b.past b.hold.value.scene b.rows b.log b.namings.items → (name : List ℕ) (version : ℕ)
+pub reached : (b : Inside) → IsBoard b.version b.past b.hold.value.scene b.rows.items b.log b.namings.items → (name : List ℕ) (version : ℕ)
     → version_out name (seen b).rows ≡ Some version → IsReached b.past b.log.entries.items version
 reached b board name version out =
-    let within = out-within b.past b.hold.value.scene.receivers b.rows b.log.start version name board.each board.reaches out in
+    let within = out-within b.past b.hold.value.scene.receivers b.rows.items b.log.start version name board.each board.reaches out in
     let all = length-after b.past b.log.start board.logged.past in
     let count = ap length board.logged.entries in
     let before : length b.log.entries.items - (length b.past - version) ≡ version - b.log.start = omega (arith, all, count, within.from, within.past) in
@@ -275,20 +275,20 @@ held-row r back held = go back.kept held.kept where
   go None o = refl
   go (Some k) o = refl
 
-module _ (b : Inside) (board : IsBoard b.version b.past b.hold.value.scene b.rows b.log b.namings.items) (place : ℕ) (back : Back)
+module _ (b : Inside) (board : IsBoard b.version b.past b.hold.value.scene b.rows.items b.log b.namings.items) (place : ℕ) (back : Back)
     (suits : SuitsAt (seen b) place back) where
-  pub at : At b.past b.hold.value.scene.receivers b.rows place
-  at = at-place b.past b.hold.value.scene.receivers b.rows place suits.row board.each suits.there
+  pub at : At b.past b.hold.value.scene.receivers b.rows.items place
+  at = at-place b.past b.hold.value.scene.receivers b.rows.items place suits.row board.each suits.there
 
   row-is : row_of at.r at.held ≡ suits.row
   row-is = cc (at.row, suits.there)
 
-  pub place-below : place < length b.rows
-  place-below = slice_get_within b.rows place at.held at.there
+  pub place-below : place < length b.rows.items
+  place-below = slice_get_within b.rows.items place at.held at.there
 
   -- the rows with it
   abbrev pub rows-back : List HeldRow
-  rows-back = set b.rows place (held_with back at.held)
+  rows-back = set b.rows.items place (held_with back at.held)
 
   holds : RowHolds b.past at.r (held_with back at.held)
   holds =
@@ -299,7 +299,7 @@ module _ (b : Inside) (board : IsBoard b.version b.past b.hold.value.scene b.row
   -- another row stands there
   pub board-with : IsBoard b.version b.past b.hold.value.scene rows-back b.log b.namings.items
   board-with =
-      board-set b.version b.past b.hold.value.scene b.rows b.log b.namings.items place at.r (held_with back at.held) board at.receiver holds tt
+      board-set b.version b.past b.hold.value.scene b.rows.items b.log b.namings.items place at.r (held_with back at.held) board at.receiver holds tt
 
   -- contracts see the row of that place changed
   pub rows-with : (row : Row) → slice_get (seen b).rows place ≡ Some row
@@ -308,5 +308,5 @@ module _ (b : Inside) (board : IsBoard b.version b.past b.hold.value.scene b.row
   rows-with row there =
       let same : row_of at.r at.held ≡ row = cc (at.row, there) in
       let changed : row_of at.r (held_with back at.held) ≡ row_with back.kept (row_of at.r at.held) = held-row at.r back at.held in
-      ap (λ rows. record (seen b) { rows = rows }) (rows-set b.hold.value.scene.receivers b.rows place at.r at.held (held_with back at.held) (row_with back.kept) board.apart at.receiver at.there changed)
+      ap (λ rows. record (seen b) { rows = rows }) (rows-set b.hold.value.scene.receivers b.rows.items place at.r at.held (held_with back at.held) (row_with back.kept) board.apart at.receiver at.there changed)
       ∙ ap (λ (y : Row). record (seen b) { rows = with_row y.receiver.name (row_with back.kept) (seen b).rows }) same

@@ -22,5 +22,7 @@ pub mod AfterEdits
 pub mod Carrying
 pub mod BoardAfter
 pub mod Receivers
+pub mod Staying
+pub mod LeftSources
 pub mod Showing
 pub mod Touched

@@ -99,11 +99,11 @@ none-fine = record { apart = tt; few = omega arith }
 abbrev Answer : Type 0
 Answer = Result (Book × Option Part) EditFault
 
-through : (r : Result (Unit {0}) EditFault) (rest : Answer) (y : Book × Option Part) → (r >> rest) ≡ Ok y → (r ≡ Ok tt) × (rest ≡ Ok y)
+pub through : (r : Result (Unit {0}) EditFault) (rest : Answer) (y : Book × Option Part) → (r >> rest) ≡ Ok y → (r ≡ Ok tt) × (rest ≡ Ok y)
 through (Ok tt) rest y e = (refl, e)
 through (Err fault) rest y e = cc
 
-first : (x y : Book × Option Part) (r : Answer) → r ≡ Ok x → r ≡ Ok y → x.0 ≡ y.0
+pub first : (x y : Book × Option Part) (r : Answer) → r ≡ Ok x → r ≡ Ok y → x.0 ≡ y.0
 first x y r e f = let same : x ≡ y = cc in ap (λ (p : Book × Option Part). p.0) same
 
 abbrev Test : Type 0

@@ -1,15 +1,20 @@
 -- How rows go over from the scene before an edit to the scene after it.
-use Rattle.std.specs.Prelude.{◌≡◌, ℕ, suc, Bool, not, List, [], ◌∷◌, ◌++◌, length, All, IsSomeAnd, None, Ok}
-use Rattle.scene_parts.specs.Views.{Receiver}
+use Rattle.std.specs.Prelude.{◌≡◌, ℕ, zero, suc, ◌-◌, Bool, true, false, not, List, [], ◌∷◌, ◌++◌, length, IsSomeAnd, Option, Some, None, Ok}
+use Rattle.std.specs.List.{remove}
+use Rattle.scene_parts.specs.Views.{Receiver, Grid}
+use Rattle.scene_parts.specs.declared.parts.Part.{Part}
+use Rattle.scene_parts.specs.declared.parts.Part.TheVariants as parts
+use Rattle.scene_book.specs.Limits.{most_receivers}
+use Rattle.scene_book.specs.Lists.{place_of}
 use Rattle.scene_book.specs.Book.{Book}
 use Rattle.scene_book.specs.Applying.{apply_of}
 use Rattle.scene_book.specs.declared.edits.Edit.{Edit}
+use Rattle.scene_book.specs.declared.edits.Edit.TheVariants as edits
 use Rattle.touch_test.specs.Touches.{names_receiver}
 use Rattle.map_board.specs.declared.rows.HeldRow.{HeldRow}
 use Rattle.map_board.specs.declared.renewing.Change.{Change}
-use Rattle.map_board.specs.declared.editing.Plan.{Plan}
 use Rattle.map_board.specs.Journal.{book_after, newest_scene}
-use Rattle.map_board.specs.Namings.{naming_of}
+use Rattle.map_board.specs.Boards.{row_of, RowHolds}
 use Rattle.map_board.specs.Marks.{touches_one}
 use Rattle.path_calc.specs.Show.{bundles_of}
 
@@ -46,13 +51,51 @@ pub record IsFresh (version : ℕ) (held : HeldRow) : Type 0 where
   pub out : held.out ≡ None
   pub empty : IsSomeAnd held.cache (λ cache. (cache.bundles.items ≡ []) × (cache.marks.items ≡ []))
 
--- one for each receiver of a scene
-pub record AreFresh (version : ℕ) (scene : Book) (helds : List HeldRow) : Type 0 where
-  pub count : length helds ≡ length scene.receivers
-  pub each : All (IsFresh version) helds
+-- a receiver that the edit doesn't name has a row, which is right for the scene before it
+abbrev pub HasRow : Change → Receiver → Option HeldRow → Type 0
+HasRow change r before = is_unnamed change r ≡ true → IsSomeAnd before (RowHolds change.past.value r)
 
--- what an edit of a scene needs: the scene after it and its old part, the receivers that it names, and fresh rows
-pub record IsPlan (edit : Edit) (version : ℕ) (before : Book) (plan : Plan) : Type 0 where
-  pub accepted : apply_of edit before ≡ Ok (plan.hold.value.scene, plan.old)
-  pub named : plan.named ≡ naming_of edit plan.old
-  pub rows : AreFresh version plan.hold.value.scene plan.rows.items
+-- the row of a receiver after the edit: anew where the edit names it, else as it was, and right for the scene after it
+pub record IsRowAfter (change : Change) (r : Receiver) (before : Option HeldRow) (held : HeldRow) : Type 0 where
+  pub anew : is_unnamed change r ≡ false → IsFresh change.version held
+  pub same : is_unnamed change r ≡ true → IsSomeAnd before (λ old. row_of r held ≡ row_of r old)
+  pub holds : is_unnamed change r ≡ true → RowHolds (journal_after change) r held
+
+-- a list with a thing at a place, in the place of another or behind the last
+abbrev pub placed : {A : Type 0} → ℕ → A → List A → List A
+placed place thing [] = thing ∷ []
+placed zero thing (x ∷ xs) = thing ∷ xs
+placed (suc place) thing (x ∷ xs) = x ∷ placed place thing xs
+
+-- ---- what an edit takes memory for, and what it takes out
+
+-- how many receivers an edit may add to so many
+abbrev pub most_more : Edit → ℕ → ℕ
+most_more (edits.Put (parts.Receiver r)) count = 1
+most_more (edits.Grid grid) count = most_receivers - count
+most_more edit count = 0
+
+-- the grid that an edit puts
+abbrev pub grid_put : Edit → Option Grid
+grid_put (edits.Grid grid) = Some grid
+grid_put edit = None
+
+-- the place of the receiver whose name an edit removes
+abbrev pub named_place : Edit → List Receiver → Option ℕ
+named_place (edits.Remove name) rs = place_of (λ r. r.name) name rs
+named_place edit rs = None
+
+-- this place, where an edit with its old part removes a receiver
+abbrev pub gone_from : Option ℕ → Edit → Option Part → Option ℕ
+gone_from place (edits.Remove name) (Some (parts.Receiver r)) = place
+gone_from place edit old = None
+
+-- the place of the receiver that the edit removes
+abbrev pub removed_place : Change → Option ℕ
+removed_place change =
+    gone_from (named_place change.logged.edit (scene_before change).receivers) change.logged.edit change.logged.old
+
+-- a list without the thing at a place, if there is a place
+abbrev pub without_place : {A : Type 0} → Option ℕ → List A → List A
+without_place None xs = xs
+without_place (Some place) xs = remove xs place

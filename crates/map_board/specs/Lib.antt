@@ -1,5 +1,6 @@
 pub mod Views
 pub mod Seen
+pub mod Sources
 pub mod Held
 pub mod Journal
 pub mod Rows

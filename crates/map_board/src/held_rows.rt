@@ -1,14 +1,20 @@
 //! The rows of a board, with a place before which none of them is needy.
-ghost use Rattle.std.specs.Prelude.{◌≡◌, ◌<◌, false, None, Some, IsSome, IfSome, IfNone, IsSomeAnd, length, slice_get, slice_set};
+ghost use Rattle.std.specs.Prelude.{◌≡◌, ◌+◌, ◌<◌, ◌≤◌, false, None, Some, IsSome, IfSome, IfNone, IsSomeAnd, OnOk, length, slice_get, slice_set, vec_len, vec_capacity};
 ghost use Rattle.std.specs.List.{list_any};
 ghost use Rattle.map_board.specs.Back.{held_with};
-ghost use Rattle.map_board.specs.Boards.{is_held_needy, row_out, IsNeedyAt};
+ghost use Rattle.scene_book.specs.Lists.{AreApart};
+ghost use Rattle.map_board.specs.Boards.{is_held_needy, row_out, rows_of, EachHolds, IsNeedyAt};
+ghost use Rattle.map_board.specs.Changes.{scene_before, scene_after, journal_after, removed_place, IsChange};
+ghost use Rattle.map_board.specs.Machine.{rows_after};
 
+use crate::renewing::{Change, carry_over};
 use crate::rows::{Back, Cache, HeldRow, next_needy, put_back, take_row};
+use scene_parts::{NoMemory, Receiver};
+use std::alloc::Global;
 use std::marker::Model;
 
 /// The rows of a board. A search for a needy row goes on from where the last one ended: none before that place is needy.
-/// Contracts see it as the list of rows.
+/// Contracts see it as the vector of rows.
 #[derive(Drop)]
 pub(crate) struct HeldRows {
     rows: Vec<HeldRow>,
@@ -16,13 +22,14 @@ pub(crate) struct HeldRows {
 }
 
 impl Model for HeldRows {
-    ghost use Rattle.std.specs.Prelude.{List};
+    ghost use Rattle.std.specs.Prelude.{Vec};
+    ghost use Rattle.std.specs.declared.alloc.Global.{Global};
     ghost use Rattle.map_board.specs.declared.rows.HeldRow.{HeldRow};
     ghost use Rattle.map_board.specs.Boards.{NoneNeedyBefore};
 
-    ghost Value = { List HeldRow };
+    ghost Value = { Vec HeldRow Global };
 
-    ghost view = { λ held. held.rows.items };
+    ghost view = { λ held. held.rows };
 
     ghost invariant = { λ held. NoneNeedyBefore held.passed held.rows.items };
 }
@@ -30,21 +37,14 @@ impl Model for HeldRows {
 impl HeldRows {
     /// These rows, any of which may be needy.
     pub(crate) fn of(rows: Vec<HeldRow>) -> HeldRows
-        ensures { result ≡ rows.items }
+        ensures { result ≡ rows }
     {
         HeldRows { rows, passed: 0 }
     }
 
-    /// The rows alone.
-    pub(crate) fn into_vec(self) -> Vec<HeldRow>
-        ensures { result.items ≡ self }
-    {
-        self.rows
-    }
-
     /// The rows in their order.
     pub(crate) fn as_slice(&self) -> &[HeldRow]
-        ensures { result.now ≡ self.now }
+        ensures { result.now ≡ self.now.items }
     {
         self.rows.as_slice()
     }
@@ -52,8 +52,8 @@ impl HeldRows {
     /// The place of the first needy row. The next search goes on from there.
     pub(crate) fn first_needy(&mut self) -> Option<usize>
         ensures same { self.new ≡ self.old }
-        ensures none { IfNone result (list_any is_held_needy self.old ≡ false) }
-        ensures some { IfSome result (λ place. IsNeedyAt self.old place) }
+        ensures none { IfNone result (list_any is_held_needy self.old.items ≡ false) }
+        ensures some { IfSome result (λ place. IsNeedyAt self.old.items place) }
     {
         match next_needy(self.rows.as_slice(), self.passed) {
             Some(place) => {
@@ -69,21 +69,52 @@ impl HeldRows {
 
     /// Marks the row at a place as out with a job of a version, and hands out its bundles.
     pub(crate) fn take_row(&mut self, place: usize, version: u64) -> Cache
-        requires { IsSomeAnd (slice_get self.old place) (λ held. IsSome held.cache) }
-        ensures cache { (held : _) → slice_get self.old place ≡ Some held → held.cache ≡ Some result }
-        ensures rows { (held : _) → slice_get self.old place ≡ Some held
-            → self.new ≡ slice_set self.old place (row_out version held) }
+        requires { IsSomeAnd (slice_get self.old.items place) (λ held. IsSome held.cache) }
+        ensures cache { (held : _) → slice_get self.old.items place ≡ Some held → held.cache ≡ Some result }
+        ensures rows { (held : _) → slice_get self.old.items place ≡ Some held
+            → self.new.items ≡ slice_set self.old.items place (row_out version held) }
     {
         take_row(&mut self.rows[place], version)
     }
 
     /// Puts what comes back into the row at a place, which may be needy from now on.
     pub(crate) fn put_back(&mut self, place: usize, back: Back)
-        requires { place < length self.old }
-        ensures { (held : _) → slice_get self.old place ≡ Some held
-            → self.new ≡ slice_set self.old place (held_with back held) }
+        requires { place < length self.old.items }
+        ensures { (held : _) → slice_get self.old.items place ≡ Some held
+            → self.new.items ≡ slice_set self.old.items place (held_with back held) }
     {
         self.passed = self.passed.min(place);
         put_back(&mut self.rows[place], back);
+    }
+
+    /// Makes room for some rows more.
+    pub(crate) fn reserve(&mut self, more: usize) -> Result<(), NoMemory>
+        ensures same { self.new.items ≡ self.old.items }
+        ensures room { OnOk result (vec_len self.new + more ≤ vec_capacity self.new) }
+    {
+        self.rows.reserve(more)?;
+        Ok(())
+    }
+
+    /// Carries the rows over to the scene after an edit, as `carry_over` says. Any of them may be needy from now on.
+    pub(crate) fn carry_over(
+        &mut self,
+        alloc: Global,
+        gone: Option<usize>,
+        news: &[Receiver],
+        change: &Change,
+    )
+        requires change { IsChange change.now }
+        requires news { news.now ≡ (scene_after change.now).receivers }
+        requires apart { AreApart (λ r. r.name) (scene_before change.now).receivers }
+        requires each { EachHolds change.now.past.value (scene_before change.now).receivers self.old.items }
+        requires gone { gone ≡ removed_place change.now }
+        requires room { length news.now ≤ vec_capacity self.old }
+        ensures each { EachHolds (journal_after change.now) news.now self.new.items }
+        ensures rows { rows_of news.now self.new.items ≡ rows_after change.now.logged.edit change.now.past.value
+            (rows_of (scene_before change.now).receivers self.old.items) }
+    {
+        carry_over(alloc, &mut self.rows, gone, news, change);
+        self.passed = 0;
     }
 }

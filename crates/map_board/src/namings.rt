@@ -1,16 +1,18 @@
 //! The edits of a board that name receivers: small entries that are kept for ever.
-ghost use Rattle.std.specs.Prelude.{◌≡◌, ◌++◌, ◌<◌, IfOk, vec_len, vec_capacity};
+ghost use Rattle.std.specs.Prelude.{◌≡◌, ◌++◌, ◌<◌, IfOk, OnOk, vec_len, vec_capacity};
 ghost use Rattle.map_board.specs.FirstNaming.{first_noted, has_name};
+ghost use Rattle.map_board.specs.Changes.{grid_put};
 ghost use Rattle.map_board.specs.Namings.{named_part as receivers_of_part, naming_of, noted};
 
+use crate::name_copies::NameCopy;
 use scene_book::Edit;
-use scene_parts::{GridSpec, Name, NoMemory, Part};
+use scene_parts::{GridSpec, NoMemory, Part};
 use touch_test::puts;
 
 /// The receivers that an edit puts or removes.
 #[derive(Drop)]
 pub(crate) enum NamedReceivers {
-    One(Name),
+    One(NameCopy),
     Grid(GridSpec),
 }
 
@@ -21,32 +23,56 @@ pub(crate) struct Naming {
     pub receivers: NamedReceivers,
 }
 
+/// A copy of the grid that an edit puts, if it puts one.
+pub(crate) fn grid_of(edit: &Edit) -> Result<Option<GridSpec>, NoMemory>
+    ensures { IfOk result (λ grid. grid ≡ grid_put edit.now) }
+{
+    match edit {
+        Edit::Grid(grid) => Ok(Some(grid.clone()?)),
+        _ => Ok(None),
+    }
+}
+
 /// The receivers that an edit with its old part puts or removes, if there are any.
 pub(crate) fn named_receivers(
     edit: &Edit,
     old: &Option<Part>,
-) -> Result<Option<NamedReceivers>, NoMemory>
-    ensures { IfOk result (λ named. named ≡ naming_of edit.now old.now) }
+    grid: Option<GridSpec>,
+) -> Option<NamedReceivers>
+    requires { grid ≡ grid_put edit.now }
+    ensures { result ≡ naming_of edit.now old.now }
 {
     match edit {
         Edit::Put(part) => named_part(part),
         Edit::Remove(_) => match old {
             Some(part) => named_part(part),
-            None => Ok(None),
+            None => None,
         },
-        Edit::Grid(grid) => Ok(Some(NamedReceivers::Grid(grid.clone()?))),
-        Edit::Set(_) => Ok(None),
+        Edit::Grid(_) => match grid {
+            Some(grid) => Some(NamedReceivers::Grid(grid)),
+            None => None,
+        },
+        Edit::Set(_) => None,
     }
 }
 
 /// The receiver that a part is.
-fn named_part(part: &Part) -> Result<Option<NamedReceivers>, NoMemory>
-    ensures { IfOk result (λ named. named ≡ receivers_of_part part.now) }
+fn named_part(part: &Part) -> Option<NamedReceivers>
+    ensures { result ≡ receivers_of_part part.now }
 {
     match part {
-        Part::Receiver(receiver) => Ok(Some(NamedReceivers::One(receiver.name.clone()?))),
-        _ => Ok(None),
+        Part::Receiver(receiver) => Some(NamedReceivers::One(NameCopy::of(&receiver.name))),
+        _ => None,
     }
+}
+
+/// Makes room for the naming of one edit more.
+pub(crate) fn room_for_naming(namings: &mut Vec<Naming>) -> Result<(), NoMemory>
+    ensures same { namings.new.items ≡ namings.old.items }
+    ensures room { OnOk result (vec_len namings.new < vec_capacity namings.new) }
+{
+    namings.reserve(1)?;
+    Ok(())
 }
 
 /// Notes the edit of a version, where it names receivers.

@@ -1,18 +1,19 @@
 //! Rows that go over to the scene after an edit.
-ghost use Rattle.std.specs.Prelude.{◌≡◌, ◌≤◌, ◌<◌, ℕ, true, false, length, slice_get, All, IfOk};
+ghost use Rattle.std.specs.Prelude.{◌≡◌, ◌≤◌, ◌<◌, ℕ, Some, None, length, slice_get, All, IfSome, IsSomeAnd, vec_capacity};
 ghost use Rattle.std.specs.Option.{option_map};
 ghost use Rattle.scene_book.specs.Lists.{AreApart};
 ghost use Rattle.touch_test.specs.Touches.{touches_receiver};
 ghost use Rattle.map_board.specs.declared.rows.KeptLevels.{KeptLevels};
 ghost use Rattle.map_board.specs.Machine.{rows_after};
 ghost use Rattle.map_board.specs.Boards.{kept_of, row_of, rows_of, ByIsRight, RowHolds, EachHolds, IsOutSince};
-ghost use Rattle.map_board.specs.Changes.{scene_before, scene_after, journal_after, touches_a_path, is_unnamed, IsChange, IsFresh, AreFresh};
+ghost use Rattle.map_board.specs.Changes.{scene_before, scene_after, journal_after, touches_a_path, most_more, named_place, gone_from, removed_place, placed, without_place, IsChange, IsFresh, HasRow, IsRowAfter};
 
 use crate::marking::mark;
 use crate::past::Past;
 use crate::rows::{Cache, HeldRow, KeptLevels};
-use scene_book::{Logged, Scene};
-use scene_parts::{Globals, NoMemory, Receiver};
+use scene_book::limits::MOST_RECEIVERS;
+use scene_book::{Edit, Logged, Scene};
+use scene_parts::{Globals, Part, Receiver};
 use std::alloc::Global;
 use std::snapshot::Snapshot;
 use touch_test::{names_receiver, touches_row};
@@ -26,20 +27,121 @@ pub(crate) struct Change {
     pub past: Snapshot<Past>,
 }
 
-/// Rows made anew, one for each receiver of a scene.
-pub(crate) fn fresh_rows(
-    alloc: Global,
-    scene: &Scene,
-    version: u64,
-) -> Result<Vec<HeldRow>, NoMemory>
-    ensures { IfOk result (λ rows. AreFresh version scene.now rows.items) }
+/// How many rows an edit may add to so many.
+pub(crate) fn rows_more(edit: &Edit, count: usize) -> usize
+    ensures { result ≡ most_more edit.now count }
 {
-    let receivers = scene.receivers();
-    let mut rows = Vec::with_capacity(alloc, receivers.len())?;
-    for _receiver in receivers {
-        rows.push(fresh_row(alloc, version))?;
+    match edit {
+        Edit::Put(Part::Receiver(_)) => 1,
+        Edit::Grid(_) => (MOST_RECEIVERS as usize).saturating_sub(count),
+        _ => 0,
     }
-    Ok(rows)
+}
+
+/// The place of the receiver whose name an edit removes.
+pub(crate) fn place_to_go(edit: &Edit, scene: &Scene) -> Option<usize>
+    ensures { result ≡ named_place edit.now scene.now.receivers }
+{
+    match edit {
+        Edit::Remove(name) => scene.receiver_place(name.items()),
+        _ => None,
+    }
+}
+
+/// The place of the receiver that an edit has removed, where this is the place of its name.
+pub(crate) fn removed(logged: &Logged, place: Option<usize>) -> Option<usize>
+    ensures { result ≡ gone_from place logged.now.edit logged.now.old }
+{
+    match (&logged.edit, &logged.old) {
+        (Edit::Remove(_), Some(Part::Receiver(_))) => place,
+        _ => None,
+    }
+}
+
+/// The rows go over to the scene after an edit: that of a receiver that it removes is dropped, those that it puts are made
+/// anew, and the others stay, each at its receiver's place.
+pub(crate) fn carry_over(
+    alloc: Global,
+    rows: &mut Vec<HeldRow>,
+    gone: Option<usize>,
+    news: &[Receiver],
+    change: &Change,
+)
+    requires change { IsChange change.now }
+    requires news { news.now ≡ (scene_after change.now).receivers }
+    requires apart { AreApart (λ r. r.name) (scene_before change.now).receivers }
+    requires each { EachHolds change.now.past.value (scene_before change.now).receivers rows.old.items }
+    requires gone { gone ≡ removed_place change.now }
+    requires room { length news.now ≤ vec_capacity rows.old }
+    ensures each { EachHolds (journal_after change.now) news.now rows.new.items }
+    ensures rows { rows_of news.now rows.new.items ≡ rows_after change.now.logged.edit change.now.past.value
+        (rows_of (scene_before change.now).receivers rows.old.items) }
+{
+    drop_at(rows, gone);
+    renew_each(alloc, rows, news, change);
+}
+
+/// Drops the row at a place, if there is a place.
+fn drop_at(rows: &mut Vec<HeldRow>, place: Option<usize>)
+    requires { IfSome place (λ place. place < length rows.old.items) }
+    ensures items { rows.new.items ≡ without_place place rows.old.items }
+    ensures room { vec_capacity rows.new ≡ vec_capacity rows.old }
+{
+    if let Some(place) = place {
+        drop(rows.remove(place));
+    }
+}
+
+/// The row of each receiver after an edit, at its place: anew where the edit names the receiver, else renewed.
+fn renew_each(alloc: Global, rows: &mut Vec<HeldRow>, news: &[Receiver], change: &Change)
+    requires change { IsChange change.now }
+    requires few { length rows.old.items ≤ length news.now }
+    requires room { length news.now ≤ vec_capacity rows.old }
+    requires there { (k : ℕ) (r : _) → slice_get news.now k ≡ Some r → HasRow change.now r (slice_get rows.old.items k) }
+    ensures count { length rows.new.items ≡ length news.now }
+    ensures each { (k : ℕ) (r : _) → slice_get news.now k ≡ Some r
+        → IsSomeAnd (slice_get rows.new.items k) (IsRowAfter change.now r (slice_get rows.old.items k)) }
+{
+    for (place, receiver) in news.iter().enumerate() {
+        renew_at(alloc, rows, place, receiver, change);
+    }
+}
+
+/// The row of a receiver at its place: anew where the edit names the receiver, else renewed.
+fn renew_at(
+    alloc: Global,
+    rows: &mut Vec<HeldRow>,
+    place: usize,
+    receiver: &Receiver,
+    change: &Change,
+)
+    requires change { IsChange change.now }
+    requires place { place ≤ length rows.old.items }
+    requires room { place < vec_capacity rows.old }
+    requires there { HasRow change.now receiver.now (slice_get rows.old.items place) }
+    ensures room { vec_capacity rows.new ≡ vec_capacity rows.old }
+    ensures made { (made : _) × (rows.new.items ≡ placed place made rows.old.items)
+        × IsRowAfter change.now receiver.now (slice_get rows.old.items place) made }
+{
+    if names_receiver(&change.logged, receiver.name.items()) {
+        put_at(rows, place, fresh_row(alloc, change.version));
+    } else {
+        renew(&mut rows[place], receiver, change);
+    }
+}
+
+/// A row in the place of another, or behind the last.
+fn put_at(rows: &mut Vec<HeldRow>, place: usize, row: HeldRow)
+    requires place { place ≤ length rows.old.items }
+    requires room { place < vec_capacity rows.old }
+    ensures room { vec_capacity rows.new ≡ vec_capacity rows.old }
+    ensures items { rows.new.items ≡ placed place row rows.old.items }
+{
+    if place < rows.len() {
+        rows[place] = row;
+    } else {
+        rows.push_reserved(row);
+    }
 }
 
 /// A row made anew.
@@ -56,70 +158,6 @@ fn fresh_row(alloc: Global, version: u64) -> HeldRow
         out: None,
         cache: Some(cache),
     }
-}
-
-/// The rows of receivers that the edit doesn't name come over from the rows before it, in their order; the others stay as
-/// they were made anew.
-pub(crate) fn carry_over(
-    made: &mut Vec<HeldRow>,
-    rows: Vec<HeldRow>,
-    olds: &[Receiver],
-    news: &[Receiver],
-    change: &Change,
-)
-    requires change { IsChange change.now }
-    requires olds { olds.now ≡ (scene_before change.now).receivers }
-    requires news { news.now ≡ (scene_after change.now).receivers }
-    requires apart { AreApart (λ r. r.name) olds.now }
-    requires each { EachHolds change.now.past.value olds.now rows.items }
-    requires fresh { AreFresh change.now.version (scene_after change.now) made.old.items }
-    ensures each { EachHolds (journal_after change.now) news.now made.new.items }
-    ensures rows { rows_of news.now made.new.items
-        ≡ rows_after change.now.logged.edit change.now.past.value (rows_of olds.now rows.items) }
-{
-    let mut rows = rows.into_iter();
-    let mut place = 0;
-    for receiver in olds {
-        let Some(row) = rows.next() else {
-            unreachable!()
-        };
-        if names_receiver(&change.logged, receiver.name.items()) {
-            drop(row);
-        } else {
-            place = next_unnamed(news, place, change);
-            take_over(&mut made[place], row, receiver, change);
-            place += 1;
-        }
-    }
-}
-
-/// The first place from one on whose receiver the edit doesn't name.
-fn next_unnamed(receivers: &[Receiver], from: usize, change: &Change) -> usize
-    requires { from ≤ length receivers.now }
-    ensures from { from ≤ result }
-    ensures within { result ≤ length receivers.now }
-    ensures named { (k : ℕ) (r : _) → from ≤ k → k < result → slice_get receivers.now k ≡ Some r
-        → is_unnamed change.now r ≡ false }
-    ensures unnamed { (r : _) → slice_get receivers.now result ≡ Some r → is_unnamed change.now r ≡ true }
-{
-    for place in from..receivers.len() {
-        let receiver = &receivers[place];
-        if !names_receiver(&change.logged, receiver.name.items()) {
-            return place;
-        }
-    }
-    receivers.len()
-}
-
-/// A row made anew becomes the row of a receiver.
-fn take_over(made: &mut HeldRow, row: HeldRow, receiver: &Receiver, change: &Change)
-    requires change { IsChange change.now }
-    requires holds { RowHolds change.now.past.value receiver.now row }
-    ensures row { row_of receiver.now made.new ≡ row_of receiver.now row }
-    ensures holds { RowHolds (journal_after change.now) receiver.now made.new }
-{
-    *made = row;
-    renew(made, receiver, change);
 }
 
 /// The row of a receiver after the edit: bundles that the edit touches are marked, and kept levels are stale by it where it

@@ -42,12 +42,12 @@ impl Model for Board {
 
     ghost view = { λ b. record {
       journal = b.past;
-      rows = rows_of b.hold.value.scene.receivers b.rows;
+      rows = rows_of b.hold.value.scene.receivers b.rows.items;
       finished = b.finished;
       counts = counts_of b.counts;
     } };
 
-    ghost invariant = { λ b. IsBoard b.version b.past b.hold.value.scene b.rows b.log b.namings.items };
+    ghost invariant = { λ b. IsBoard b.version b.past b.hold.value.scene b.rows.items b.log b.namings.items };
 }
 
 impl Board {

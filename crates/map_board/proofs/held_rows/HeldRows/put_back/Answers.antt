@@ -1,5 +1,6 @@
-use Rattle.std.proofs.Common.{◌≡◌, ap, ◌∙◌, arith, List}
-use Rattle.std.specs.Prelude.{slice_get, slice_set}
+use Rattle.std.proofs.Common.{◌≡◌, ap, ◌∙◌, arith}
+use Rattle.std.specs.Prelude.{slice_get, slice_set, Vec}
+use Rattle.std.specs.declared.alloc.Global.{Global}
 use Rattle.std.proofs.lemmas.Option.{get_or_from_slice_get}
 use Rattle.map_board.specs.declared.rows.HeldRow.{HeldRow}
 use Rattle.map_board.specs.Back.{held_with}
@@ -16,6 +17,6 @@ pub returns : goal.returns
 returns c held there =
     let item = c.index_mut.ensures.value
     ∙ get_or_from_slice_get c.self.inside.rows.items c.args.place held c.index_mut.result.now
-    (ap (λ (hs : List HeldRow). slice_get hs c.args.place) c.self.view_is ∙ there) in
+    (ap (λ (rows : Vec HeldRow Global). slice_get rows.items c.args.place) c.self.view_is ∙ there) in
     let new = c.put_back.ensures ∙ ap (held_with c.args.back) item in
-    λ i. slice_set (c.self.view_is i) c.args.place (new i)
+    λ i. slice_set (c.self.view_is i).items c.args.place (new i)

@@ -1,5 +1,6 @@
-use Rattle.std.proofs.Common.{◌≡◌, ap, sym, ◌∙◌, Some, List}
-use Rattle.std.specs.Prelude.{slice_get, slice_set}
+use Rattle.std.proofs.Common.{◌≡◌, ap, sym, ◌∙◌, Some}
+use Rattle.std.specs.Prelude.{slice_get, slice_set, Vec}
+use Rattle.std.specs.declared.alloc.Global.{Global}
 use Rattle.std.proofs.lemmas.Option.{get_or_from_slice_get}
 use Rattle.map_board.specs.declared.rows.HeldRow.{HeldRow}
 use Rattle.map_board.specs.Boards.{is_held_needy, row_out}
@@ -8,11 +9,11 @@ use Rattle.map_board.proofs.held_rows.HeldRows.take_row.Goals as goal
 use Rattle.map_board.proofs.held_rows.HeldRows.take_row.Goals.{After-index_mut}
 
 -- the row at the place
-item : (c : After-index_mut) (held : HeldRow) → slice_get c.args.self.now c.args.place ≡ Some held → c.index_mut.result.now ≡ held
+item : (c : After-index_mut) (held : HeldRow) → slice_get c.args.self.now.items c.args.place ≡ Some held → c.index_mut.result.now ≡ held
 item c held there =
     c.index_mut.ensures.value
     ∙ get_or_from_slice_get c.self.inside.rows.items c.args.place held c.index_mut.result.now
-    (ap (λ (hs : List HeldRow). slice_get hs c.args.place) c.self.view_is ∙ there)
+    (ap (λ (rows : Vec HeldRow Global). slice_get rows.items c.args.place) c.self.view_is ∙ there)
 
 pub invariant_of-self : goal.invariant_of-self
 invariant_of-self c =
@@ -26,4 +27,4 @@ returns-clause-cache c held there =
 pub returns-clause-rows : goal.returns-clause-rows
 returns-clause-rows c held there =
     let new = c.take_row.ensures.row ∙ ap (row_out c.args.version) (item (goal.at.returns-clause-rows c).After-index_mut held there) in
-    λ i. slice_set (c.self.view_is i) c.args.place (new i)
+    λ i. slice_set (c.self.view_is i).items c.args.place (new i)

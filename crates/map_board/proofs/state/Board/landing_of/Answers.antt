@@ -31,7 +31,7 @@ stands : (c : After-version) (row : Row) → row_named c.args.name.now c.args.se
 stands c row found =
     let b = c.self.inside in
     let receivers = ap (λ (s : PreparedScene). s.scene.receivers) c.deref.ensures in
-    receiver-there b.past b.hold.value.scene.receivers b.rows c.args.name.now c.place_in-place.result row c.self.invariant.each c.self.invariant.apart
+    receiver-there b.past b.hold.value.scene.receivers b.rows.items c.args.name.now c.place_in-place.result row c.self.invariant.each c.self.invariant.apart
     (subst (λ rs. slice_get rs c.place_in-place.result ≡ named (λ (r : Receiver). r.name) c.args.name.now rs) receivers c.place_in-place.ensures)
     (subst (λ (s : State). row_named c.args.name.now s.rows ≡ Some row) (sym c.self.view_is) found)
 
@@ -66,7 +66,7 @@ returns-clause-place c =
     let b = c.self.inside in
     let receivers = ap (λ (s : PreparedScene). s.scene.receivers) c.deref.ensures in
     subst (λ (s : State). slice_get s.rows c.place_in-place.result ≡ row_named c.args.name.now s.rows) c.self.view_is
-    (row-there b.past b.hold.value.scene.receivers b.rows c.args.name.now c.place_in-place.result c.self.invariant.each c.self.invariant.apart
+    (row-there b.past b.hold.value.scene.receivers b.rows.items c.args.name.now c.place_in-place.result c.self.invariant.each c.self.invariant.apart
     (subst (λ rs. slice_get rs c.place_in-place.result ≡ named (λ (r : Receiver). r.name) c.args.name.now rs) receivers c.place_in-place.ensures))
 
 pub returns-clause-later : goal.returns-clause-later

@@ -13,7 +13,7 @@ look_at_each-requires c =
     let receivers : c.receivers.result.now ≡ b.hold.value.scene.receivers =
     c.receivers.ensures.value ∙ ap (λ (s : PreparedScene). s.scene.receivers) c.deref.ensures in
     ap length c.as_slice.ensures
-    ∙ (each-lengths b.past b.hold.value.scene.receivers b.rows c.self.invariant.each ∙ sym (ap length receivers))
+    ∙ (each-lengths b.past b.hold.value.scene.receivers b.rows.items c.self.invariant.each ∙ sym (ap length receivers))
 
 pub returns : goal.returns
 returns c =
@@ -24,7 +24,7 @@ returns c =
     c.from_vec.ensures
     ∙ (c.in_ok-rows.ensures
     ∙ ((λ i. held_looks (receivers i) (c.as_slice.ensures i))
-    ∙ looks-are b.past b.hold.value.scene.receivers b.rows c.self.invariant.each)) in
+    ∙ looks-are b.past b.hold.value.scene.receivers b.rows.items c.self.invariant.each)) in
     let all : c.from_vec.result ≡ map (look_row c.args.self.now.journal) c.args.self.now.rows =
     rows ∙ ap (λ (s : State). map (look_row s.journal) s.rows) c.self.view_is in
     let version : b.version ≡ length c.args.self.now.journal = c.self.invariant.newest ∙ ap (λ (s : State). length s.journal) c.self.view_is in

@@ -1,5 +1,6 @@
 use Rattle.std.proofs.Common.{◌≡◌, ap, sym, ◌∙◌, subst, refl, arith, length, List}
-use Rattle.std.specs.Prelude.{count_by}
+use Rattle.std.specs.Prelude.{count_by, Vec}
+use Rattle.std.specs.declared.alloc.Global.{Global}
 use Rattle.std.specs.List.{list_any}
 use Rattle.map_board.specs.declared.rows.HeldRow.{HeldRow}
 use Rattle.map_board.specs.Rows.{State}
@@ -11,20 +12,20 @@ use Rattle.map_board.proofs.state.Board.take.Goals as goal
 use Rattle.map_board.proofs.state.Board.take.Goals.{After-first_needy}
 
 -- contracts see the same board after the search
-seen-after : (c : After-first_needy) → record { journal = c.self.inside.past; rows = rows_of c.self.inside.hold.value.scene.receivers c.first_needy.new.self; finished = c.self.inside.finished; counts = counts_of c.self.inside.counts }
+seen-after : (c : After-first_needy) → record { journal = c.self.inside.past; rows = rows_of c.self.inside.hold.value.scene.receivers c.first_needy.new.self.items; finished = c.self.inside.finished; counts = counts_of c.self.inside.counts }
     ≡ c.args.self.now
 seen-after c =
     let b = c.self.inside in
-    ap (λ (hs : List HeldRow). record { journal = b.past; rows = rows_of b.hold.value.scene.receivers hs; finished = b.finished; counts = counts_of b.counts }) c.first_needy.ensures.same
+    ap (λ (hs : List HeldRow). record { journal = b.past; rows = rows_of b.hold.value.scene.receivers hs; finished = b.finished; counts = counts_of b.counts }) (ap (λ (rows : Vec HeldRow Global). rows.items) c.first_needy.ensures.same)
     ∙ c.self.view_is
 
 pub take_at-requires-clause-needy : goal.take_at-requires-clause-needy
 take_at-requires-clause-needy c =
     let b = c.self.inside in
-    needy-seen b.past b.hold.value.scene.receivers c.first_needy.new.self b.finished b.counts
-    (record { journal = b.past; rows = rows_of b.hold.value.scene.receivers c.first_needy.new.self; finished = b.finished; counts = counts_of b.counts }) c.in-Some.place refl
-    (subst (EachHolds b.past b.hold.value.scene.receivers) (sym c.first_needy.ensures.same) c.self.invariant.each)
-    (subst (λ (hs : List HeldRow). IsNeedyAt hs c.in-Some.place) (sym c.first_needy.ensures.same) c.in-Some.ensures.some)
+    needy-seen b.past b.hold.value.scene.receivers c.first_needy.new.self.items b.finished b.counts
+    (record { journal = b.past; rows = rows_of b.hold.value.scene.receivers c.first_needy.new.self.items; finished = b.finished; counts = counts_of b.counts }) c.in-Some.place refl
+    (subst (EachHolds b.past b.hold.value.scene.receivers) (sym (ap (λ (rows : Vec HeldRow Global). rows.items) c.first_needy.ensures.same)) c.self.invariant.each)
+    (subst (λ (hs : List HeldRow). IsNeedyAt hs c.in-Some.place) (sym (ap (λ (rows : Vec HeldRow Global). rows.items) c.first_needy.ensures.same)) c.in-Some.ensures.some)
 
 pub returns-in-Some : goal.returns-in-Some
 returns-in-Some c =
@@ -33,14 +34,14 @@ returns-in-Some c =
 pub count_out-requires : goal.count_out-requires
 count_out-requires c =
     let b = c.self.inside in
-    let same = each-lengths b.past b.hold.value.scene.receivers b.rows c.self.invariant.each in
-    omega (arith, ap length (c.as_slice.ensures ∙ c.first_needy.ensures.same), same, c.self.invariant.few)
+    let same = each-lengths b.past b.hold.value.scene.receivers b.rows.items c.self.invariant.each in
+    omega (arith, ap length (c.as_slice.ensures ∙ (ap (λ (rows : Vec HeldRow Global). rows.items) c.first_needy.ensures.same)), same, c.self.invariant.few)
 
 pub returns-in-None : goal.returns-in-None
 returns-in-None c =
     let b = c.self.inside in (
-      idle-seen b.past b.hold.value.scene.receivers b.rows b.finished b.counts c.args.self.now c.count_out.result c.self.view_is c.self.invariant.each
+      idle-seen b.past b.hold.value.scene.receivers b.rows.items b.finished b.counts c.args.self.now c.count_out.result c.self.view_is c.self.invariant.each
           c.if-self.false c.in-None.ensures.none
-          (c.count_out.ensures ∙ ap (count_by is_held_out) (c.as_slice.ensures ∙ c.first_needy.ensures.same)),
+          (c.count_out.ensures ∙ ap (count_by is_held_out) (c.as_slice.ensures ∙ (ap (λ (rows : Vec HeldRow Global). rows.items) c.first_needy.ensures.same))),
       seen-after (goal.at.returns-in-None c).After-first_needy,
     )
