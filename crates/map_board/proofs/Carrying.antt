@@ -1,5 +1,5 @@
 -- Rows at their places as they go over from the scene before an edit to the scene after it.
-use Rattle.std.proofs.Common.{◌≡◌, ℕ, zero, suc, ◌+◌, ◌<◌, ◌≤◌, Bool, true, false, cond, List, [], ◌∷◌, ◌++◌, length, map, set, get_or, Some, refl, sym, ap, ◌∙◌, subst, arith, ◌⊎◌, inl, inr, add-one}
+use Rattle.std.proofs.Common.{◌≡◌, ℕ, zero, suc, ◌+◌, ◌<◌, ◌≤◌, Bool, true, false, cond, List, [], ◌∷◌, ◌++◌, length, map, set, get_or, Some, refl, sym, ap, ◌∙◌, subst, arith, ◌⊎◌, inl, inr}
 use Rattle.std.specs.Prelude.{slice_get, not, unwrap_or, Option, IfSome, IsSomeAnd}
 use Rattle.std.proofs.lemmas.Bool.{cases_lt}
 use Rattle.std.proofs.lemmas.Option.{slice_get_read}
@@ -13,7 +13,7 @@ use Rattle.map_board.specs.Journal.{names}
 use Rattle.map_board.specs.Rows.{Row, row_named}
 use Rattle.map_board.specs.Machine.{new_row, row_after}
 use Rattle.map_board.specs.Boards.{row_of, rows_of, RowHolds, EachHolds}
-use Rattle.map_board.specs.Changes.{scene_before, scene_after, journal_after, is_unnamed, removed_place, without_place, placed, IsChange, IsFresh, HasRow, IsRowAfter}
+use Rattle.map_board.specs.Changes.{scene_before, scene_after, journal_after, is_unnamed, removed_place, without_place, placed, IsChange, HasRow, IsRowAfter}
 use Rattle.map_board.proofs.Places.{row-at, each-lengths}
 use Rattle.map_board.proofs.AfterEdits.{names-as, fresh-row, fresh-holds}
 use Rattle.map_board.proofs.Staying.{receivers_after, accepted-receivers, Stays, stays, gone-within, rows-left}

@@ -1,6 +1,6 @@
 -- Edits that leave the sources of a scene as they are.
 use Rattle.std.proofs.Common.{◌≡◌, ℕ, Bool, true, false, cond, List, [], ◌∷◌, ◌++◌, Some, None, refl, sym, ap, ◌∙◌}
-use Rattle.std.specs.Prelude.{bytes_eq, Option, Ok, ◌||◌}
+use Rattle.std.specs.Prelude.{bytes_eq, Option, ◌||◌}
 use Rattle.std.specs.List.{list_any}
 use Rattle.std.specs.Option.{option_map, option_or}
 use Rattle.scene_parts.specs.Views.{Source, Obstacle, Zone, Foliage, Receiver, Grid, Setting}
@@ -8,7 +8,6 @@ use Rattle.scene_parts.specs.declared.parts.Part.{Part}
 use Rattle.scene_parts.specs.declared.parts.Part.TheVariants as parts
 use Rattle.scene_book.specs.Book.{Book}
 use Rattle.scene_book.specs.Lists.{named}
-use Rattle.scene_book.specs.Applying.{part_named}
 use Rattle.scene_book.specs.Laws.{Edited, pieces_of_any}
 use Rattle.scene_book.specs.declared.edits.Edit.TheVariants as edits
 use Rattle.scene_book.proofs.EditLemmas.{accepted-changes}
@@ -69,12 +68,12 @@ beside-sources None None None (Some f) r none = refl
 beside-sources None None None None (Some r) none = refl
 beside-sources None None None None None none = refl
 
-none-named : (name : List ℕ) (sources : List Source) → list_any (λ (s : Source). bytes_eq name s.name) sources ≡ false → named (λ (s : Source). s.name) name sources ≡ None
-none-named name [] none = refl
-none-named name (s ∷ sources) none = go (bytes_eq name s.name) none (none-named name sources) where
-  go : (test : Bool) → (test || list_any (λ (x : Source). bytes_eq name x.name) sources) ≡ false
-      → (list_any (λ (x : Source). bytes_eq name x.name) sources ≡ false → named (λ (x : Source). x.name) name sources ≡ None)
-      → cond test (Some s) (named (λ (x : Source). x.name) name sources) ≡ None
+pub none-named : {A : Type 0} (name_of : A → List ℕ) (name : List ℕ) (things : List A) → list_any (λ (x : A). bytes_eq name (name_of x)) things ≡ false → named name_of name things ≡ None
+none-named name_of name [] none = refl
+none-named {A} name_of name (first ∷ things) none = go (bytes_eq name (name_of first)) none (none-named name_of name things) where
+  go : (test : Bool) → (test || list_any (λ (x : A). bytes_eq name (name_of x)) things) ≡ false
+      → (list_any (λ (x : A). bytes_eq name (name_of x)) things ≡ false → named name_of name things ≡ None)
+      → cond test (Some first) (named name_of name things) ≡ None
   go true none rest = absurd (cc none)
   go false none rest = rest none
 
@@ -83,4 +82,4 @@ removal-leaves name book none after old e =
     let ch = accepted-changes (edits.Remove name) book after old e in
     same-list _ _ book.sources after.sources ch.sources
     (beside-sources (named (λ (x : Source). x.name) name book.sources) (named (λ (x : Obstacle). x.name) name book.obstacles) (named (λ (x : Zone). x.name) name book.zones)
-    (named (λ (x : Foliage). x.name) name book.foliage) (named (λ (x : Receiver). x.name) name book.receivers) (none-named name book.sources none)) refl
+    (named (λ (x : Foliage). x.name) name book.foliage) (named (λ (x : Receiver). x.name) name book.receivers) (none-named (λ (s : Source). s.name) name book.sources none)) refl

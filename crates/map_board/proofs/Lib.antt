@@ -24,5 +24,6 @@ pub mod BoardAfter
 pub mod Receivers
 pub mod Staying
 pub mod LeftSources
+pub mod LeftObstacles
 pub mod Showing
 pub mod Touched

@@ -1,7 +1,7 @@
 -- Receivers at their places after an edit.
-use Rattle.std.proofs.Common.{◌≡◌, ℕ, zero, suc, ◌+◌, ◌-◌, ◌<◌, ◌≤◌, Bool, true, false, cond, List, [], ◌∷◌, ◌++◌, length, take, drop, Some, None, refl, sym, ap, ◌∙◌, subst, arith}
+use Rattle.std.proofs.Common.{◌≡◌, ℕ, zero, suc, ◌+◌, ◌<◌, ◌≤◌, Bool, true, false, cond, List, [], ◌∷◌, length, Some, None, refl, sym, ap, ◌∙◌, arith}
 use Rattle.std.specs.Prelude.{bytes_eq, not, nat_lt, slice_get, Option, Ok, IfSome, ◌||◌}
-use Rattle.std.specs.List.{list_any, position, position_or_len, remove}
+use Rattle.std.specs.List.{list_any, position_or_len, remove}
 use Rattle.std.proofs.lemmas.Bool.{ltb-false, ltb-true}
 use Rattle.scene_parts.specs.Views.{Receiver}
 use Rattle.scene_parts.specs.declared.parts.Part.{Part}

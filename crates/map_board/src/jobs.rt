@@ -148,7 +148,7 @@ impl Job {
         let hold: &PreparedScene = hold;
         let bundles = refresh_prepared(
             alloc,
-            &hold.scene,
+            &hold.indexed(),
             &hold.prepared,
             self.receiver_in(&hold.scene),
             &self.kept,

@@ -1,37 +1,63 @@
 //! A scene that a board and its jobs hold together.
-ghost use Rattle.std.specs.Prelude.{◌≡◌, true, Ok, Err, IfOk, IfErr, OnErr, bytes_eq, map};
+ghost use Rattle.std.specs.Prelude.{◌≡◌, true, Ok, Err, IfOk, IfErr, IfSome, OnErr, bytes_eq, map};
+ghost use Rattle.std.proofs.Props.{props};
 ghost use Rattle.std.specs.List.{list_any};
 ghost use Rattle.path_calc.specs.Prepared.{prepared_of};
 ghost use Rattle.scene_parts.specs.Answers.{Unless};
 ghost use Rattle.scene_book.specs.Applying.{apply_of, lacks_memory};
-ghost use Rattle.map_board.specs.Sources.{LeavesSources, is_source as is_source_part};
+ghost use Rattle.scene_parts.specs.Sides.{sides_of};
+ghost use Rattle.part_grid.specs.Numbered.{numbered};
+ghost use Rattle.map_board.specs.Sources.{LeavesSources, LeavesObstacles, puts_any_receiver};
+ghost use Rattle.map_board.specs.Sources.{is_source as is_source_part, is_obstacle as is_obstacle_part};
 
 use path_cache::{PreparedSource, prepare};
+use path_calc::{Grid, IndexedScene};
 use scene_book::{Edit, EditFault, Scene};
 use scene_parts::{NoMemory, Part};
+use sight_cut::grid_of;
 use std::alloc::Global;
 use std::sync::Arc;
 
-/// A scene whose sources are prepared, once for all jobs that are of it.
+/// A scene whose sources are prepared and whose obstacles have an index, once for all jobs that are of it. Later scenes
+/// share both until an edit changes a source, or an obstacle. Without receivers or sources no path is looked for, and no
+/// index is made.
 #[derive(Drop)]
 pub struct PreparedScene {
     pub scene: Scene,
-    pub prepared: Vec<PreparedSource>,
-    ghost ready: { prepared.items ≡ map prepared_of scene.sources },
+    pub prepared: Arc<Vec<PreparedSource>>,
+    pub grid: Option<Arc<Grid>>,
+    ghost ready: { prepared.value.items ≡ map prepared_of scene.sources },
+    ghost stands: { IfSome grid (λ grid. grid.value ≡ numbered (map sides_of scene.obstacles)) } by { Prim.hlevel props },
 }
 
 impl PreparedScene {
-    /// Prepares the sources of a scene.
+    /// Prepares a scene.
     pub fn of(alloc: Global, scene: Scene) -> Result<PreparedScene, NoMemory>
         ensures { IfOk result (λ made. made.scene ≡ scene) }
     {
-        let prepared = prepare(alloc, &scene)?;
-        Ok(PreparedScene { scene, prepared })
+        let prepared = Arc::new(alloc, prepare(alloc, &scene)?)?;
+        let grid = index(alloc, &scene)?;
+        Ok(PreparedScene {
+            scene,
+            prepared,
+            grid,
+        })
     }
 
-    /// Applies an edit that leaves the sources as they are.
+    /// The scene with its index, where it has one.
+    pub(crate) fn indexed(&self) -> IndexedScene<'_>
+        ensures { result ≡ self.now.scene }
+    {
+        match &self.grid {
+            Some(grid) => IndexedScene::by(&self.scene, grid),
+            None => IndexedScene::plain(&self.scene),
+        }
+    }
+
+    /// Applies an edit that leaves the sources as they are, and the obstacles where they have an index.
     fn apply(&mut self, alloc: Global, edit: &Edit) -> Result<Option<Part>, EditFault>
-        requires { LeavesSources edit.now self.old.scene }
+        requires sources { LeavesSources edit.now self.old.scene }
+        requires obstacles { IfSome self.old.grid (λ _. LeavesObstacles edit.now self.old.scene) }
         ensures made { IfOk result (λ old. apply_of edit.now self.old.scene ≡ Ok (self.new.scene, old)) }
         ensures fault { IfErr result (λ fault.
             Unless (lacks_memory fault) (apply_of edit.now self.old.scene ≡ Err fault)) }
@@ -49,7 +75,7 @@ struct EditedScene {
 }
 
 /// Applies an edit to a shared scene, and gives the part that it replaces or takes out. Where nobody else has the scene, and
-/// its sources stay, it is changed in place; else a copy is, which takes its place. A fault leaves it as it was.
+/// what is prepared of it stays, it is changed in place; else a copy is, which takes its place. A fault leaves it as it was.
 pub(crate) fn edit_scene(
     hold: &mut Arc<PreparedScene>,
     alloc: Global,
@@ -60,34 +86,113 @@ pub(crate) fn edit_scene(
         Unless (lacks_memory fault) (apply_of edit.now hold.old.value.scene ≡ Err fault)) }
     ensures unchanged { OnErr result (hold.new.value.scene ≡ hold.old.value.scene) }
 {
-    if leaves_sources(edit, &hold.scene) {
+    if stays_prepared(edit, hold) {
         if let Some(own) = Arc::get_mut(hold) {
             return own.apply(alloc, edit);
         }
     }
-    let EditedScene { hold: made, old } = edited_copy(alloc, &hold.scene, edit)?;
+    let EditedScene { hold: made, old } = edited_copy(alloc, hold, edit)?;
     *hold = made;
     Ok(old)
 }
 
-/// A copy of a scene after an edit. It shares the lists that the edit leaves as they are.
-fn edited_copy(alloc: Global, scene: &Scene, edit: &Edit) -> Result<EditedScene, EditFault>
-    ensures made { IfOk result (λ made. apply_of edit.now scene.now ≡ Ok (made.hold.value.scene, made.old)) }
-    ensures fault { IfErr result (λ fault.
-        Unless (lacks_memory fault) (apply_of edit.now scene.now ≡ Err fault)) }
+/// Whether an edit surely leaves what is prepared of a scene, and needs no index where there is none: receivers that come
+/// where there are sources need one.
+fn stays_prepared(edit: &Edit, hold: &PreparedScene) -> bool
+    ensures sources { result ≡ true → LeavesSources edit.now hold.now.scene }
+    ensures obstacles { result ≡ true → IfSome hold.now.grid (λ _. LeavesObstacles edit.now hold.now.scene) }
 {
-    let mut after = scene.copy()?;
+    if !leaves_sources(edit, &hold.scene) {
+        return false;
+    }
+    match &hold.grid {
+        Some(_) => leaves_obstacles(edit, &hold.scene),
+        None => !puts_receivers(edit) || hold.scene.sources().is_empty(),
+    }
+}
+
+/// Whether an edit puts receivers.
+fn puts_receivers(edit: &Edit) -> bool
+    ensures { result ≡ puts_any_receiver edit.now }
+{
+    match edit {
+        Edit::Put(Part::Receiver(_)) => true,
+        Edit::Grid(_) => true,
+        _ => false,
+    }
+}
+
+/// A copy of a scene after an edit. It shares the lists that the edit leaves as they are, and what is prepared of them.
+fn edited_copy(
+    alloc: Global,
+    hold: &PreparedScene,
+    edit: &Edit,
+) -> Result<EditedScene, EditFault>
+    ensures made { IfOk result (λ made. apply_of edit.now hold.now.scene ≡ Ok (made.hold.value.scene, made.old)) }
+    ensures fault { IfErr result (λ fault.
+        Unless (lacks_memory fault) (apply_of edit.now hold.now.scene ≡ Err fault)) }
+{
+    let mut after = hold.scene.copy()?;
     let old = after.apply(alloc, edit)?;
-    let hold = shared(alloc, after)?;
+    let prepared = prepared_after(alloc, hold, &after, leaves_sources(edit, &hold.scene))?;
+    let grid = index_after(alloc, hold, &after, leaves_obstacles(edit, &hold.scene))?;
+    let made = PreparedScene {
+        scene: after,
+        prepared,
+        grid,
+    };
+    let hold = shared(alloc, made)?;
     Ok(EditedScene { hold, old })
 }
 
-/// A scene that is prepared and shared.
-fn shared(alloc: Global, scene: Scene) -> Result<Arc<PreparedScene>, NoMemory>
-    ensures { IfOk result (λ hold. hold.value.scene ≡ scene) }
+/// A prepared scene that is shared.
+fn shared(alloc: Global, scene: PreparedScene) -> Result<Arc<PreparedScene>, NoMemory>
+    ensures { IfOk result (λ hold. hold.value ≡ scene) }
 {
-    let prepared = PreparedScene::of(alloc, scene)?;
-    Ok(Arc::new(alloc, prepared)?)
+    Ok(Arc::new(alloc, scene)?)
+}
+
+/// The prepared sources of the scene after an edit, of which it is known where they stay.
+fn prepared_after(
+    alloc: Global,
+    hold: &PreparedScene,
+    after: &Scene,
+    stay: bool,
+) -> Result<Arc<Vec<PreparedSource>>, NoMemory>
+    requires { stay ≡ true → after.now.sources ≡ hold.now.scene.sources }
+    ensures { IfOk result (λ prepared. prepared.value.items ≡ map prepared_of after.now.sources) }
+{
+    if stay {
+        return Ok(hold.prepared.clone()?);
+    }
+    Ok(Arc::new(alloc, prepare(alloc, after)?)?)
+}
+
+/// The index of the scene after an edit, of which it is known where its obstacles stay.
+fn index_after(
+    alloc: Global,
+    hold: &PreparedScene,
+    after: &Scene,
+    stay: bool,
+) -> Result<Option<Arc<Grid>>, NoMemory>
+    requires { stay ≡ true → after.now.obstacles ≡ hold.now.scene.obstacles }
+    ensures { IfOk result (λ grid. IfSome grid (λ grid. grid.value ≡ numbered (map sides_of after.now.obstacles))) }
+{
+    match &hold.grid {
+        Some(grid) if stay => Ok(Some(grid.clone()?)),
+        _ => index(alloc, after),
+    }
+}
+
+/// The index of the obstacles of a scene, where it has sources and receivers.
+fn index(alloc: Global, scene: &Scene) -> Result<Option<Arc<Grid>>, NoMemory>
+    ensures { IfOk result (λ grid. IfSome grid (λ grid. grid.value ≡ numbered (map sides_of scene.now.obstacles))) }
+{
+    if scene.sources().is_empty() || scene.receivers().is_empty() {
+        return Ok(None);
+    }
+    let grid = grid_of(alloc, scene.obstacles())?;
+    Ok(Some(Arc::new(alloc, grid)?))
 }
 
 /// Whether an edit surely leaves the sources of a scene as they are.
@@ -119,6 +224,41 @@ fn has_source(scene: &Scene, name: &[u8]) -> bool
     let sources = scene.sources();
     for source in sources {
         if name == source.name.items() {
+            return true;
+        }
+    }
+    false
+}
+
+/// Whether an edit surely leaves the obstacles of a scene as they are.
+fn leaves_obstacles(edit: &Edit, scene: &Scene) -> bool
+    ensures { result ≡ true → LeavesObstacles edit.now scene.now }
+{
+    match edit {
+        Edit::Put(part) => !is_obstacle(part),
+        Edit::Remove(name) => !has_obstacle(scene, name.items()),
+        Edit::Grid(_) => true,
+        Edit::Set(_) => true,
+    }
+}
+
+/// Whether a part is an obstacle.
+fn is_obstacle(part: &Part) -> bool
+    ensures { result ≡ is_obstacle_part part.now }
+{
+    match part {
+        Part::Obstacle(_) => true,
+        _ => false,
+    }
+}
+
+/// Whether an obstacle of a scene bears a name.
+fn has_obstacle(scene: &Scene, name: &[u8]) -> bool
+    ensures { result ≡ list_any (λ o. bytes_eq name.now o.name) scene.now.obstacles }
+{
+    let obstacles = scene.obstacles();
+    for obstacle in obstacles {
+        if name == obstacle.name.items() {
             return true;
         }
     }

@@ -2,9 +2,8 @@ use Rattle.std.proofs.Common.{◌≡◌, ◌∙◌, ◌<◌, ℕ, ap, sym, subst
 use Rattle.std.specs.Prelude.{slice_get, Some, Option, IfSome, IsSomeAnd}
 use Rattle.scene_parts.specs.Views.{Receiver}
 use Rattle.map_board.specs.declared.rows.HeldRow.{HeldRow}
-use Rattle.map_board.specs.Machine.{row_after}
 use Rattle.map_board.specs.Boards.{rows_of, EachHolds}
-use Rattle.map_board.specs.Changes.{scene_before, scene_after, journal_after, without_place, HasRow, IsRowAfter}
+use Rattle.map_board.specs.Changes.{scene_after, journal_after, without_place, HasRow, IsRowAfter}
 use Rattle.map_board.proofs.Carrying.{left, gone-below, few-left, has-row, each-after, all-after}
 use Rattle.map_board.proofs.renewing.carry_over.Goals as goal
 use Rattle.map_board.proofs.renewing.carry_over.Goals.{After-drop_at, After-renew_each}

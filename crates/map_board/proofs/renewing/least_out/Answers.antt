@@ -1,4 +1,4 @@
-use Rattle.std.proofs.Common.{◌≡◌, ℕ, ◌≤◌, ◌<◌, suc, ◌+◌, ◌∙◌, ap, sym, subst, arith, List, [], ◌∷◌, ◌++◌, length, get_or, take, add-one, Some, None}
+use Rattle.std.proofs.Common.{◌≡◌, ℕ, ◌≤◌, ◌<◌, ◌+◌, ◌∙◌, ap, sym, subst, arith, List, [], ◌∷◌, ◌++◌, length, get_or, take, add-one, Some, None}
 use Rattle.std.specs.Prelude.{All, Option, IfSome}
 use Rattle.std.proofs.Math.Seq.{take-suc}
 use Rattle.std.proofs.lemmas.List.{take_all}

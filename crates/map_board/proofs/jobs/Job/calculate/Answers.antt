@@ -14,7 +14,7 @@ invariant_of-result-clause-plain g c =
     ∙ splat_is_map c.in_ok-bundles.bundles.items c.len.result false (omega (arith, c.len.ensures, c.in_ok-bundles.bundles.ok.0))
 
 pub invariant_of-result-clause-theirs : goal.invariant_of-result-clause-theirs
-invariant_of-result-clause-theirs g c = c.levels-levels.ensures.value ∙ ap levels_of c.deref-4.ensures.value
+invariant_of-result-clause-theirs g c = c.levels-levels.ensures.value ∙ ap levels_of c.deref-5.ensures.value
 
 pub returns-clause-steps : goal.returns-clause-steps
 returns-clause-steps g c =
@@ -25,4 +25,4 @@ returns-clause-steps g c =
     let scene : c.deref-hold.result.now.scene ≡ b.scene.value = ap (λ (prepared : PreparedScene). prepared.scene) c.deref-hold.ensures ∙ shared in
     c.in_ok-bundles.ensures.steps
     ∙ ap (λ n. c.args.steps.now + n)
-    (rw (scene, receiver, c.deref-2.ensures.value, c.deref-3.ensures.value) (ap (λ (j : Job). j.due) c.self.view_is))
+    (rw (c.indexed.ensures ∙ scene, receiver, c.deref-3.ensures.value, c.deref-4.ensures.value) (ap (λ (j : Job). j.due) c.self.view_is))

@@ -1,4 +1,4 @@
-use Rattle.std.proofs.Common.{◌≤◌, ◌∙◌, ap, sym, subst, length}
+use Rattle.std.proofs.Common.{◌≤◌, ◌∙◌, ap, subst, length}
 use Rattle.map_board.specs.Views.{Answer}
 use Rattle.map_board.specs.Log.{entries_after}
 use Rattle.map_board.specs.Rows.{with_row, row_named}

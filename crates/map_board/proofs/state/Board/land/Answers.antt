@@ -4,7 +4,7 @@ use Rattle.map_board.specs.declared.rows.HeldRow.{HeldRow}
 use Rattle.map_board.specs.Rows.{State, with_row}
 use Rattle.map_board.specs.Back.{row_with, SuitsAt}
 use Rattle.map_board.specs.Boards.{rows_of, IsBoard}
-use Rattle.map_board.proofs.Landings.{seen, at, place-below, rows-back, board-with, rows-with}
+use Rattle.map_board.proofs.Landings.{seen, at, place-below, board-with, rows-with}
 use Rattle.map_board.proofs.state.Board.land.Goals as goal
 use Rattle.map_board.proofs.state.Board.land.Goals.{After-self}
 

@@ -1,11 +1,10 @@
 use Rattle.std.proofs.Common.{◌≡◌, ap, sym, ◌∙◌, subst, refl, arith, length, List}
 use Rattle.std.specs.Prelude.{count_by, Vec}
 use Rattle.std.specs.declared.alloc.Global.{Global}
-use Rattle.std.specs.List.{list_any}
 use Rattle.map_board.specs.declared.rows.HeldRow.{HeldRow}
 use Rattle.map_board.specs.Rows.{State}
 use Rattle.map_board.specs.Machine.{TakesJob}
-use Rattle.map_board.specs.Boards.{is_held_needy, is_held_out, rows_of, counts_of, EachHolds, IsNeedyAt}
+use Rattle.map_board.specs.Boards.{is_held_out, rows_of, counts_of, EachHolds, IsNeedyAt}
 use Rattle.map_board.proofs.Places.{each-lengths}
 use Rattle.map_board.proofs.Taking.{needy-seen, idle-seen}
 use Rattle.map_board.proofs.state.Board.take.Goals as goal
