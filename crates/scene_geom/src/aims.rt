@@ -1,6 +1,6 @@
 //! Directions between points.
 
-ghost use Rattle.std.specs.Prelude.{◌≡◌, ◌≤◌, unsigned_abs};
+ghost use Rattle.std.specs.Prelude.{◌≡◌, ◌≤◌, ◌*ℤ◌, unsigned_abs};
 ghost use Rattle.scene_geom.specs.Direction.{direct, way, FitsDirection};
 ghost use Rattle.scene_geom.specs.Step.{vector};
 ghost use Rattle.scene_geom.specs.Vector.{cross};
@@ -29,7 +29,16 @@ pub fn turn_from(dir: Dir, step: Step) -> i128
     ensures value { result ≡ cross (way dir) (vector step) }
     ensures within { unsigned_abs result ≤ 33760000000000000000000000 }
 {
-    let step_x = i128::from(step.x);
-    let step_y = i128::from(step.y);
-    dir.x * step_y - dir.y * step_x
+    times(dir.x, step.y) - times(dir.y, step.x)
+}
+
+/// A component of a direction times one of a way between two points. Both hold in 64 bits, so that one multiplication
+/// gives the product.
+fn times(component: i128, step: i64) -> i128
+    requires component { unsigned_abs component ≤ 2110000000000000000 }
+    requires step { unsigned_abs step ≤ 8000000 }
+    ensures value { result ≡ component *ℤ step }
+    ensures within { unsigned_abs result ≤ 16880000000000000000000000 }
+{
+    i128::from(component as i64) * i128::from(step)
 }
