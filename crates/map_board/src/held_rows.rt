@@ -107,11 +107,13 @@ impl HeldRows {
         requires change { IsChange change.now }
         requires news { news.now ≡ (scene_after change.now).receivers }
         requires apart { AreApart (λ r. r.name) (scene_before change.now).receivers }
-        requires each { EachHolds change.now.past.value (scene_before change.now).receivers self.old.items }
+        requires each { EachHolds change.now.past.value
+            (scene_before change.now).receivers self.old.items }
         requires gone { gone ≡ removed_place change.now }
         requires room { length news.now ≤ vec_capacity self.old }
         ensures each { EachHolds (journal_after change.now) news.now self.new.items }
-        ensures rows { rows_of news.now self.new.items ≡ rows_after change.now.logged.edit change.now.past.value
+        ensures rows { rows_of news.now self.new.items
+            ≡ rows_after change.now.logged.edit change.now.past.value
             (rows_of (scene_before change.now).receivers self.old.items) }
     {
         carry_over(alloc, &mut self.rows, gone, news, change);

@@ -97,7 +97,8 @@ fn renew_each(alloc: Global, rows: &mut Vec<HeldRow>, news: &[Receiver], change:
     requires change { IsChange change.now }
     requires few { length rows.old.items ≤ length news.now }
     requires room { length news.now ≤ vec_capacity rows.old }
-    requires there { (k : ℕ) (r : _) → slice_get news.now k ≡ Some r → HasRow change.now r (slice_get rows.old.items k) }
+    requires there { (k : ℕ) (r : _) → slice_get news.now k ≡ Some r
+        → HasRow change.now r (slice_get rows.old.items k) }
     ensures count { length rows.new.items ≡ length news.now }
     ensures each { (k : ℕ) (r : _) → slice_get news.now k ≡ Some r
         → IsSomeAnd (slice_get rows.new.items k) (IsRowAfter change.now r (slice_get rows.old.items k)) }

@@ -81,7 +81,8 @@ pub(crate) fn edit_scene(
     alloc: Global,
     edit: &Edit,
 ) -> Result<Option<Part>, EditFault>
-    ensures made { IfOk result (λ old. apply_of edit.now hold.old.value.scene ≡ Ok (hold.new.value.scene, old)) }
+    ensures made { IfOk result (λ old. apply_of edit.now hold.old.value.scene
+        ≡ Ok (hold.new.value.scene, old)) }
     ensures fault { IfErr result (λ fault.
         Unless (lacks_memory fault) (apply_of edit.now hold.old.value.scene ≡ Err fault)) }
     ensures unchanged { OnErr result (hold.new.value.scene ≡ hold.old.value.scene) }
@@ -128,7 +129,8 @@ fn edited_copy(
     hold: &PreparedScene,
     edit: &Edit,
 ) -> Result<EditedScene, EditFault>
-    ensures made { IfOk result (λ made. apply_of edit.now hold.now.scene ≡ Ok (made.hold.value.scene, made.old)) }
+    ensures made { IfOk result (λ made. apply_of edit.now hold.now.scene
+        ≡ Ok (made.hold.value.scene, made.old)) }
     ensures fault { IfErr result (λ fault.
         Unless (lacks_memory fault) (apply_of edit.now hold.now.scene ≡ Err fault)) }
 {
@@ -176,7 +178,8 @@ fn index_after(
     stay: bool,
 ) -> Result<Option<Arc<Grid>>, NoMemory>
     requires { stay ≡ true → after.now.obstacles ≡ hold.now.scene.obstacles }
-    ensures { IfOk result (λ grid. IfSome grid (λ grid. grid.value ≡ numbered (map sides_of after.now.obstacles))) }
+    ensures { IfOk result (λ grid.
+        IfSome grid (λ grid. grid.value ≡ numbered (map sides_of after.now.obstacles))) }
 {
     match &hold.grid {
         Some(grid) if stay => Ok(Some(grid.clone()?)),
@@ -186,7 +189,8 @@ fn index_after(
 
 /// The index of the obstacles of a scene, where it has sources and receivers.
 fn index(alloc: Global, scene: &Scene) -> Result<Option<Arc<Grid>>, NoMemory>
-    ensures { IfOk result (λ grid. IfSome grid (λ grid. grid.value ≡ numbered (map sides_of scene.now.obstacles))) }
+    ensures { IfOk result (λ grid.
+        IfSome grid (λ grid. grid.value ≡ numbered (map sides_of scene.now.obstacles))) }
 {
     if scene.sources().is_empty() || scene.receivers().is_empty() {
         return Ok(None);

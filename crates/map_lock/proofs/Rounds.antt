@@ -131,6 +131,11 @@ may-offer number mine job answer owes answers =
 pub may-give-back : (number : ℕ) (mine : Entries) (job : Job) → owed mine ≡ job ∷ [] → May number mine (calls.GiveBack job)
 may-give-back number mine job owes = subst (λ jobs. Contains jobs job) (sym owes) (0, omega arith, refl)
 
+-- entries with one among them are some
+not-none : (front : Entries) (e : BoardEntry) (more : Entries) → front ++ e ∷ more ≢ []
+not-none [] e more none = cc
+not-none (first ∷ front) e more none = cc
+
 -- ---- a whole job
 
 module _ (first before taken after : BoardSeat) (job : Job) (so-far : HasWorkedQuietly first before)
@@ -158,9 +163,12 @@ module _ (first before taken after : BoardSeat) (job : Job) (so-far : HasWorkedQ
     worked = worked-more first before after so-far.own (take ∷ [] ++ done.own) so-far.worked
         (acted-job done.own done.worked.acted)
         (All-append Settles (take ∷ []) done.own (one Settles take refl) done.worked.kinds) done.worked.free;
-    ends = All-append Unseen so-far.own (take ∷ [] ++ done.own)
-        (All-weaker IsQuiet Unseen (λ e quiet. quiet.no_look) so-far.own so-far.quiet)
-        (All-append Unseen (take ∷ []) done.own (one Unseen take refl) done.unseen);
+    ends = record {
+      tried = not-none so-far.own take done.own;
+      unseen = All-append Unseen so-far.own (take ∷ [] ++ done.own)
+          (All-weaker IsQuiet Unseen (λ e quiet. quiet.no_look) so-far.own so-far.quiet)
+          (All-append Unseen (take ∷ []) done.own (one Unseen take refl) done.unseen);
+    };
   }
 
 -- ---- the last look
@@ -222,9 +230,12 @@ module _ (first before idle after : BoardSeat) (number : first.number ≡ editor
       let e : BoardEntry = entry idle.number calls.Look (replies.Looked (Err want)) in record {
         own = quiet-now.own ++ e ∷ [];
         worked = worked-look (Err want) turned;
-        ends = All-append Unseen quiet-now.own (e ∷ [])
-            (All-weaker IsQuiet Unseen (λ x quiet. quiet.no_look) quiet-now.own quiet-now.quiet)
-            (one Unseen e refl);
+        ends = record {
+          tried = not-none quiet-now.own e [];
+          unseen = All-append Unseen quiet-now.own (e ∷ [])
+              (All-weaker IsQuiet Unseen (λ x quiet. quiet.no_look) quiet-now.own quiet-now.quiet)
+              (one Unseen e refl);
+        };
       }
 
 -- ---- never finished
@@ -293,4 +304,4 @@ settled-counts before after (Ok look) settled =
 settled-counts before after (Err want) settled =
     let four : List ℕ = 0 ∷ 0 ∷ 0 ∷ 0 ∷ [] in
     ap counts_seen settled.worked.acted.mine
-    ∙ (counts-through four before.mine settled.own ∙ counts-unseen (counts_from four before.mine) settled.own settled.ends)
+    ∙ (counts-through four before.mine settled.own ∙ counts-unseen (counts_from four before.mine) settled.own settled.ends.unseen)

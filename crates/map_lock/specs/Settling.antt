@@ -1,5 +1,5 @@
 -- What a settle does: it takes, offers and gives back until the board is settled, and then looks.
-use Rattle.std.specs.Prelude.{◌≡◌, Bool, true, false, [], ◌∷◌, ◌++◌, All, Result, Ok, MatchResult}
+use Rattle.std.specs.Prelude.{◌≡◌, ◌≢◌, Bool, true, false, [], ◌∷◌, ◌++◌, All, Result, Ok, MatchResult}
 use Rattle.std.specs.List.{list_any}
 use Rattle.turn_lock.specs.History.{IsRun, entry}
 use Rattle.map_board.specs.declared.calls.BoardCall.{BoardCall}
@@ -67,9 +67,14 @@ pub record EndsInLook (seat : BoardSeat) (between own : Entries) (look : LookAll
   pub settled : IsSettled state
   pub shown : look ≡ look_of state
 
--- A settle found no memory: none of its looks was answered.
+-- none of the looks was answered
 abbrev pub EndsWithout : Entries → Type 0
 EndsWithout own = All (λ e. is_look e.reply ≡ false) own
+
+-- A settle found no memory: it had a turn at least, and none of its looks was answered.
+pub record EndsUnanswered (own : Entries) : Type 0 where
+  pub tried : own ≢ []
+  pub unseen : EndsWithout own
 
 -- A seat took, offered, gave back and looked, and then owed no job.
 pub record HasWorkedOff (before : BoardSeat) (own : Entries) (after : BoardSeat) : Type 0 where
@@ -93,4 +98,4 @@ pub record HasWorkedUnseen (before after : BoardSeat) : Type 0 where
 pub record HasSettled (before : BoardSeat) (result : Result LookAll NoMemory) (after : BoardSeat) : Type 0 where
   pub own : Entries
   pub worked : HasWorkedOff before own after
-  pub ends : MatchResult result (EndsInLook before worked.acted.between own) (λ _. EndsWithout own)
+  pub ends : MatchResult result (EndsInLook before worked.acted.between own) (λ _. EndsUnanswered own)

@@ -48,7 +48,8 @@ impl<'a> Sight<'a> {
         requires receiver_height { IsHeight self.now.ends.hr }
         requires distance { IsOnMap self.now.d }
         requires strings { AreStretched strings.old self.now.ends self.now.scene.now.obstacles }
-        requires crossings { self.now.crossings.now ≡ crossings_of self.now.ends self.now.scene.now.obstacles }
+        requires crossings { self.now.crossings.now
+            ≡ crossings_of self.now.ends self.now.scene.now.obstacles }
         ensures strings { OnOk result (AreStretched strings.new self.now.ends self.now.scene.now.obstacles) }
         ensures numbers { OnOk result
             (strings.new.numbers.items ≡ numbers_in band (crossings_of self.now.ends self.now.scene.now.obstacles)) }
@@ -69,7 +70,8 @@ impl<'a> Sight<'a> {
         requires source_height { IsHeight self.now.ends.hs }
         requires receiver_height { IsHeight self.now.ends.hr }
         requires distance { IsOnMap self.now.d }
-        requires crossings { self.now.crossings.now ≡ crossings_of self.now.ends self.now.scene.now.obstacles }
+        requires crossings { self.now.crossings.now
+            ≡ crossings_of self.now.ends self.now.scene.now.obstacles }
         ensures value { IfOk result (λ lateral. (band : Band) → both_of (lateral_of lateral.items band)
             ≡ d_z_over self.now.ends self.now.scene.now.obstacles self.now.d band) }
         ensures bounds { IfOk result (λ lateral. All IsLateralScreening lateral.items) }

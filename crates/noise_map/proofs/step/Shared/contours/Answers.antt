@@ -22,7 +22,7 @@ returns-in_err-shown g c =
     let before = c.args.editor.now in
     let is = none-missing before c.args.contour c.requires.knows (sym c.in_ok-name.ensures.missing ∙ c.in_default.is) in
     rw p.1 (subst (λ (e : Effect). HasFailed before.seat e c.settle.new.seat) (sym is)
-    (contours-failed c.runs_show_right.ensures before.seat c.settle.new.seat c.args.contour s.own s.worked.acted s.worked.kinds s.ends))
+    (contours-failed c.runs_show_right.ensures before.seat c.settle.new.seat c.args.contour s.own s.worked.acted s.worked.kinds s.ends.unseen))
 
 pub returns : goal.returns
 returns g c =

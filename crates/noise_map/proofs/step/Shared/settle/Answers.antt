@@ -8,7 +8,7 @@ pub returns-in_err-look : goal.returns-in_err-look
 returns-in_err-look g c =
     let p = err_from_is_err_and c.from_residual.result c.from_residual.ensures.1 in
     let s = c.in_err-look.ensures.settled in
-    rw p.1 (settle-failed c.runs_show_right.ensures c.args.editor.now.seat c.settle.new.seat s.own s.worked.acted s.worked.kinds s.ends)
+    rw p.1 (settle-failed c.runs_show_right.ensures c.args.editor.now.seat c.settle.new.seat s.own s.worked.acted s.worked.kinds s.ends.unseen)
 
 pub returns : goal.returns
 returns g c =
