@@ -125,7 +125,7 @@ module _ (change : Change) (is : IsChange change) where
       go None is_out there = is_out
       go (Some v) is_out there = absurd (cc (some, there))
 
-    right-of : (cache : Cache) → held.cache ≡ Some cache → CacheIsRight past r (option_map kept_of held.kept) cache
+    pub right-of : (cache : Cache) → held.cache ≡ Some cache → CacheIsRight past r (option_map kept_of held.kept) cache
     right-of cache some =
         subst (λ (o : Option Cache). IsSomeAnd o (CacheIsRight past r (option_map kept_of held.kept))) some
         (subst (λ (o : Option ℕ). CacheIsThere past r (option_map kept_of held.kept) o held.cache) (free-of cache some) holds.bundles)
@@ -133,7 +133,7 @@ module _ (change : Change) (is : IsChange change) where
     pub kept-past : (levels : KeptLevels) → held.kept ≡ Some levels → levels.version ≤ length past
     kept-past levels kept = (holds.right.kept (kept_of levels) (ap (option_map kept_of) kept)).past
 
-    kept-by : (levels : KeptLevels) → held.kept ≡ Some levels → levels.by ≡ first_touching past levels.version r
+    pub kept-by : (levels : KeptLevels) → held.kept ≡ Some levels → levels.by ≡ first_touching past levels.version r
     kept-by levels kept = subst (ByIsRight past r) kept holds.by
 
     pub kept-fresh : (cache : Cache) → held.cache ≡ Some cache → (levels : KeptLevels) → held.kept ≡ Some levels → levels.by ≡ None

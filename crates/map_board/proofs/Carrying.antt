@@ -61,6 +61,11 @@ module _ {A : Type 0} where
   placed-push zero y (x ∷ xs) upto past = absurd (omega arith)
   placed-push (suc i) y (x ∷ xs) upto past = ap (λ l. x ∷ l) (placed-push i y xs (omega arith) (omega arith))
 
+  pub placed-same : (i : ℕ) (x : A) (xs : List A) → slice_get xs i ≡ Some x → xs ≡ placed i x xs
+  placed-same i x [] there = absurd (cc there)
+  placed-same zero x (y ∷ xs) there = let is : y ≡ x = cc there in ap (λ z. z ∷ xs) is
+  placed-same (suc i) x (y ∷ xs) there = ap (λ l. y ∷ l) (placed-same i x xs there)
+
 -- ---- what stands at a place
 
 module _ {A : Type 0} where
@@ -68,6 +73,16 @@ module _ {A : Type 0} where
   item-holds P [] i x there is = absurd there
   item-holds P (y ∷ xs) zero x there is = subst P (sym is) there
   item-holds P (y ∷ xs) (suc i) x there is = item-holds P xs i x there is
+
+  pub record Item (P : A → Type 0) (xs : List A) (i : ℕ) : Type 0 where
+    pub item : A
+    pub there : slice_get xs i ≡ Some item
+    pub holds : P item
+
+  pub some-item : (P : A → Type 0) (xs : List A) (i : ℕ) → IsSomeAnd (slice_get xs i) P → Item P xs i
+  some-item P [] i there = absurd there
+  some-item P (y ∷ xs) zero there = record { item = y; there = refl; holds = there }
+  some-item P (y ∷ xs) (suc i) there = let rest = some-item P xs i there in record { item = rest.item; there = rest.there; holds = rest.holds }
 
   pub some-within : (P : A → Type 0) (xs : List A) (i : ℕ) → IsSomeAnd (slice_get xs i) P → i < length xs
   some-within P [] i there = absurd there

@@ -27,3 +27,4 @@ pub mod LeftSources
 pub mod LeftObstacles
 pub mod Showing
 pub mod Touched
+pub mod Untouched

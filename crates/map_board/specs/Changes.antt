@@ -1,5 +1,5 @@
 -- How rows go over from the scene before an edit to the scene after it.
-use Rattle.std.specs.Prelude.{◌≡◌, ℕ, zero, suc, ◌-◌, Bool, true, false, not, List, [], ◌∷◌, ◌++◌, length, IsSomeAnd, Option, Some, None, Ok}
+use Rattle.std.specs.Prelude.{◌≡◌, ℕ, zero, suc, ◌-◌, Bool, true, false, not, ◌&&◌, List, [], ◌∷◌, ◌++◌, length, IsSomeAnd, Option, Some, None, Ok}
 use Rattle.std.specs.List.{remove}
 use Rattle.scene_parts.specs.Views.{Receiver, Grid}
 use Rattle.scene_parts.specs.declared.parts.Part.{Part}
@@ -74,6 +74,20 @@ abbrev pub most_more : Edit → ℕ → ℕ
 most_more (edits.Put (parts.Receiver r)) count = 1
 most_more (edits.Grid grid) count = most_receivers - count
 most_more edit count = 0
+
+-- an edit with its old part changes receivers alone
+abbrev pub is_receiver_part : Part → Bool
+is_receiver_part (parts.Receiver r) = true
+is_receiver_part part = false
+
+abbrev pub is_receiver_if_any : Option Part → Bool
+is_receiver_if_any None = true
+is_receiver_if_any (Some part) = is_receiver_part part
+
+abbrev pub changes_receivers_alone : Edit → Option Part → Bool
+changes_receivers_alone (edits.Put part) old = is_receiver_part part && is_receiver_if_any old
+changes_receivers_alone (edits.Set setting) old = false
+changes_receivers_alone edit old = is_receiver_if_any old
 
 -- the grid that an edit puts
 abbrev pub grid_put : Edit → Option Grid

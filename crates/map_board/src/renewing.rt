@@ -6,7 +6,7 @@ ghost use Rattle.touch_test.specs.Touches.{touches_receiver};
 ghost use Rattle.map_board.specs.declared.rows.KeptLevels.{KeptLevels};
 ghost use Rattle.map_board.specs.Machine.{rows_after};
 ghost use Rattle.map_board.specs.Boards.{kept_of, row_of, rows_of, ByIsRight, RowHolds, EachHolds, IsOutSince};
-ghost use Rattle.map_board.specs.Changes.{scene_before, scene_after, journal_after, touches_a_path, most_more, named_place, gone_from, removed_place, placed, without_place, IsChange, IsFresh, HasRow, IsRowAfter};
+ghost use Rattle.map_board.specs.Changes.{scene_before, scene_after, journal_after, touches_a_path, most_more, named_place, gone_from, removed_place, placed, without_place, changes_receivers_alone as receivers_alone, is_receiver_if_any as receiver_if_any, is_receiver_part, IsChange, IsFresh, HasRow, IsRowAfter};
 
 use crate::marking::mark;
 use crate::past::Past;
@@ -126,8 +126,40 @@ fn renew_at(
 {
     if names_receiver(&change.logged, receiver.name.items()) {
         put_at(rows, place, fresh_row(alloc, change.version));
-    } else {
+    } else if !changes_receivers_alone(&change.logged) {
         renew(&mut rows[place], receiver, change);
+    }
+}
+
+/// Whether an edit changes receivers alone, and so touches no other receiver's paths.
+fn changes_receivers_alone(logged: &Logged) -> bool
+    ensures { result ≡ receivers_alone logged.now.edit logged.now.old }
+{
+    match &logged.edit {
+        Edit::Put(part) => is_receiver(part) && is_receiver_if_any(&logged.old),
+        Edit::Remove(_) => is_receiver_if_any(&logged.old),
+        Edit::Grid(_) => is_receiver_if_any(&logged.old),
+        Edit::Set(_) => false,
+    }
+}
+
+/// Whether a part is a receiver, if there is a part.
+fn is_receiver_if_any(part: &Option<Part>) -> bool
+    ensures { result ≡ receiver_if_any part.now }
+{
+    match part {
+        Some(part) => is_receiver(part),
+        None => true,
+    }
+}
+
+/// Whether a part is a receiver.
+fn is_receiver(part: &Part) -> bool
+    ensures { result ≡ is_receiver_part part.now }
+{
+    match part {
+        Part::Receiver(_) => true,
+        _ => false,
     }
 }
 

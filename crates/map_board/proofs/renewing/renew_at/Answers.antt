@@ -1,9 +1,11 @@
-use Rattle.std.proofs.Common.{◌≡◌, ◌∙◌, ap, arith, true, false}
+use Rattle.std.proofs.Common.{◌≡◌, ◌∙◌, ap, sym, subst, refl, arith, true, false}
+use Rattle.std.specs.Prelude.{IsSomeAnd}
 use Rattle.scene_parts.specs.Views.{Receiver}
 use Rattle.map_board.specs.declared.rows.HeldRow.{HeldRow}
 use Rattle.map_board.specs.Boards.{row_of, RowHolds}
 use Rattle.map_board.specs.Changes.{is_unnamed}
-use Rattle.map_board.proofs.Carrying.{tested, placed-set, item-holds, some-within, item-there}
+use Rattle.map_board.proofs.Carrying.{tested, placed-set, placed-same, item-holds, some-item, some-within, item-there}
+use Rattle.map_board.proofs.Untouched.{stays-right}
 use Rattle.map_board.proofs.renewing.renew_at.Goals as goal
 use Rattle.map_board.proofs.renewing.renew_at.Goals.{After-names_receiver, After-index_mut}
 
@@ -37,14 +39,26 @@ renew-requires-clause-holds c =
     let unnamed_is = unnamed (goal.at.renew-requires-clause-holds c).After-names_receiver c.if-names_receiver.false in
     item-holds (RowHolds c.args.change.now.past.value c.args.receiver.now) c.args.rows.now.items c.args.place c.index_mut.result.now (c.requires.there unnamed_is) c.index_mut.ensures.value
 
-pub returns-else-names_receiver-clause-made : goal.returns-else-names_receiver-clause-made
-returns-else-names_receiver-clause-made c =
+pub returns-then-not-changes_receivers_alone-clause-made : goal.returns-then-not-changes_receivers_alone-clause-made
+returns-then-not-changes_receivers_alone-clause-made c =
     let rows = c.args.rows.now.items in
     let r = c.args.receiver.now in
-    let unnamed_is = unnamed (goal.at.returns-else-names_receiver-clause-made c).After-names_receiver c.if-names_receiver.false in
+    let unnamed_is = unnamed (goal.at.returns-then-not-changes_receivers_alone-clause-made c).After-names_receiver c.if-names_receiver.false in
     let below = some-within (RowHolds c.args.change.now.past.value r) rows c.args.place (c.requires.there unnamed_is) in
     (c.renew.new.row, placed-set c.args.place c.renew.new.row rows below, record {
       anew = λ n. absurd (cc (n, unnamed_is));
       same = λ u. item-there (λ (old : HeldRow). row_of r c.renew.new.row ≡ row_of r old) rows c.args.place c.index_mut.result.now below c.index_mut.ensures.value c.renew.ensures.row;
       holds = λ u. c.renew.ensures.holds;
+    })
+
+pub returns-else-not-changes_receivers_alone-clause-made : goal.returns-else-not-changes_receivers_alone-clause-made
+returns-else-not-changes_receivers_alone-clause-made c =
+    let rows = c.args.rows.now.items in
+    let r = c.args.receiver.now in
+    let unnamed_is = unnamed (goal.at.returns-else-not-changes_receivers_alone-clause-made c).After-names_receiver c.if-names_receiver.false in
+    let found = some-item (RowHolds c.args.change.now.past.value r) rows c.args.place (c.requires.there unnamed_is) in
+    (found.item, placed-same c.args.place found.item rows found.there, record {
+      anew = λ n. absurd (cc (n, unnamed_is));
+      same = λ u. subst (λ o. IsSomeAnd o (λ (old : HeldRow). row_of r found.item ≡ row_of r old)) (sym found.there) refl;
+      holds = λ u. stays-right c.args.change.now c.requires.change r unnamed_is (sym c.changes_receivers_alone.ensures ∙ c.if-not-changes_receivers_alone.false) found.item found.holds;
     })
