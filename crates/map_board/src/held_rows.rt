@@ -13,8 +13,8 @@ use scene_parts::{NoMemory, Receiver};
 use std::alloc::Global;
 use std::marker::Model;
 
-/// The rows of a board. A search for a needy row goes on from where the last one ended: none before that place is needy.
-/// Contracts see it as the vector of rows.
+/// The rows of a board. A search for a needy row goes on from where the last one ended: none before that place is
+/// needy. Contracts see it as the vector of rows.
 #[derive(Drop)]
 pub(crate) struct HeldRows {
     rows: Vec<HeldRow>,

@@ -58,8 +58,8 @@ pub(crate) fn removed(logged: &Logged, place: Option<usize>) -> Option<usize>
     }
 }
 
-/// The rows go over to the scene after an edit: that of a receiver that it removes is dropped, those that it puts are made
-/// anew, and the others stay, each at its receiver's place.
+/// The rows go over to the scene after an edit: that of a receiver that it removes is dropped, those that it puts are
+/// made anew, and the others stay, each at its receiver's place.
 pub(crate) fn carry_over(
     alloc: Global,
     rows: &mut Vec<HeldRow>,
@@ -193,8 +193,8 @@ fn fresh_row(alloc: Global, version: u64) -> HeldRow
     }
 }
 
-/// The row of a receiver after the edit: bundles that the edit touches are marked, and kept levels are stale by it where it
-/// is the first that touches them.
+/// The row of a receiver after the edit: bundles that the edit touches are marked, and kept levels are stale by it where
+/// it is the first that touches them.
 fn renew(row: &mut HeldRow, receiver: &Receiver, change: &Change)
     requires change { IsChange change.now }
     requires holds { RowHolds change.now.past.value receiver.now row.old }

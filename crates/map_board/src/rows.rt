@@ -23,8 +23,8 @@ pub(crate) struct KeptLevels {
     pub levels: Levels,
 }
 
-/// What a board holds for a receiver: the version that put it, the levels kept since, the version of the job that is out,
-/// and the bundles (unless they are out with the job). It holds nothing of the scene.
+/// What a board holds for a receiver: the version that put it, the levels kept since, the version of the job that is
+/// out, and the bundles (unless they are out with the job). It holds nothing of the scene.
 #[derive(Drop)]
 pub(crate) struct HeldRow {
     pub since: u64,
