@@ -1,14 +1,15 @@
 -- Receivers at their places after an edit.
-use Rattle.std.proofs.Common.{◌≡◌, ℕ, zero, suc, ◌+◌, ◌<◌, ◌≤◌, Bool, true, false, cond, List, [], ◌∷◌, length, Some, None, refl, sym, ap, ◌∙◌, arith}
+use Rattle.std.proofs.Common.{◌≡◌, ℕ, zero, suc, ◌+◌, ◌-◌, ◌*◌, ◌<◌, ◌≤◌, Bool, true, false, cond, List, [], ◌∷◌, ◌++◌, length, take, drop, Some, None, refl, sym, ap, ◌∙◌, subst, arith, length-append}
 use Rattle.std.specs.Prelude.{bytes_eq, not, nat_lt, slice_get, Option, Ok, IfSome, ◌||◌}
 use Rattle.std.specs.List.{list_any, position_or_len, remove}
 use Rattle.std.proofs.lemmas.Bool.{ltb-false, ltb-true}
-use Rattle.scene_parts.specs.Views.{Receiver}
+use Rattle.std.proofs.Math.Nat.{mul-suc, mul-zero}
+use Rattle.scene_parts.specs.Views.{Receiver, Grid}
 use Rattle.scene_parts.specs.declared.parts.Part.{Part}
 use Rattle.scene_parts.specs.declared.parts.Part.TheVariants as parts
 use Rattle.scene_book.specs.Book.{Book, globals_with}
 use Rattle.scene_book.specs.Limits.{most_receivers}
-use Rattle.scene_book.specs.Grid.{receivers_of}
+use Rattle.scene_book.specs.Grid.{receivers_of, columns_from, rows_from}
 use Rattle.scene_book.specs.Lists.{place_of, put_in, take_out, put_all}
 use Rattle.scene_book.specs.Applying.{apply_of, put_of, put_where_room, remove_of, grid_of, taken, part_named, in_limits, with_part, without, own_class, name_of, class_of, holder, at_most, all_own, replaced, with_receivers}
 use Rattle.scene_book.specs.declared.edits.Edit.{Edit}
@@ -84,6 +85,13 @@ module _ {A : Type 0} (name_of : A → List ℕ) where
   all-longer (new ∷ news) xs =
       let one = put-longer new xs in
       let rest = all-longer news (put_in name_of new xs) in
+      omega (arith, one, rest)
+
+  all-few : (news xs : List A) → length (put_all name_of news xs) ≤ length xs + length news
+  all-few [] xs = omega arith
+  all-few (new ∷ news) xs =
+      let one = put-one-more new xs in
+      let rest = all-few news (put_in name_of new xs) in
       omega (arith, one, rest)
 
   -- what is taken out stands at the place of its name
@@ -262,6 +270,21 @@ rows-left edit old olds hs count =
     let same = without-length (gone_from (named_place edit olds) edit old) olds hs (sym count) within in
     omega (arith, same, left-few edit old olds)
 
+columns-count : (grid : Grid) (row column count : ℕ) → length (columns_from grid row column count) ≡ count
+columns-count grid row column zero = refl
+columns-count grid row column (suc count) = ap suc (columns-count grid row (suc column) count)
+
+rows-count : (grid : Grid) (row count : ℕ) → length (rows_from grid row count) ≡ grid.columns * count
+rows-count grid row zero = sym (mul-zero grid.columns)
+rows-count grid row (suc count) =
+    let one = columns-count grid row 0 grid.columns in
+    let rest = rows-count grid (suc row) count in
+    omega (arith, length-append (columns_from grid row 0 grid.columns) (rows_from grid (suc row) count), one, rest, mul-suc grid.columns count)
+
+-- a grid has as many receivers as columns times rows
+grid-count : (grid : Grid) → length (receivers_of grid) ≡ grid.columns * grid.rows
+grid-count grid = rows-count grid 0 grid.rows
+
 -- an edit adds few
 pub added-few : (edit : Edit) (old : Option Part) (olds : List Receiver) → length (receivers_after edit old olds) ≤ most_receivers → length olds ≤ most_receivers
     → length (receivers_after edit old olds) ≤ length olds + most_more edit (length olds)
@@ -282,5 +305,7 @@ added-few (edits.Remove name) (Some (parts.Receiver x)) olds few before =
           → length (take_out (λ (y : Receiver). y.name) name olds) ≤ length olds + 0
       fewer-left None within is = omega (arith, is)
       fewer-left (Some p) within is = omega (arith, is, fewer olds p within)
-added-few (edits.Grid grid) old olds few before = omega (arith, few, before)
+added-few (edits.Grid grid) old olds few before =
+    let added = all-few (λ (x : Receiver). x.name) (receivers_of grid) olds in
+    omega (arith, few, before, added, grid-count grid)
 added-few (edits.Set setting) old olds few before = omega arith

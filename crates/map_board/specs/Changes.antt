@@ -1,5 +1,5 @@
 -- How rows go over from the scene before an edit to the scene after it.
-use Rattle.std.specs.Prelude.{◌≡◌, ℕ, zero, suc, ◌-◌, Bool, true, false, not, ◌&&◌, List, [], ◌∷◌, ◌++◌, length, IsSomeAnd, Option, Some, None, Ok}
+use Rattle.std.specs.Prelude.{◌≡◌, ℕ, zero, suc, ◌-◌, ◌*◌, min, Bool, true, false, not, ◌&&◌, List, [], ◌∷◌, ◌++◌, length, IsSomeAnd, Option, Some, None, Ok}
 use Rattle.std.specs.List.{remove}
 use Rattle.scene_parts.specs.Views.{Receiver, Grid}
 use Rattle.scene_parts.specs.declared.parts.Part.{Part}
@@ -72,7 +72,7 @@ placed (suc place) thing (x ∷ xs) = x ∷ placed place thing xs
 -- how many receivers an edit may add to so many
 abbrev pub most_more : Edit → ℕ → ℕ
 most_more (edits.Put (parts.Receiver r)) count = 1
-most_more (edits.Grid grid) count = most_receivers - count
+most_more (edits.Grid grid) count = min (grid.columns * grid.rows) (most_receivers - count)
 most_more edit count = 0
 
 -- an edit with its old part changes receivers alone

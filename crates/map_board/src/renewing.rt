@@ -33,7 +33,10 @@ pub(crate) fn rows_more(edit: &Edit, count: usize) -> usize
 {
     match edit {
         Edit::Put(Part::Receiver(_)) => 1,
-        Edit::Grid(_) => (MOST_RECEIVERS as usize).saturating_sub(count),
+        Edit::Grid(grid) => {
+            let left = (MOST_RECEIVERS as usize).saturating_sub(count);
+            ((grid.columns * grid.rows) as usize).min(left)
+        }
         _ => 0,
     }
 }
