@@ -1,5 +1,5 @@
 -- The editor's seat after a call of its own.
-use Rattle.std.proofs.Common.{◌≡◌, ℕ, List, [], ◌∷◌, ◌++◌, sym, ap, ◌∙◌}
+use Rattle.std.proofs.Common.{◌≡◌, ℕ, List, [], sym, ap, ◌∙◌}
 use Rattle.std.specs.Prelude.{Result}
 use Rattle.scene_parts.specs.declared.memory.NoMemory.{NoMemory}
 use Rattle.turn_lock.specs.History.{entry}

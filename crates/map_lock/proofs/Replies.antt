@@ -1,5 +1,5 @@
 -- Each step's reply is of its call's kind.
-use Rattle.std.proofs.Common.{◌≡◌, refl}
+use Rattle.std.proofs.Common.{refl}
 use Rattle.map_board.specs.declared.calls.BoardCall.{BoardCall}
 use Rattle.map_board.specs.declared.calls.BoardCall.TheVariants as calls
 use Rattle.map_board.specs.declared.calls.BoardReply.{BoardReply}

@@ -1,12 +1,11 @@
 -- How the calls of a settle add up.
-use Rattle.std.proofs.Common.{◌≡◌, ℕ, true, false, cond, List, [], ◌∷◌, ◌++◌, refl, sym, ap, ◌∙◌, subst, arith, append_assoc}
+use Rattle.std.proofs.Common.{◌≡◌, ◌≢◌, ℕ, true, false, cond, List, [], ◌∷◌, ◌++◌, refl, sym, ap, ◌∙◌, subst, arith, append_assoc}
 use Rattle.std.specs.Prelude.{All, Contains, Result, Ok, Err, not}
 use Rattle.std.proofs.lemmas.List.Elements.{All-nil, All-cons, All-head, All-tail, All-append, All-weaker}
 use Rattle.turn_lock.specs.History.{IsRun, entries_of, entry}
 use Rattle.turn_lock.proofs.Histories.{entries_of-append}
 use Rattle.std.proofs.lemmas.List.{append-nil}
 use Rattle.map_board.specs.declared.answers.Landed.{Landed}
-use Rattle.map_board.specs.declared.calls.Took.{Took}
 use Rattle.map_board.specs.declared.calls.Took.TheVariants as took
 use Rattle.map_board.specs.declared.calls.BoardCall.{BoardCall}
 use Rattle.map_board.specs.declared.calls.BoardCall.TheVariants as calls

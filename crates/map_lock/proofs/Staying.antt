@@ -1,6 +1,6 @@
 -- A settled board stays settled while only others than the editor go on.
 use Rattle.std.proofs.Common.{◌≡◌, ℕ, ◌+◌, Bool, true, false, cond, eqb, List, [], ◌∷◌, ◌++◌, refl, sym, ap, ◌∙◌, subst, arith, Some, None, ◌⊎◌, inl, inr}
-use Rattle.std.specs.Prelude.{Option, is_some, IsSome, All, Ok, Err, bytes_eq, ◌||◌, ◌&&◌, count_by, find}
+use Rattle.std.specs.Prelude.{Option, is_some, IsSome, All, Ok, Err, bytes_eq, ◌||◌, count_by, find}
 use Rattle.std.specs.List.{list_any}
 use Rattle.std.proofs.lemmas.List.Elements.{All-nil, All-cons}
 use Rattle.std.proofs.lemmas.List.Sums.{sum_by-cons}

@@ -1,5 +1,5 @@
 -- One turn through a seat: what it says of the machine, and what it leaves of the seat's own entries.
-use Rattle.std.proofs.Common.{◌≡◌, [], ◌∷◌, ◌++◌, refl, ◌∙◌, subst, append_assoc}
+use Rattle.std.proofs.Common.{[], ◌∷◌, ◌++◌, refl, ◌∙◌, subst, append_assoc}
 use Rattle.turn_lock.specs.History.{IsRun, entry}
 use Rattle.turn_lock.specs.Standing.{HasCalled}
 use Rattle.turn_lock.proofs.Histories.{run_last, own_more}

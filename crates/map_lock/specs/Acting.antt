@@ -1,5 +1,5 @@
 -- What a seat does in several calls.
-use Rattle.std.proofs.Common.{◌≡◌, [], ◌∷◌, ◌++◌, refl, sym, ap, ◌∙◌, append_assoc}
+use Rattle.std.proofs.Common.{[], ◌++◌, refl, sym, ap, ◌∙◌, append_assoc}
 use Rattle.std.proofs.lemmas.List.{append-nil}
 use Rattle.turn_lock.specs.History.{entries_of}
 use Rattle.turn_lock.proofs.Histories.{entries_of-append}

@@ -1,4 +1,3 @@
-use Rattle.std.proofs.Common.{◌∙◌}
 use Rattle.map_lock.proofs.Desks.{last-take, owes-take}
 use Rattle.map_lock.proofs.desk.MapLockDesk.take.Goals as goal
 

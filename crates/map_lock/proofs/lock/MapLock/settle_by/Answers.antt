@@ -1,4 +1,3 @@
-use Rattle.std.proofs.Common.{◌≡◌}
 use Rattle.std.proofs.lemmas.Result.{err_from_is_err_and}
 use Rattle.map_lock.proofs.Rounds.{quiet-none, quiet-idle, quiet-job, unseen-job, owed-taken, looked, never-finished}
 use Rattle.map_lock.proofs.lock.MapLock.settle_by.Goals as goal
