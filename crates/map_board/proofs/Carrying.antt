@@ -45,6 +45,11 @@ module _ {A : Type 0} where
   placed-within zero y (x ∷ xs) upto = omega arith
   placed-within (suc i) y (x ∷ xs) upto = let rest = placed-within i y xs (omega arith) in omega (arith, rest)
 
+  pub placed-longer : (i : ℕ) (y : A) (xs : List A) → length xs ≤ length (placed i y xs)
+  placed-longer i y [] = omega arith
+  placed-longer zero y (x ∷ xs) = omega arith
+  placed-longer (suc i) y (x ∷ xs) = let rest = placed-longer i y xs in omega (arith, rest)
+
   pub placed-few : (i n : ℕ) (y : A) (xs : List A) → length xs ≤ n → i < n → i ≤ length xs → length (placed i y xs) ≤ n
   placed-few i n y [] few below upto = omega arith
   placed-few zero n y (x ∷ xs) few below upto = omega (arith, few)
@@ -178,10 +183,10 @@ module _ (change : Change) (is : IsChange change) (rows : List HeldRow) (apart :
   abbrev pub left : List HeldRow
   left = without_place (removed_place change) rows
 
-  news-are : news ≡ receivers_after change.logged.edit change.logged.old olds
+  pub news-are : news ≡ receivers_after change.logged.edit change.logged.old olds
   news-are = accepted-receivers change.logged.edit (scene_before change) (scene_after change) change.logged.old is.accepted
 
-  count : length rows ≡ length olds
+  pub count : length rows ≡ length olds
   count = each-lengths change.past.value olds rows each
 
   stands : (k : ℕ) (r : Receiver) → slice_get news k ≡ Some r → is_unnamed change r ≡ true → Stays (removed_place change) olds k r

@@ -28,3 +28,4 @@ pub mod LeftObstacles
 pub mod Showing
 pub mod Touched
 pub mod Untouched
+pub mod OnePut

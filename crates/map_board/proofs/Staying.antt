@@ -73,7 +73,7 @@ module _ {A : Type 0} (name_of : A → List ℕ) where
     go true rest = omega arith
     go false rest = omega (arith, rest)
 
-  put-one-more : (new : A) (xs : List A) → length (put_in name_of new xs) ≤ suc (length xs)
+  pub put-one-more : (new : A) (xs : List A) → length (put_in name_of new xs) ≤ suc (length xs)
   put-one-more new [] = omega arith
   put-one-more new (x ∷ xs) = go (bytes_eq (name_of new) (name_of x)) (put-one-more new xs) where
     go : (test : Bool) → length (put_in name_of new xs) ≤ suc (length xs) → length (cond test (new ∷ xs) (x ∷ put_in name_of new xs)) ≤ suc (length (x ∷ xs))

@@ -109,6 +109,12 @@ abbrev pub removed_place : Change → Option ℕ
 removed_place change =
     gone_from (named_place change.logged.edit (scene_before change).receivers) change.logged.edit change.logged.old
 
+-- the place of the receiver that an edit with its old part puts, where it changes receivers alone
+abbrev pub put_place : Edit → Option Part → List Receiver → Option ℕ
+put_place (edits.Put (parts.Receiver r)) None rs = place_of (λ x. x.name) r.name rs
+put_place (edits.Put (parts.Receiver r)) (Some (parts.Receiver old)) rs = place_of (λ x. x.name) r.name rs
+put_place edit old rs = None
+
 -- a list without the thing at a place, if there is a place
 abbrev pub without_place : {A : Type 0} → Option ℕ → List A → List A
 without_place None xs = xs

@@ -53,7 +53,7 @@ impl Board {
             past: Snapshot::of(&self.past),
         };
         let gone = removed(&change.logged, place);
-        self.rows.carry_over(alloc, gone, self.hold.scene.receivers(), &change);
+        self.rows.carry_over(alloc, gone, &self.hold.scene, &change);
         let Change {
             logged: Logged { edit, old },
             globals,

@@ -9,7 +9,8 @@ ghost use Rattle.map_board.specs.Machine.{rows_after};
 
 use crate::renewing::{Change, carry_over};
 use crate::rows::{Back, Cache, HeldRow, next_needy, put_back, take_row};
-use scene_parts::{NoMemory, Receiver};
+use scene_book::Scene;
+use scene_parts::NoMemory;
 use std::alloc::Global;
 use std::marker::Model;
 
@@ -101,22 +102,22 @@ impl HeldRows {
         &mut self,
         alloc: Global,
         gone: Option<usize>,
-        news: &[Receiver],
+        scene: &Scene,
         change: &Change,
     )
         requires change { IsChange change.now }
-        requires news { news.now ≡ (scene_after change.now).receivers }
+        requires news { scene.now.receivers ≡ (scene_after change.now).receivers }
         requires apart { AreApart (λ r. r.name) (scene_before change.now).receivers }
         requires each { EachHolds change.now.past.value
             (scene_before change.now).receivers self.old.items }
         requires gone { gone ≡ removed_place change.now }
-        requires room { length news.now ≤ vec_capacity self.old }
-        ensures each { EachHolds (journal_after change.now) news.now self.new.items }
-        ensures rows { rows_of news.now self.new.items
+        requires room { length scene.now.receivers ≤ vec_capacity self.old }
+        ensures each { EachHolds (journal_after change.now) scene.now.receivers self.new.items }
+        ensures rows { rows_of scene.now.receivers self.new.items
             ≡ rows_after change.now.logged.edit change.now.past.value
             (rows_of (scene_before change.now).receivers self.old.items) }
     {
-        carry_over(alloc, &mut self.rows, gone, news, change);
+        carry_over(alloc, &mut self.rows, gone, scene, change);
         self.passed = 0;
     }
 }

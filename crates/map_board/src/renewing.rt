@@ -6,7 +6,7 @@ ghost use Rattle.touch_test.specs.Touches.{touches_receiver};
 ghost use Rattle.map_board.specs.declared.rows.KeptLevels.{KeptLevels};
 ghost use Rattle.map_board.specs.Machine.{rows_after};
 ghost use Rattle.map_board.specs.Boards.{kept_of, row_of, rows_of, ByIsRight, RowHolds, EachHolds, IsOutSince};
-ghost use Rattle.map_board.specs.Changes.{scene_before, scene_after, journal_after, touches_a_path, most_more, named_place, gone_from, removed_place, placed, without_place, changes_receivers_alone as receivers_alone, is_receiver_if_any as receiver_if_any, is_receiver_part, IsChange, IsFresh, HasRow, IsRowAfter};
+ghost use Rattle.map_board.specs.Changes.{scene_before, scene_after, journal_after, touches_a_path, most_more, named_place, gone_from, removed_place, put_place, placed, without_place, changes_receivers_alone as receivers_alone, is_receiver_if_any as receiver_if_any, is_receiver_part, IsChange, IsFresh, HasRow, IsRowAfter};
 
 use crate::marking::mark;
 use crate::past::Past;
@@ -67,21 +67,40 @@ pub(crate) fn carry_over(
     alloc: Global,
     rows: &mut Vec<HeldRow>,
     gone: Option<usize>,
-    news: &[Receiver],
+    scene: &Scene,
     change: &Change,
 )
     requires change { IsChange change.now }
-    requires news { news.now ≡ (scene_after change.now).receivers }
+    requires news { scene.now.receivers ≡ (scene_after change.now).receivers }
     requires apart { AreApart (λ r. r.name) (scene_before change.now).receivers }
     requires each { EachHolds change.now.past.value (scene_before change.now).receivers rows.old.items }
     requires gone { gone ≡ removed_place change.now }
-    requires room { length news.now ≤ vec_capacity rows.old }
-    ensures each { EachHolds (journal_after change.now) news.now rows.new.items }
-    ensures rows { rows_of news.now rows.new.items ≡ rows_after change.now.logged.edit change.now.past.value
-        (rows_of (scene_before change.now).receivers rows.old.items) }
+    requires room { length scene.now.receivers ≤ vec_capacity rows.old }
+    ensures each { EachHolds (journal_after change.now) scene.now.receivers rows.new.items }
+    ensures rows { rows_of scene.now.receivers rows.new.items
+        ≡ rows_after change.now.logged.edit change.now.past.value
+            (rows_of (scene_before change.now).receivers rows.old.items) }
 {
     drop_at(rows, gone);
-    renew_each(alloc, rows, news, change);
+    match place_alone(&change.logged, scene) {
+        Some(place) => put_at(rows, place, fresh_row(alloc, change.version)),
+        None => renew_each(alloc, rows, scene.receivers(), change),
+    }
+}
+
+/// The place of the receiver that an edit puts, where it changes receivers alone.
+fn place_alone(logged: &Logged, scene: &Scene) -> Option<usize>
+    ensures { result ≡ put_place logged.now.edit logged.now.old scene.now.receivers }
+{
+    let Edit::Put(part) = &logged.edit else {
+        return None;
+    };
+    match part {
+        Part::Receiver(receiver) if is_receiver_if_any(&logged.old) => {
+            scene.receiver_place(receiver.name.items())
+        }
+        _ => None,
+    }
 }
 
 /// Drops the row at a place, if there is a place.

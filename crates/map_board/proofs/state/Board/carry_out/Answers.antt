@@ -3,7 +3,6 @@ use Rattle.std.specs.Prelude.{All}
 use Rattle.std.proofs.lemmas.List.{length_push}
 use Rattle.scene_parts.specs.Views.{Receiver}
 use Rattle.scene_book.specs.Limits.{most_receivers}
-use Rattle.scene_book.specs.Lists.{AreApart}
 use Rattle.scene_book.specs.Applying.{apply_of}
 use Rattle.scene_book.specs.declared.edits.Edit.{Edit}
 use Rattle.map_board.specs.declared.scenes.PreparedScene.{PreparedScene}
@@ -12,6 +11,7 @@ use Rattle.map_board.specs.Namings.{noted}
 use Rattle.map_board.specs.Boards.{IsOutSince, EachHolds, IsBoard}
 use Rattle.map_board.specs.Changes.{most_more}
 use Rattle.map_board.proofs.Places.{each-lengths}
+use Rattle.map_board.proofs.Receivers.{accepted-fine}
 use Rattle.map_board.proofs.Staying.{receivers_after, accepted-receivers, added-few}
 use Rattle.map_board.proofs.BoardAfter.{outs-stay, log-count, board-after}
 use Rattle.map_board.proofs.state.Board.carry_out.Goals as goal
@@ -24,7 +24,7 @@ least c =
     let e = c.args.edit in
     let journal = c.of.result.value in
     let rows = subst (All (IsOutSince b.log.start)) (sym c.reserve-2.ensures.same) c.self.invariant.reaches in
-    let outs = outs-stay b.log.start e journal (journal ++ e ∷ []) (newest_scene journal).receivers c.receivers.result.now c.reserve-2.new.self.items c.carry_over.new.self.items
+    let outs = outs-stay b.log.start e journal (journal ++ e ∷ []) (newest_scene journal).receivers c.deref-3.result.now.scene.receivers c.reserve-2.new.self.items c.carry_over.new.self.items
     rows c.carry_over.ensures.each c.carry_over.ensures.rows in
     c.least_out.ensures.start b.log.start (omega (arith, c.self.invariant.logged.past, c.self.invariant.newest))
     (subst (All (IsOutSince b.log.start)) (sym c.as_slice-2.ensures) outs)
@@ -36,11 +36,11 @@ carry_over-requires-clause-room c =
     let old = c.in_ok-old.old in
     let olds = b.hold.value.scene.receivers in
     let after = c.edit_scene.new.hold.value.scene in
-    let receivers : c.receivers.result.now ≡ after.receivers = c.receivers.ensures.value ∙ ap (λ (h : PreparedScene). h.scene.receivers) c.deref-3.ensures in
+    let receivers : c.deref-3.result.now.scene.receivers ≡ after.receivers = ap (λ (h : PreparedScene). h.scene.receivers) c.deref-3.ensures in
     let are : after.receivers ≡ receivers_after e old olds = accepted-receivers e b.hold.value.scene after old c.in_ok-old.ensures.made in
-    let few : length after.receivers ≤ most_receivers = subst (λ (h : PreparedScene). length h.scene.receivers ≤ most_receivers) c.deref-3.ensures c.receivers.ensures.within.receivers in
+    let fine = accepted-fine e b.hold.value.scene after old c.in_ok-old.ensures.made (record { apart = c.self.invariant.apart; few = c.self.invariant.few }) in
     let count = each-lengths b.past olds b.rows.items c.self.invariant.each in
-    let added = added-few e old olds (subst (λ (rs : List Receiver). length rs ≤ most_receivers) are few) c.self.invariant.few in
+    let added = added-few e old olds (subst (λ (rs : List Receiver). length rs ≤ most_receivers) are fine.few) c.self.invariant.few in
     let more : c.rows_more.result ≡ most_more e (length olds) = c.rows_more.ensures ∙ ap (most_more e) (ap length c.as_slice.ensures ∙ count) in
     omega (arith, ap length receivers, ap length are, count, added, more, c.in_ok-reserve-2.ensures.room, c.reserve-2.new.self.ok.0, ap length c.reserve-2.ensures.same)
 
@@ -64,7 +64,8 @@ invariant_of-self-2 c =
     let after = c.edit_scene.new.hold.value.scene in
     let accepted : apply_of e (newest_scene b.past) ≡ Ok (after, old) =
     ap (apply_of e) (sym c.self.invariant.shows) ∙ c.in_ok-old.ensures.made in
-    let receivers : c.receivers.result.now ≡ after.receivers = c.receivers.ensures.value ∙ ap (λ (h : PreparedScene). h.scene.receivers) c.deref-3.ensures in
+    let receivers : c.deref-3.result.now.scene.receivers ≡ after.receivers = ap (λ (h : PreparedScene). h.scene.receivers) c.deref-3.ensures in
+    let fine = accepted-fine e b.hold.value.scene after old c.in_ok-old.ensures.made (record { apart = c.self.invariant.apart; few = c.self.invariant.few }) in
     let each = subst (λ (x : List Edit × List Receiver). EachHolds (x.0 ++ e ∷ []) x.1 c.carry_over.new.self.items) (λ i. (c.of.ensures i, receivers i)) c.carry_over.ensures.each in
     let start : c.add.new.self.start ≡ b.log.start = c.add.ensures.start ∙ c.reserve.ensures.start in
     let globals = c.globals-globals.ensures ∙ ap (λ (h : PreparedScene). h.scene.globals) c.deref-2.ensures in
@@ -75,9 +76,7 @@ invariant_of-self-2 c =
     (λ i. (sym (add-one b.version) i, past i))
     (board-after b.version b.past b.hold.value.scene b.rows.items b.log b.namings.items c.self.invariant e old after accepted c.globals-globals.result.now globals
     c.carry_over.new.self.items c.trim.new.self c.note.new.namings.items c.least_out.result
-    (subst (λ (h : PreparedScene). length h.scene.receivers ≤ most_receivers) c.deref-3.ensures c.receivers.ensures.within.receivers)
-    (subst (λ (h : PreparedScene). AreApart (λ r. r.name) h.scene.receivers) c.deref-3.ensures c.receivers.ensures.apart.receivers)
-    each (subst (All (IsOutSince c.least_out.result)) c.as_slice-2.ensures c.least_out.ensures.reaches) (least (goal.at.invariant_of-self-2 c).After-least_out)
+    fine.few fine.apart each (subst (All (IsOutSince c.least_out.result)) c.as_slice-2.ensures c.least_out.ensures.reaches) (least (goal.at.invariant_of-self-2 c).After-least_out)
     (omega (arith, c.least_out.ensures.newest)) c.trim.ensures.start
     (c.trim.ensures.entries ∙ (λ i. drop (c.least_out.result - start i) (entries i)))
     (c.note.ensures ∙ (λ i. c.room_for_naming.ensures.same i ++ noted (add-one b.version i) (c.named_receivers-named.ensures i))))
