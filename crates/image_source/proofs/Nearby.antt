@@ -17,10 +17,8 @@ use Rattle.scene_parts.specs.declared.ends.Ends.{Ends}
 use Rattle.scene_parts.specs.declared.crossing.Crossing.{Crossing}
 use Rattle.scene_parts.specs.Sides.{sides_of}
 use Rattle.part_grid.specs.declared.owned.Owned.{Owned}
-use Rattle.part_grid.specs.declared.owned.Place.{Place}
-use Rattle.part_grid.specs.Near.{place_of}
 use Rattle.part_grid.specs.Ways.{cells_meet_way}
-use Rattle.part_grid.specs.Numbered.{owned_by, numbered}
+use Rattle.part_grid.specs.Numbered.{numbered}
 use Rattle.part_grid.proofs.Ways.{crossed-ways-are-met}
 use Rattle.part_grid.proofs.Numbered.{IsFoundAt, found-at, found-more, looked_up, filter_map-near, found-by-obstacles}
 use Rattle.image_source.specs.declared.leg.Leg.{Leg}
@@ -89,22 +87,19 @@ near-are-all leg path ends obstacles =
     filter_map-near (is_near leg path ends) (near_crossing leg path ends obstacles) (numbered (map sides_of obstacles)) (unmet-none leg path ends obstacles)
     ∙ found-by-obstacles sides_of (crossing_on leg path ends) obstacles ∙ from-is leg path ends 0 obstacles
 
--- a place that was found, with any side in place of one beyond the last
-pub near-at : (leg : Leg) (path : Reflection) (ends : Ends) (obstacles : List Obstacle) (places : List Place) (i : ℕ) (place other : Place) → places ≡ map place_of (near_sides leg path ends obstacles) → i < length places → place ≡ get_or places i other
-    → IsFoundAt sides_of obstacles (near_sides leg path ends obstacles) i (owned_by 0 (0, record { from = ends.s; to = ends.r })) place
-near-at leg path ends obstacles places i place other are below is =
-    found-at sides_of obstacles (is_near leg path ends) places i place other (owned_by 0 (0, record { from = ends.s; to = ends.r })) are below is
+-- what the sides so far give, and one more
+pub near-at : (leg : Leg) (path : Reflection) (ends : Ends) (obstacles : List Obstacle) (found : List Owned) (i : ℕ) (owned : Owned) → found ≡ near_sides leg path ends obstacles → i < length found → owned ≡ get_or found i owned
+    → IsFoundAt sides_of obstacles (near_sides leg path ends obstacles) i owned
+near-at leg path ends obstacles found i owned are below is = found-at sides_of obstacles (is_near leg path ends) found i owned are below is
 
--- what the places so far give, and one more
-pub place-added : (leg : Leg) (path : Reflection) (ends : Ends) (obstacles : List Obstacle) (places : List Place) (i : ℕ) (place other : Place) (o : Obstacle) (side : Side) (start found new : List (Leg × Crossing))
-    → places ≡ map place_of (near_sides leg path ends obstacles) → i < length places → place ≡ get_or places i other → o ≡ get_or obstacles place.obstacle o
-    → slice_get (sides_of o) place.index ≡ Some side → new ≡ found ++ before_all (crossing_on leg path ends place.obstacle place.index o side) []
-    → found ≡ start ++ filter_map (near_crossing leg path ends obstacles) (take i (near_sides leg path ends obstacles))
+pub side-added : (leg : Leg) (path : Reflection) (ends : Ends) (obstacles : List Obstacle) (found : List Owned) (i : ℕ) (owned : Owned) (o : Obstacle) (start crossings new : List (Leg × Crossing))
+    → found ≡ near_sides leg path ends obstacles → i < length found → owned ≡ get_or found i owned → o ≡ get_or obstacles owned.obstacle o
+    → new ≡ crossings ++ before_all (crossing_on leg path ends owned.obstacle owned.index o owned.side) []
+    → crossings ≡ start ++ filter_map (near_crossing leg path ends obstacles) (take i (near_sides leg path ends obstacles))
     → new ≡ start ++ filter_map (near_crossing leg path ends obstacles) (take (i + 1) (near_sides leg path ends obstacles))
-place-added leg path ends obstacles places i place other o side start found new are below is o-is side-is added so-far =
-    let d = owned_by 0 (0, record { from = ends.s; to = ends.r }) in
+side-added leg path ends obstacles found i owned o start crossings new are below is o-is added so-far =
     let before = filter_map (near_crossing leg path ends obstacles) (take i (near_sides leg path ends obstacles)) in
-    let one = crossing_on leg path ends place.obstacle place.index o side in
+    let one = crossing_on leg path ends owned.obstacle owned.index o owned.side in
     added ∙ ap (λ xs. xs ++ before_all one []) so-far ∙ append_assoc start before (before_all one [])
     ∙ ap (λ xs. start ++ (before ++ xs)) (sym (before-is one []))
-    ∙ ap (λ xs. start ++ xs) (sym (found-more sides_of (crossing_on leg path ends) obstacles (near_sides leg path ends obstacles) i d place o side (near-at leg path ends obstacles places i place other are below is) o-is side-is))
+    ∙ ap (λ xs. start ++ xs) (sym (found-more sides_of (crossing_on leg path ends) obstacles (near_sides leg path ends obstacles) i owned o (near-at leg path ends obstacles found i owned are below is) o-is))

@@ -1,7 +1,6 @@
 //! The search for sides that cross the legs of a reflection among those near each leg.
 ghost use Rattle.std.specs.Prelude.{◌≡◌, ◌++◌, map, filter, IfOk, OnOk};
 ghost use Rattle.scene_parts.specs.Sides.{sides_of};
-ghost use Rattle.part_grid.specs.Near.{place_of};
 ghost use Rattle.part_grid.specs.Numbered.{numbered};
 ghost use Rattle.image_source.specs.LegCuts.{crossings_from, leg_crossings_of, leg_cuts_of};
 ghost use Rattle.image_source.specs.Near.{is_near};
@@ -11,7 +10,7 @@ use crate::leg::Leg;
 use crate::search::{add_crossing, cuts_in};
 use part_grid::{Found, Grid};
 use scene_geom::{Band, Pt, rest_after};
-use scene_parts::{Crossing, Cut, Ends, NoMemory, Obstacle, side_of};
+use scene_parts::{Crossing, Cut, Ends, NoMemory, Obstacle};
 use std::alloc::Global;
 
 /// What `leg_cuts` gives, by the index of the obstacles.
@@ -66,7 +65,7 @@ fn find_near_leg(
     ends: Ends,
     found: &mut Found,
 ) -> Result<(), NoMemory>
-    ensures { OnOk result (found.new ≡ map place_of (filter (is_near leg m.now ends) grid.now)) }
+    ensures { OnOk result (found.new ≡ filter (is_near leg m.now ends) grid.now) }
 {
     match leg {
         Leg::First => grid.find_near_way(ends.s, m.first, m.p, found)?,
@@ -86,15 +85,14 @@ fn add_near(
     found: &Found,
 ) -> Result<(), NoMemory>
     requires stands { grid.now ≡ numbered (map sides_of obstacles.now) }
-    requires near { found.now ≡ map place_of (filter (is_near leg m.now ends) grid.now) }
+    requires near { found.now ≡ filter (is_near leg m.now ends) grid.now }
     ensures { OnOk result (crossings.new.items ≡ crossings.old.items
         ++ crossings_from leg m.now ends 0 obstacles.now) }
 {
-    for place in found.places() {
-        let obstacle = &obstacles[place.obstacle as usize];
-        let side = side_of(obstacle, place.index);
-        let numbers = (place.obstacle, place.index);
-        add_crossing(crossings, obstacle, numbers, side, leg, m, ends)?;
+    for near in found.sides() {
+        let obstacle = &obstacles[near.obstacle as usize];
+        let numbers = (near.obstacle, near.index);
+        add_crossing(crossings, obstacle, numbers, near.side, leg, m, ends)?;
     }
     Ok(())
 }

@@ -1,16 +1,14 @@
 -- Sides with their numbers: where each of them stands, and what a search of those near a line finds.
-use Rattle.std.proofs.Common.{◌≡◌, ℕ, zero, suc, ◌+◌, ◌<◌, Bool, true, false, cond, List, [], ◌∷◌, ◌++◌, length, get_or, take, map, filter, flat_map, arith, ap, ◌∙◌, sym, refl}
+use Rattle.std.proofs.Common.{subst, ◌≡◌, ℕ, zero, suc, ◌+◌, ◌<◌, Bool, true, false, cond, List, [], ◌∷◌, ◌++◌, length, get_or, take, map, filter, flat_map, arith, ap, ◌∙◌, sym, refl}
 use Rattle.std.specs.Prelude.{◌||◌, Option, Some, None, slice_get}
 use Rattle.std.specs.Option.{option_and_then}
 use Rattle.std.specs.List.{All, enumerate_from, filter_map, cons_option, list_any}
-use Rattle.std.proofs.lemmas.List.{take_more, get_or-map, length-map}
+use Rattle.std.proofs.lemmas.List.{take_more}
 use Rattle.std.proofs.lemmas.List.Elements.{All-append, All-filter, All-get_or, All-nil, filter_map-append}
 use Rattle.std.proofs.lemmas.List.Folds.{list_any-append, list_any_more}
 use Rattle.std.proofs.lemmas.Option.{slice_get_within, get_or_from_slice_get}
 use Rattle.scene_geom.specs.declared.plan.Side.{Side}
 use Rattle.part_grid.specs.declared.owned.Owned.{Owned}
-use Rattle.part_grid.specs.declared.owned.Place.{Place}
-use Rattle.part_grid.specs.Near.{place_of}
 use Rattle.part_grid.specs.Numbered.{owned_by, numbered_sides, numbered}
 
 -- ---- where a side stands
@@ -44,41 +42,34 @@ obstacles-at sides_of obstacles n (o ∷ rest) same =
 numbered-at : {O : Type 0} (sides_of : O → List Side) (obstacles : List O) → All (IsAt sides_of obstacles) (numbered (map sides_of obstacles))
 numbered-at sides_of obstacles = obstacles-at sides_of obstacles 0 obstacles (λ k. ap (slice_get obstacles) (omega arith))
 
--- a place that a search found: that of a side which stands there
-pub record IsFoundAt {O : Type 0} (sides_of : O → List Side) (obstacles : List O) (sides : List Owned) (i : ℕ) (d : Owned) (place : Place) : Type 0 where
+-- a side that a search found, which stands where its numbers say
+pub record IsFoundAt {O : Type 0} (sides_of : O → List Side) (obstacles : List O) (sides : List Owned) (i : ℕ) (owned : Owned) : Type 0 where
   pub within : i < length sides
-  pub same : place ≡ place_of (get_or sides i d)
-  pub at : IsAt sides_of obstacles (get_or sides i d)
+  pub same : owned ≡ get_or sides i owned
+  pub at : IsAt sides_of obstacles owned
 
-pub found-at : {O : Type 0} (sides_of : O → List Side) (obstacles : List O) (test : Owned → Bool) (places : List Place) (i : ℕ) (place other : Place) (d : Owned)
-    → places ≡ map place_of (filter test (numbered (map sides_of obstacles))) → i < length places → place ≡ get_or places i other
-    → IsFoundAt sides_of obstacles (filter test (numbered (map sides_of obstacles))) i d place
-found-at sides_of obstacles test places i place other d are h is =
+pub found-at : {O : Type 0} (sides_of : O → List Side) (obstacles : List O) (test : Owned → Bool) (found : List Owned) (i : ℕ) (owned : Owned)
+    → found ≡ filter test (numbered (map sides_of obstacles)) → i < length found → owned ≡ get_or found i owned
+    → IsFoundAt sides_of obstacles (filter test (numbered (map sides_of obstacles))) i owned
+found-at sides_of obstacles test found i owned are h is =
     let sides = filter test (numbered (map sides_of obstacles)) in
-    let below : i < length sides = omega (arith, h, ap length are, length-map sides place_of) in
+    let below : i < length sides = omega (arith, h, ap length are) in
+    let same : owned ≡ get_or sides i owned = is ∙ ap (λ xs. get_or xs i owned) are in
     record {
       within = below;
-      same = is ∙ ap (λ xs. get_or xs i other) are ∙ get_or-map place_of sides i d other below;
-      at = All-get_or (IsAt sides_of obstacles) sides i d below (All-filter test (IsAt sides_of obstacles) (numbered (map sides_of obstacles)) (numbered-at sides_of obstacles));
+      same = same;
+      at = subst (IsAt sides_of obstacles) (sym same) (All-get_or (IsAt sides_of obstacles) sides i owned below (All-filter test (IsAt sides_of obstacles) (numbered (map sides_of obstacles)) (numbered-at sides_of obstacles)));
     }
 
--- its numbers are within the obstacles and the sides of its obstacle
-pub obstacle-within : {O : Type 0} (sides_of : O → List Side) (obstacles : List O) (sides : List Owned) (i : ℕ) (d : Owned) (place : Place)
-    → IsFoundAt sides_of obstacles sides i d place → place.obstacle < length obstacles
-obstacle-within sides_of obstacles sides i d place found =
-    rw (ap (λ (p : Place). p.obstacle) found.same) (slice_get_within obstacles (get_or sides i d).obstacle found.at.obstacle found.at.at)
+-- its number is within the obstacles, and that of its own
+pub obstacle-within : {O : Type 0} (sides_of : O → List Side) (obstacles : List O) (sides : List Owned) (i : ℕ) (owned : Owned)
+    → IsFoundAt sides_of obstacles sides i owned → owned.obstacle < length obstacles
+obstacle-within sides_of obstacles sides i owned found = slice_get_within obstacles owned.obstacle found.at.obstacle found.at.at
 
-pub obstacle-is : {O : Type 0} (sides_of : O → List Side) (obstacles : List O) (sides : List Owned) (i : ℕ) (d : Owned) (place : Place) (o : O)
-    → (found : IsFoundAt sides_of obstacles sides i d place) → o ≡ get_or obstacles place.obstacle o → o ≡ found.at.obstacle
-obstacle-is sides_of obstacles sides i d place o found is =
-    is ∙ ap (λ (p : Place). get_or obstacles p.obstacle o) found.same
-    ∙ get_or_from_slice_get obstacles (get_or sides i d).obstacle found.at.obstacle o found.at.at
-
-pub index-within : {O : Type 0} (sides_of : O → List Side) (obstacles : List O) (sides : List Owned) (i : ℕ) (d : Owned) (place : Place) (o : O)
-    → IsFoundAt sides_of obstacles sides i d place → o ≡ get_or obstacles place.obstacle o → place.index < length (sides_of o)
-index-within sides_of obstacles sides i d place o found is =
-    rw (ap (λ (p : Place). p.index) found.same, ap (λ x. length (sides_of x)) (obstacle-is sides_of obstacles sides i d place o found is))
-    (slice_get_within (sides_of found.at.obstacle) (get_or sides i d).index (get_or sides i d).side found.at.is)
+obstacle-is : {O : Type 0} (sides_of : O → List Side) (obstacles : List O) (sides : List Owned) (i : ℕ) (owned : Owned) (o : O)
+    → IsFoundAt sides_of obstacles sides i owned → o ≡ get_or obstacles owned.obstacle o → slice_get obstacles owned.obstacle ≡ Some o
+obstacle-is sides_of obstacles sides i owned o found is =
+    found.at.at ∙ ap Some (sym (is ∙ get_or_from_slice_get obstacles owned.obstacle found.at.obstacle o found.at.at))
 
 -- ---- what a search finds
 -- a test that fails only where nothing would be found takes nothing away
@@ -96,33 +87,16 @@ filter_map-near test found (owned ∷ sides) none = by_test (test owned) refl (f
 abbrev pub looked_up : {O X : Type 0} → (ℕ → ℕ → O → Side → Option X) → List O → Owned → Option X
 looked_up found obstacles owned = option_and_then (λ o. found owned.obstacle owned.index o owned.side) (slice_get obstacles owned.obstacle)
 
--- the obstacle and the side that were read by a place are those of the side that was found
-stands : {O : Type 0} (sides_of : O → List Side) (obstacles : List O) (sides : List Owned) (i : ℕ) (d : Owned) (place : Place) (o : O) (side : Side)
-    → IsFoundAt sides_of obstacles sides i d place → o ≡ get_or obstacles place.obstacle o → slice_get (sides_of o) place.index ≡ Some side
-    → (slice_get obstacles (get_or sides i d).obstacle ≡ Some o) × ((get_or sides i d).side ≡ side)
-stands sides_of obstacles sides i d place o side is o-is side-is =
-    let owned = get_or sides i d in
-    let obstacle : o ≡ is.at.obstacle = obstacle-is sides_of obstacles sides i d place o is o-is in
-    let same : Some side ≡ Some owned.side =
-    sym side-is ∙ ap (λ x. slice_get (sides_of x) place.index) obstacle ∙ ap (λ (p : Place). slice_get (sides_of is.at.obstacle) p.index) is.same ∙ is.at.is in
-    (is.at.at ∙ ap Some (sym obstacle), one-of owned.side side (sym same))
-  where
-    one-of : (x y : Side) → Some x ≡ Some y → x ≡ y
-    one-of x y e = cc
-
--- one place more
-pub found-more : {O X : Type 0} (sides_of : O → List Side) (found : ℕ → ℕ → O → Side → Option X) (obstacles : List O) (sides : List Owned) (i : ℕ) (d : Owned) (place : Place) (o : O) (side : Side)
-    → IsFoundAt sides_of obstacles sides i d place → o ≡ get_or obstacles place.obstacle o → slice_get (sides_of o) place.index ≡ Some side
+-- one side more
+pub found-more : {O X : Type 0} (sides_of : O → List Side) (found : ℕ → ℕ → O → Side → Option X) (obstacles : List O) (sides : List Owned) (i : ℕ) (owned : Owned) (o : O)
+    → IsFoundAt sides_of obstacles sides i owned → o ≡ get_or obstacles owned.obstacle o
     → filter_map (looked_up found obstacles) (take (i + 1) sides)
-    ≡ filter_map (looked_up found obstacles) (take i sides) ++ cons_option (found place.obstacle place.index o side) []
-found-more sides_of found obstacles sides i d place o side is o-is side-is =
-    let owned = get_or sides i d in
-    let there = stands sides_of obstacles sides i d place o side is o-is side-is in
-    let here : looked_up found obstacles owned ≡ found place.obstacle place.index o side =
-    ap (option_and_then (λ o. found owned.obstacle owned.index o owned.side)) there.0 ∙ ap (found owned.obstacle owned.index o) there.1
-    ∙ ap (λ (p : Place). found p.obstacle p.index o side) (sym is.same) in
-    ap (filter_map (looked_up found obstacles)) (take_more sides i d is.within) ∙ filter_map-append (looked_up found obstacles) (take i sides) (owned ∷ [])
-    ∙ ap (λ x. filter_map (looked_up found obstacles) (take i sides) ++ cons_option x []) here
+    ≡ filter_map (looked_up found obstacles) (take i sides) ++ cons_option (found owned.obstacle owned.index o owned.side) []
+found-more sides_of found obstacles sides i owned o is o-is =
+    let before = filter_map (looked_up found obstacles) (take i sides) in
+    ap (filter_map (looked_up found obstacles)) (take_more sides i owned is.within ∙ ap (λ x. take i sides ++ x ∷ []) (sym is.same))
+    ∙ filter_map-append (looked_up found obstacles) (take i sides) (owned ∷ [])
+    ∙ ap (λ x. before ++ cons_option x []) (ap (option_and_then (λ o. found owned.obstacle owned.index o owned.side)) (obstacle-is sides_of obstacles sides i owned o is o-is))
 
 one-by-one : {O X : Type 0} (found : ℕ → ℕ → O → Side → Option X) (obstacles : List O) (i : ℕ) (o : O) → slice_get obstacles i ≡ Some o → (n : ℕ) (sides : List Side)
     → filter_map (looked_up found obstacles) (map (owned_by i) (enumerate_from n sides)) ≡ filter_map (λ side. found i side.0 o side.1) (enumerate_from n sides)
@@ -186,12 +160,11 @@ pub any-by-obstacles : {O : Type 0} (sides_of : O → List Side) (hit : O → Si
     → list_any (looked_any hit obstacles) (numbered (map sides_of obstacles)) ≡ list_any (λ o. list_any (hit o) (sides_of o)) obstacles
 any-by-obstacles sides_of hit obstacles = any-from sides_of hit obstacles 0 obstacles (λ k. ap (slice_get obstacles) (omega arith))
 
--- one place more
-pub any-more : {O : Type 0} (sides_of : O → List Side) (hit : O → Side → Bool) (obstacles : List O) (sides : List Owned) (i : ℕ) (d : Owned) (place : Place) (o : O) (side : Side)
-    → IsFoundAt sides_of obstacles sides i d place → o ≡ get_or obstacles place.obstacle o → slice_get (sides_of o) place.index ≡ Some side
-    → list_any (looked_any hit obstacles) (take (i + 1) sides) ≡ (list_any (looked_any hit obstacles) (take i sides) || hit o side)
-any-more sides_of hit obstacles sides i d place o side is o-is side-is =
-    let found = stands sides_of obstacles sides i d place o side is o-is side-is in
-    list_any_more (looked_any hit obstacles) sides i d is.within
+-- one side more
+pub any-more : {O : Type 0} (sides_of : O → List Side) (hit : O → Side → Bool) (obstacles : List O) (sides : List Owned) (i : ℕ) (owned : Owned) (o : O)
+    → IsFoundAt sides_of obstacles sides i owned → o ≡ get_or obstacles owned.obstacle o
+    → list_any (looked_any hit obstacles) (take (i + 1) sides) ≡ (list_any (looked_any hit obstacles) (take i sides) || hit o owned.side)
+any-more sides_of hit obstacles sides i owned o is o-is =
+    list_any_more (looked_any hit obstacles) sides i owned is.within
     ∙ ap (λ b. list_any (looked_any hit obstacles) (take i sides) || b)
-    (ap (or_none (λ o. hit o (get_or sides i d).side)) found.0 ∙ ap (hit o) found.1)
+    (ap (looked_any hit obstacles) (sym is.same) ∙ ap (or_none (λ o. hit o owned.side)) (obstacle-is sides_of obstacles sides i owned o is o-is))

@@ -1,7 +1,7 @@
 -- The cells that a way meets which isn't between two points of the plan, as a leg of a path by way of a wall: it leads
 -- from a point along a direction up to an end, in units of the direction. Between whole millimetres a place of it has
 -- the cells of the one to its south-west, so that no cell is left out.
-use Rattle.std.specs.Prelude.{ℕ, suc, ℤ, pos, ◌+ℤ◌, ◌-ℤ◌, ◌*ℤ◌, ◌*◌, max, min, ◌==◌, if◌then◌else◌, Bool, List, map, filter, unsigned_abs}
+use Rattle.std.specs.Prelude.{ℕ, suc, ℤ, pos, ◌+ℤ◌, ◌-ℤ◌, ◌*ℤ◌, ◌*◌, max, min, ◌==◌, if◌then◌else◌, Bool, List, filter, unsigned_abs}
 use Rattle.std.specs.List.{list_any}
 use Rattle.std.specs.Int.{int_div_euclid}
 use Rattle.scene_geom.specs.declared.plan.Pt.{Pt}
@@ -12,10 +12,8 @@ use Rattle.scene_geom.specs.Fraction.{over}
 use Rattle.scene_geom.specs.Plan.{nearest}
 use Rattle.part_grid.specs.declared.span.Span.{Span}
 use Rattle.part_grid.specs.declared.owned.Owned.{Owned}
-use Rattle.part_grid.specs.declared.owned.Place.{Place}
 use Rattle.part_grid.specs.Span.{between, lines}
 use Rattle.part_grid.specs.Cells.{cell, line_of, covers}
-use Rattle.part_grid.specs.Near.{place_of}
 
 -- ---- where a way leads
 
@@ -68,6 +66,6 @@ cells_meet_way side from dir end =
     (λ column. covers side column (rows_in from dir (way_rows from dir end) column))
     (lines (way_columns from dir end))
 
--- the places of the sides whose cells meet a way, in their order
-abbrev pub near_way_of : Pt → Dir → Frac → List Owned → List Place
-near_way_of from dir end sides = map place_of (filter (λ owned. cells_meet_way owned.side from dir end) sides)
+-- the sides whose cells meet a way, in their order
+abbrev pub sides_near_way : Pt → Dir → Frac → List Owned → List Owned
+sides_near_way from dir end sides = filter (λ owned. cells_meet_way owned.side from dir end) sides

@@ -1,8 +1,8 @@
 //! The index.
 ghost use Rattle.std.specs.Prelude.{◌≡◌, [], length, map, replicate, false, IfOk, OnOk, OnErr};
 ghost use Rattle.part_grid.specs.Cells.{cells_meet_of, boxes_meet};
-ghost use Rattle.part_grid.specs.Near.{near_of, near_box_of};
-ghost use Rattle.part_grid.specs.Ways.{cells_meet_way, near_way_of};
+ghost use Rattle.part_grid.specs.Near.{near_of, near_box_of, sides_near, sides_within};
+ghost use Rattle.part_grid.specs.Ways.{cells_meet_way, sides_near_way};
 ghost use Rattle.scene_geom.specs.Direction.{FitsDirection};
 ghost use Rattle.scene_geom.specs.Fraction.{FitsEnd};
 
@@ -62,7 +62,7 @@ impl Grid {
     {
         let mut found = Found::new(alloc);
         self.find_near(p, q, &mut found)?;
-        Ok(found.into_places())
+        found.places(alloc)
     }
 
     /// The places of the sides whose cells meet those of the box with these corners, in their order.
@@ -71,33 +71,33 @@ impl Grid {
     {
         let mut found = Found::new(alloc);
         self.find_near_box(low, high, &mut found)?;
-        Ok(found.into_places())
+        found.places(alloc)
     }
 
-    /// `near`, with buffers that the caller lends.
+    /// The sides that `near` tells, with buffers that the caller lends.
     pub fn find_near(&self, p: Pt, q: Pt, found: &mut Found) -> Result<(), AllocError>
-        ensures found { OnOk result (found.new ≡ near_of p q self.now) }
+        ensures found { OnOk result (found.new ≡ sides_near p q self.now) }
         ensures none { OnErr result (found.new ≡ []) }
     {
-        found.places.clear();
+        found.sides.clear();
         found.marks.reset(self.sides.len())?;
         self.mark_near(p, q, &mut found.marks);
-        list_marked(&found.marks, self.sides.as_slice(), &mut found.places)
+        list_marked(&found.marks, self.sides.as_slice(), &mut found.sides)
     }
 
-    /// `near_box`, with buffers that the caller lends.
+    /// The sides that `near_box` tells, with buffers that the caller lends.
     pub fn find_near_box(&self, low: Pt, high: Pt, found: &mut Found) -> Result<(), AllocError>
-        ensures found { OnOk result (found.new ≡ near_box_of low high self.now) }
+        ensures found { OnOk result (found.new ≡ sides_within low high self.now) }
         ensures none { OnErr result (found.new ≡ []) }
     {
-        found.places.clear();
+        found.sides.clear();
         found.marks.reset(self.sides.len())?;
         self.mark_box(low, high, &mut found.marks);
-        list_marked(&found.marks, self.sides.as_slice(), &mut found.places)
+        list_marked(&found.marks, self.sides.as_slice(), &mut found.sides)
     }
 
-    /// The places of the sides whose cells meet those of the way from a point along a direction up to an end, in their
-    /// order, with buffers that the caller lends. Among them are all sides that cross the way.
+    /// The sides whose cells meet those of the way from a point along a direction up to an end, in their order, with
+    /// buffers that the caller lends. Among them are all sides that cross the way.
     pub fn find_near_way(
         &self,
         from: Pt,
@@ -107,13 +107,13 @@ impl Grid {
     ) -> Result<(), AllocError>
         requires dir { FitsDirection dir }
         requires end { FitsEnd end }
-        ensures found { OnOk result (found.new ≡ near_way_of from dir end self.now) }
+        ensures found { OnOk result (found.new ≡ sides_near_way from dir end self.now) }
         ensures none { OnErr result (found.new ≡ []) }
     {
-        found.places.clear();
+        found.sides.clear();
         found.marks.reset(self.sides.len())?;
         self.mark_way(from, dir, end, &mut found.marks);
-        list_marked(&found.marks, self.sides.as_slice(), &mut found.places)
+        list_marked(&found.marks, self.sides.as_slice(), &mut found.sides)
     }
 
     /// Marks the sides whose cells meet the walk of a segment.

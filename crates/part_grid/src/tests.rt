@@ -278,9 +278,9 @@ fn told(
 ) -> Result<(String, String), AllocError> {
     let (low, high) = corners(a, b);
     grid.find_near(at(a), at(b), found)?;
-    let near = listed(alloc, found.places())?;
+    let near = listed(alloc, found.places(alloc)?.as_slice())?;
     grid.find_near_box(low, high, found)?;
-    let boxed = listed(alloc, found.places())?;
+    let boxed = listed(alloc, found.places(alloc)?.as_slice())?;
     Ok((near, boxed))
 }
 
@@ -371,7 +371,7 @@ fn expect_way(
         d: d.clamp(1, 5_940_000_000_000).into(),
     };
     grid.find_near_way(at(from), dir, end, found)?;
-    let near = listed(alloc, found.places())?;
+    let near = listed(alloc, found.places(alloc)?.as_slice())?;
     assert!(rt; near.as_str() == expected);
     Ok(())
 }

@@ -17,9 +17,7 @@ use Rattle.scene_parts.specs.declared.ends.Ends.{Ends}
 use Rattle.scene_parts.specs.Crossings.{counts_in}
 use Rattle.edge_chain.specs.Chain.{segments_of}
 use Rattle.part_grid.specs.declared.owned.Owned.{Owned}
-use Rattle.part_grid.specs.declared.owned.Place.{Place}
 use Rattle.part_grid.specs.Cells.{cells_meet_of}
-use Rattle.part_grid.specs.Near.{place_of}
 use Rattle.part_grid.specs.Numbered.{owned_by, numbered}
 use Rattle.part_grid.proofs.Crossed.{unmet-are-apart}
 use Rattle.part_grid.proofs.Numbered.{IsFoundAt, found-at, or_none, looked_any, any-near, any-by-obstacles, any-more}
@@ -77,42 +75,41 @@ near-are-all band ends segment obstacles =
     ∙ any-same (λ o. list_any (bars band ends segment o) (sides_of o)) (bars_segment band ends segment) obstacles
     (λ o. any-and (counts_in band ends o) (λ side. blocks_of side segment.from segment.to) (sides_of o))
 
-pub near-at : (segment : Side) (obstacles : List Obstacle) (places : List Place) (i : ℕ) (place other : Place) → places ≡ map place_of (near_sides segment obstacles) → i < length places → place ≡ get_or places i other
-    → IsFoundAt sides_of obstacles (near_sides segment obstacles) i (owned_by 0 (0, segment)) place
-near-at segment obstacles places i place other are below is =
-    found-at sides_of obstacles (λ owned. cells_meet_of owned.side segment.from segment.to) places i place other (owned_by 0 (0, segment)) are below is
+pub near-at : (segment : Side) (obstacles : List Obstacle) (sides : List Owned) (i : ℕ) (owned : Owned) → sides ≡ near_sides segment obstacles → i < length sides → owned ≡ get_or sides i owned
+    → IsFoundAt sides_of obstacles (near_sides segment obstacles) i owned
+near-at segment obstacles sides i owned are below is = found-at sides_of obstacles (λ owned. cells_meet_of owned.side segment.from segment.to) sides i owned are below is
 
--- a place whose side blocks the segment, and one whose side doesn't
-pub place-bars : (band : Band) (ends : Ends) (segment : Side) (obstacles : List Obstacle) (places : List Place) (i : ℕ) (place other : Place) (o : Obstacle) (side : Side) (found new : List Breadth) (breadth : Breadth) (start blocked : Bool)
-    → places ≡ map place_of (near_sides segment obstacles) → i < length places → place ≡ get_or places i other → o ≡ get_or obstacles place.obstacle o
-    → slice_get (sides_of o) place.index ≡ Some side → blocked ≡ blocks_of side segment.from segment.to → blocked ≡ true
+-- a side that blocks the segment, and one that doesn't
+pub side-bars : (band : Band) (ends : Ends) (segment : Side) (obstacles : List Obstacle) (sides : List Owned) (i : ℕ) (owned : Owned) (o : Obstacle) (found new : List Breadth) (breadth : Breadth) (start blocked : Bool)
+    → sides ≡ near_sides segment obstacles → i < length sides → owned ≡ get_or sides i owned → o ≡ get_or obstacles owned.obstacle o
+    → blocked ≡ blocks_of owned.side segment.from segment.to → blocked ≡ true
     → new ≡ found ++ breadth ∷ [] → is_within band breadth ≡ counts_in band ends o
     → list_any (is_within band) found ≡ (start || list_any (looked_any (bars band ends segment) obstacles) (take i (near_sides segment obstacles)))
     → list_any (is_within band) new ≡ (start || list_any (looked_any (bars band ends segment) obstacles) (take (i + 1) (near_sides segment obstacles)))
-place-bars band ends segment obstacles places i place other o side found new breadth start blocked are below is o-is side-is tested yes_ added counts so-far =
+side-bars band ends segment obstacles sides i owned o found new breadth start blocked are below is o-is tested yes_ added counts so-far =
     let before = list_any (looked_any (bars band ends segment) obstacles) (take i (near_sides segment obstacles)) in
     ap (list_any (is_within band)) added ∙ list_any-append (is_within band) found (breadth ∷ [])
     ∙ ap (λ b. b || list_any (is_within band) (breadth ∷ [])) so-far
     ∙ ap (λ b. (start || before) || b) (or-false (is_within band breadth) ∙ counts ∙ sym (whole (counts_in band ends o)) ∙ ap (λ b. counts_in band ends o && b) (sym yes_ ∙ tested))
-    ∙ or-assoc start before (bars band ends segment o side)
-    ∙ ap (λ b. start || b) (sym (any-more sides_of (bars band ends segment) obstacles (near_sides segment obstacles) i (owned_by 0 (0, segment)) place o side (near-at segment obstacles places i place other are below is) o-is side-is))
+    ∙ or-assoc start before (bars band ends segment o owned.side)
+    ∙ ap (λ b. start || b) (sym (any-more sides_of (bars band ends segment) obstacles (near_sides segment obstacles) i owned o (near-at segment obstacles sides i owned are below is) o-is))
   where
     whole : (b : Bool) → (b && true) ≡ b
     whole true = refl
     whole false = refl
 
-pub place-passed : (band : Band) (ends : Ends) (segment : Side) (obstacles : List Obstacle) (places : List Place) (i : ℕ) (place other : Place) (o : Obstacle) (side : Side) (found : List Breadth) (start blocked : Bool)
-    → places ≡ map place_of (near_sides segment obstacles) → i < length places → place ≡ get_or places i other → o ≡ get_or obstacles place.obstacle o
-    → slice_get (sides_of o) place.index ≡ Some side → blocked ≡ blocks_of side segment.from segment.to → blocked ≡ false
+pub side-passed-by : (band : Band) (ends : Ends) (segment : Side) (obstacles : List Obstacle) (sides : List Owned) (i : ℕ) (owned : Owned) (o : Obstacle) (found : List Breadth) (start blocked : Bool)
+    → sides ≡ near_sides segment obstacles → i < length sides → owned ≡ get_or sides i owned → o ≡ get_or obstacles owned.obstacle o
+    → blocked ≡ blocks_of owned.side segment.from segment.to → blocked ≡ false
     → list_any (is_within band) found ≡ (start || list_any (looked_any (bars band ends segment) obstacles) (take i (near_sides segment obstacles)))
     → list_any (is_within band) found ≡ (start || list_any (looked_any (bars band ends segment) obstacles) (take (i + 1) (near_sides segment obstacles)))
-place-passed band ends segment obstacles places i place other o side found start blocked are below is o-is side-is tested no_ so-far =
+side-passed-by band ends segment obstacles sides i owned o found start blocked are below is o-is tested no_ so-far =
     let before = list_any (looked_any (bars band ends segment) obstacles) (take i (near_sides segment obstacles)) in
-    let none : bars band ends segment o side ≡ false = ap (λ b. counts_in band ends o && b) (sym tested ∙ no_) ∙ and-false (counts_in band ends o) in
+    let none : bars band ends segment o owned.side ≡ false = ap (λ b. counts_in band ends o && b) (sym tested ∙ no_) ∙ and-false (counts_in band ends o) in
     so-far
     ∙ ap (λ b. start || b)
     (sym (or-false before) ∙ ap (λ b. before || b) (sym none)
-    ∙ sym (any-more sides_of (bars band ends segment) obstacles (near_sides segment obstacles) i (owned_by 0 (0, segment)) place o side (near-at segment obstacles places i place other are below is) o-is side-is))
+    ∙ sym (any-more sides_of (bars band ends segment) obstacles (near_sides segment obstacles) i owned o (near-at segment obstacles sides i owned are below is) o-is))
 
 -- ---- all segments
 -- an order of two looks that doesn't matter

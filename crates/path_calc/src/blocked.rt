@@ -89,10 +89,9 @@ fn add_blocking(
         && list_any (λ side. blocks_of side segment.from segment.to) (sides_of o)) obstacles.now)) }
 {
     grid.find_near(segment.from, segment.to, found)?;
-    for place in found.places() {
-        let obstacle = &obstacles[place.obstacle as usize];
-        let side = side_of(obstacle, place.index);
-        if blocks(side, segment.from, segment.to) {
+    for near in found.sides() {
+        let obstacle = &obstacles[near.obstacle as usize];
+        if blocks(near.side, segment.from, segment.to) {
             blocking.push(Breadth::of(obstacle, ends.s, ends.r))?;
         }
     }

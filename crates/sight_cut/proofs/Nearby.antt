@@ -11,9 +11,7 @@ use Rattle.scene_parts.specs.declared.ends.Ends.{Ends}
 use Rattle.scene_parts.specs.declared.crossing.Crossing.{Crossing}
 use Rattle.scene_parts.specs.Sides.{sides_of}
 use Rattle.part_grid.specs.declared.owned.Owned.{Owned}
-use Rattle.part_grid.specs.declared.owned.Place.{Place}
 use Rattle.part_grid.specs.Cells.{cells_meet_of}
-use Rattle.part_grid.specs.Near.{place_of}
 use Rattle.part_grid.specs.Numbered.{owned_by, numbered_sides, numbered}
 use Rattle.part_grid.proofs.Crossed.{unmet-are-apart}
 use Rattle.part_grid.proofs.Numbered.{IsFoundAt, found-at, found-more, looked_up, filter_map-near, found-by-obstacles}
@@ -85,19 +83,17 @@ near-are-all ends obstacles =
     filter_map-near (λ owned. cells_meet_of owned.side ends.s ends.r) (near_crossing ends obstacles) (numbered (map sides_of obstacles)) (unmet-none ends obstacles)
     ∙ found-by-obstacles sides_of (crossing_of ends) obstacles ∙ from-is ends 0 obstacles
 
--- a place that was found, with any side in place of one beyond the last
-pub near-at : (ends : Ends) (obstacles : List Obstacle) (places : List Place) (i : ℕ) (place other : Place) → places ≡ map place_of (near_sides ends obstacles) → i < length places → place ≡ get_or places i other
-    → IsFoundAt sides_of obstacles (near_sides ends obstacles) i (owned_by 0 (0, record { from = ends.s; to = ends.r })) place
-near-at ends obstacles places i place other are below is =
-    found-at sides_of obstacles (λ owned. cells_meet_of owned.side ends.s ends.r) places i place other (owned_by 0 (0, record { from = ends.s; to = ends.r })) are below is
+-- what the sides so far give, and one more
+pub near-at : (ends : Ends) (obstacles : List Obstacle) (found : List Owned) (i : ℕ) (owned : Owned) → found ≡ near_sides ends obstacles → i < length found → owned ≡ get_or found i owned
+    → IsFoundAt sides_of obstacles (near_sides ends obstacles) i owned
+near-at ends obstacles found i owned are below is = found-at sides_of obstacles (λ owned. cells_meet_of owned.side ends.s ends.r) found i owned are below is
 
--- what the places so far give, and one more
-pub place-added : (ends : Ends) (obstacles : List Obstacle) (places : List Place) (i : ℕ) (place other : Place) (o : Obstacle) (side : Side) (found new : List Crossing)
-    → places ≡ map place_of (near_sides ends obstacles) → i < length places → place ≡ get_or places i other → o ≡ get_or obstacles place.obstacle o
-    → slice_get (sides_of o) place.index ≡ Some side → new ≡ found ++ before_all (crossing_of ends place.obstacle place.index o side) []
-    → found ≡ filter_map (near_crossing ends obstacles) (take i (near_sides ends obstacles)) → new ≡ filter_map (near_crossing ends obstacles) (take (i + 1) (near_sides ends obstacles))
-place-added ends obstacles places i place other o side found new are below is o-is side-is added so-far =
-    let d = owned_by 0 (0, record { from = ends.s; to = ends.r }) in
-    added ∙ ap (λ xs. xs ++ before_all (crossing_of ends place.obstacle place.index o side) []) so-far
-    ∙ ap (λ xs. filter_map (near_crossing ends obstacles) (take i (near_sides ends obstacles)) ++ xs) (sym (before-is (crossing_of ends place.obstacle place.index o side) []))
-    ∙ sym (found-more sides_of (crossing_of ends) obstacles (near_sides ends obstacles) i d place o side (near-at ends obstacles places i place other are below is) o-is side-is)
+pub side-added : (ends : Ends) (obstacles : List Obstacle) (found : List Owned) (i : ℕ) (owned : Owned) (o : Obstacle) (crossings new : List Crossing)
+    → found ≡ near_sides ends obstacles → i < length found → owned ≡ get_or found i owned → o ≡ get_or obstacles owned.obstacle o
+    → new ≡ crossings ++ before_all (crossing_of ends owned.obstacle owned.index o owned.side) []
+    → crossings ≡ filter_map (near_crossing ends obstacles) (take i (near_sides ends obstacles)) → new ≡ filter_map (near_crossing ends obstacles) (take (i + 1) (near_sides ends obstacles))
+side-added ends obstacles found i owned o crossings new are below is o-is added so-far =
+    let one = crossing_of ends owned.obstacle owned.index o owned.side in
+    added ∙ ap (λ xs. xs ++ before_all one []) so-far
+    ∙ ap (λ xs. filter_map (near_crossing ends obstacles) (take i (near_sides ends obstacles)) ++ xs) (sym (before-is one []))
+    ∙ sym (found-more sides_of (crossing_of ends) obstacles (near_sides ends obstacles) i owned o (near-at ends obstacles found i owned are below is) o-is)

@@ -75,11 +75,10 @@ pub fn crossings_near(
 {
     grid.find_near(ends.s, ends.r, found)?;
     let mut crossings = Vec::new(alloc);
-    for place in found.places() {
-        let obstacle = &obstacles[place.obstacle as usize];
-        let side = side_of(obstacle, place.index);
-        let numbers = (place.obstacle, place.index);
-        add_crossing(&mut crossings, obstacle, numbers, side, ends)?;
+    for near in found.sides() {
+        let obstacle = &obstacles[near.obstacle as usize];
+        let numbers = (near.obstacle, near.index);
+        add_crossing(&mut crossings, obstacle, numbers, near.side, ends)?;
     }
     Ok(crossings)
 }

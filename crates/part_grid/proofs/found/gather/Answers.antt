@@ -8,7 +8,7 @@ loop-number-init c =
     record {
       within = omega (arith, next.within, c.requires);
       marked = λ less. next.marked (omega (arith, c.requires));
-      places = unmarked-to c.args.marks.now c.args.sides.now 0 c.next_from-number.result c.args.places.now.items _ c.requires next.from next.unmarked refl;
+      found = unmarked-to c.args.marks.now c.args.sides.now 0 c.next_from-number.result c.args.found.now.items _ c.requires next.from next.unmarked refl;
     }
 
 pub loop-number-preserved : goal.loop-number-preserved
@@ -17,11 +17,11 @@ loop-number-preserved c =
     record {
       within = omega (arith, next.within, c.requires);
       marked = λ less. next.marked (omega (arith, c.requires));
-      places =
+      found =
           unmarked-to c.args.marks.now c.args.sides.now _ c.next_from-number-in-loop-number.result c.push.new.self.items _ c.requires next.from next.unmarked
-          (marked-more c.args.marks.now c.args.sides.now c.loop-number.number c.index-sides-number.result c.place.result c.loop-number.places.items _ _ c.loop-number-test.true c.requires c.index-sides-number.is
-          (sym (c.loop-number.invariant.marked c.loop-number-test.true)) c.place.ensures c.in_ok-push.ensures.items c.loop-number.invariant.places);
+          (marked-more c.args.marks.now c.args.sides.now c.loop-number.number c.index-sides-number.result c.loop-number.found.items _ _ c.loop-number-test.true c.requires c.index-sides-number.is
+          (sym (c.loop-number.invariant.marked c.loop-number-test.true)) c.in_ok-push.ensures.items c.loop-number.invariant.found);
     }
 
 pub returns : goal.returns
-returns c = marked-all c.args.marks.now c.args.sides.now c.loop-number.number c.loop-number.places.items _ c.requires c.loop-number-test.false c.loop-number.invariant.places
+returns c = marked-all c.args.marks.now c.args.sides.now c.loop-number.number c.loop-number.found.items _ c.requires c.loop-number-test.false c.loop-number.invariant.found

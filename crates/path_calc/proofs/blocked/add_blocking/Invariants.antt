@@ -8,8 +8,8 @@ use Rattle.path_calc.specs.Strings.{is_within}
 use Rattle.path_calc.proofs.Barred.{bars, near_sides}
 use Rattle.path_calc.proofs.blocked.add_blocking.Given as goal
 
-abbrev pub invariant-loop-place : goal.invariant-loop-place
-invariant-loop-place l = (band : Band)
+abbrev pub invariant-loop-near : goal.invariant-loop-near
+invariant-loop-near l = (band : Band)
     → list_any (is_within band) l.blocking.items
     ≡ (list_any (is_within band) l.initial.blocking.items
-    || list_any (looked_any (bars band l.ends l.segment) l.obstacles) (take l.place-index (near_sides l.segment l.obstacles)))
+    || list_any (looked_any (bars band l.ends l.segment) l.obstacles) (take l.near-index (near_sides l.segment l.obstacles)))
