@@ -14,7 +14,6 @@ pub mod Apart
 pub mod Caching
 pub mod SeenRows
 pub mod Logging
-pub mod Order
 pub mod Since
 pub mod Noting
 pub mod Landings

@@ -5,7 +5,7 @@ ghost use Rattle.map_board.specs.Changes.{grid_put};
 
 use crate::namings::{grid_of, named_receivers, note, room_for_naming};
 use crate::past::Past;
-use crate::renewing::{Change, least_out, place_to_go, removed, rows_more};
+use crate::renewing::{Change, least_out, place_removed, place_to_go, rows_more};
 use crate::scenes::edit_scene;
 use crate::state::Board;
 use scene_book::{Edit, EditFault, Logged};
@@ -52,7 +52,7 @@ impl Board {
             version: self.version,
             past: Snapshot::of(&self.past),
         };
-        let gone = removed(&change.logged, place);
+        let gone = place_removed(&change.logged, place);
         self.rows.carry_over(alloc, gone, &self.hold.scene, &change);
         let Change {
             logged: Logged { edit, old },

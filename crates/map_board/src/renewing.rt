@@ -52,7 +52,7 @@ pub(crate) fn place_to_go(edit: &Edit, scene: &Scene) -> Option<usize>
 }
 
 /// The place of the receiver that an edit has removed, where this is the place of its name.
-pub(crate) fn removed(logged: &Logged, place: Option<usize>) -> Option<usize>
+pub(crate) fn place_removed(logged: &Logged, place: Option<usize>) -> Option<usize>
     ensures { result ≡ gone_from place logged.now.edit logged.now.old }
 {
     match (&logged.edit, &logged.old) {
