@@ -74,6 +74,5 @@ row() {
 program=$root/crates/noise_map/out/noise_map
 echo 'sources  receivers  obstacles  metres  reflecting   paths  instructions a path  settle ms'
 row 16 64 500 500000 0
-row 16 256 500 500000 0
 row 4 16 1024 1000000 1
 row 32 128 2000 3990000 0
