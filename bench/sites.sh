@@ -1,6 +1,6 @@
 #!/bin/bash
 # Prints what the first settle of dense sites costs: instructions a path (a source and a receiver within reach) of the whole
-# program with --bands by `valgrind --tool=callgrind`, where it is there, and seconds; both less those of the same input
+# program with --bands by `valgrind --tool=callgrind`, where it is there, and milliseconds; both less those of the same input
 # without the settle.
 set -e
 . "$(dirname "$0")/timing.sh"
