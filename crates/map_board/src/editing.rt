@@ -41,7 +41,8 @@ impl Board {
     {
         self.log.reserve()?;
         room_for_naming(&mut self.namings)?;
-        self.rows.reserve(rows_more(&edit, self.rows.as_slice().len()))?;
+        self.rows
+            .reserve(rows_more(&edit, self.rows.as_slice().len()))?;
         let place = place_to_go(&edit, &self.hold.scene);
         let globals = *self.hold.scene.globals();
         let old = edit_scene(&mut self.hold, alloc, &edit)?;

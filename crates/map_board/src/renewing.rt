@@ -79,7 +79,7 @@ pub(crate) fn carry_over(
     ensures each { EachHolds (journal_after change.now) scene.now.receivers rows.new.items }
     ensures rows { rows_of scene.now.receivers rows.new.items
         ≡ rows_after change.now.logged.edit change.now.past.value
-            (rows_of (scene_before change.now).receivers rows.old.items) }
+        (rows_of (scene_before change.now).receivers rows.old.items) }
 {
     drop_at(rows, gone);
     match place_alone(&change.logged, scene) {

@@ -124,11 +124,7 @@ fn puts_receivers(edit: &Edit) -> bool
 }
 
 /// A copy of a scene after an edit. It shares the lists that the edit leaves as they are, and what is prepared of them.
-fn edited_copy(
-    alloc: Global,
-    hold: &PreparedScene,
-    edit: &Edit,
-) -> Result<EditedScene, EditFault>
+fn edited_copy(alloc: Global, hold: &PreparedScene, edit: &Edit) -> Result<EditedScene, EditFault>
     ensures made { IfOk result (λ made. apply_of edit.now hold.now.scene
         ≡ Ok (made.hold.value.scene, made.old)) }
     ensures fault { IfErr result (λ fault.

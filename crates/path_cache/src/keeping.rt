@@ -27,7 +27,11 @@ pub(crate) fn find_unmarked<'a>(
 }
 
 /// The same, looked for among all.
-pub(crate) fn search_unmarked<'a>(kept: &'a [Bundle], marks: &[bool], name: &Name) -> Option<&'a Bundle>
+pub(crate) fn search_unmarked<'a>(
+    kept: &'a [Bundle],
+    marks: &[bool],
+    name: &Name,
+) -> Option<&'a Bundle>
     requires { length marks.now ≡ length kept.now }
     ensures { option_copied result ≡ unmarked name.now kept.now marks.now }
 {

@@ -104,7 +104,14 @@ pub fn refresh_prepared<L: Ledger>(
     let mut found = Found::new(alloc);
     let mut bundles = Vec::with_capacity(alloc, kept.len())?;
     for (place, source) in scene.sources().iter().enumerate() {
-        renewal.add(alloc, source, &prepared[place], &mut found, steps, &mut bundles)?;
+        renewal.add(
+            alloc,
+            source,
+            &prepared[place],
+            &mut found,
+            steps,
+            &mut bundles,
+        )?;
     }
     Ok(bundles)
 }

@@ -63,7 +63,9 @@ fn prepared_bundle<L: Ledger>(
     let from = PreparedSource::of(source);
     let to = PreparedReceiver::of(receiver);
     let mut found = Found::new(alloc);
-    bundle_between(alloc, scene, source, &from, receiver, &to, &mut found, steps)
+    bundle_between(
+        alloc, scene, source, &from, receiver, &to, &mut found, steps,
+    )
 }
 
 /// The same, of a source and a receiver that are prepared: once, and not for each of their paths. The buffers are lent to

@@ -27,13 +27,21 @@ found c =
 pub put_at-requires-clause-place : goal.put_at-requires-clause-place
 put_at-requires-clause-place c =
     let at = goal.at.put_at-requires-clause-place c in
-    omega (arith, ap length (left-are at.After-drop_at),
-    place-upto c.args.change.now c.requires.change c.args.rows.now.items c.requires.apart c.requires.each c.in-Some.place (found c))
+    omega (
+      arith,
+      ap length (left-are at.After-drop_at),
+      place-upto c.args.change.now c.requires.change c.args.rows.now.items c.requires.apart c.requires.each c.in-Some.place (found c),
+    )
 
 pub put_at-requires-clause-room : goal.put_at-requires-clause-room
 put_at-requires-clause-room c =
-    omega (arith, ap length c.requires.news, c.requires.room, c.drop_at.ensures.room,
-    place-below c.args.change.now c.requires.change c.args.rows.now.items c.requires.apart c.requires.each c.in-Some.place (found c))
+    omega (
+      arith,
+      ap length c.requires.news,
+      c.requires.room,
+      c.drop_at.ensures.room,
+      place-below c.args.change.now c.requires.change c.args.rows.now.items c.requires.apart c.requires.each c.in-Some.place (found c),
+    )
 
 put-is : (c : After-put_at) → c.put_at.new.rows.items ≡ placed c.in-Some.place c.fresh_row.result (left c.args.change.now c.requires.change c.args.rows.now.items c.requires.apart c.requires.each)
 put-is c =
@@ -66,8 +74,13 @@ returns-in-Some-clause-rows c =
 pub renew_each-requires-clause-few : goal.renew_each-requires-clause-few
 renew_each-requires-clause-few c =
     let are = left-are (goal.at.renew_each-requires-clause-few c).After-drop_at in
-    omega (arith, ap length are, ap length c.receivers.ensures.value, ap length c.requires.news,
-    few-left c.args.change.now c.requires.change c.args.rows.now.items c.requires.apart c.requires.each)
+    omega (
+      arith,
+      ap length are,
+      ap length c.receivers.ensures.value,
+      ap length c.requires.news,
+      few-left c.args.change.now c.requires.change c.args.rows.now.items c.requires.apart c.requires.each,
+    )
 
 pub renew_each-requires-clause-there : goal.renew_each-requires-clause-there
 renew_each-requires-clause-there c k r at =

@@ -35,20 +35,20 @@ loop-row-preserved c =
     let row = c.row-item.result in
     elim c.match-row.branch [
       | in-Some w ↦ record {
-          reaches = one-more c.match-row.least c.loop-row.least rows i row (omega (arith, w.least-is, w.min-least.ensures)) c.loop-row-test.true c.row-item.is
-              (out-there c.match-row.least row.out w.in-Some.version w.in-Some.is (omega (arith, w.least-is, w.min-least.ensures))) c.loop-row.invariant.reaches;
-          newest = omega (arith, w.least-is, w.min-least.ensures, c.loop-row.invariant.newest);
-          start = λ from below all.
-              let here : from ≤ w.in-Some.version =
-              subst (λ (o : Option ℕ). IfSome o (λ v. from ≤ v)) w.in-Some.is (subst (IsOutSince from) (sym c.row-item.is) (all i row c.loop-row-test.true)) in
-              omega (arith, here, c.loop-row.invariant.start from below all, w.least-is, w.min-least.ensures);
-        }
+        reaches = one-more c.match-row.least c.loop-row.least rows i row (omega (arith, w.least-is, w.min-least.ensures)) c.loop-row-test.true c.row-item.is
+            (out-there c.match-row.least row.out w.in-Some.version w.in-Some.is (omega (arith, w.least-is, w.min-least.ensures))) c.loop-row.invariant.reaches;
+        newest = omega (arith, w.least-is, w.min-least.ensures, c.loop-row.invariant.newest);
+        start = λ from below all.
+            let here : from ≤ w.in-Some.version =
+            subst (λ (o : Option ℕ). IfSome o (λ v. from ≤ v)) w.in-Some.is (subst (IsOutSince from) (sym c.row-item.is) (all i row c.loop-row-test.true)) in
+            omega (arith, here, c.loop-row.invariant.start from below all, w.least-is, w.min-least.ensures);
+      }
       | in_default w ↦ record {
-          reaches = one-more c.match-row.least c.loop-row.least rows i row (omega (arith, w.least-is)) c.loop-row-test.true c.row-item.is
-              (none-there c.match-row.least row.out w.in_default.is) c.loop-row.invariant.reaches;
-          newest = omega (arith, w.least-is, c.loop-row.invariant.newest);
-          start = λ from below all. omega (arith, c.loop-row.invariant.start from below all, w.least-is);
-        }
+        reaches = one-more c.match-row.least c.loop-row.least rows i row (omega (arith, w.least-is)) c.loop-row-test.true c.row-item.is
+            (none-there c.match-row.least row.out w.in_default.is) c.loop-row.invariant.reaches;
+        newest = omega (arith, w.least-is, c.loop-row.invariant.newest);
+        start = λ from below all. omega (arith, c.loop-row.invariant.start from below all, w.least-is);
+      }
     ]
 
 pub returns-clause-reaches : goal.returns-clause-reaches

@@ -22,12 +22,15 @@ unnamed c is =
 
 pub returns-then-names_receiver-clause-made : goal.returns-then-names_receiver-clause-made
 returns-then-names_receiver-clause-made c =
-    let named_is = named (goal.at.returns-then-names_receiver-clause-made c).After-names_receiver c.if-names_receiver.true in
-    (c.fresh_row.result, c.put_at.ensures.items, record {
-      anew = λ n. c.fresh_row.ensures;
-      same = λ u. absurd (cc (u, named_is));
-      holds = λ u. absurd (cc (u, named_is));
-    })
+    let named_is = named (goal.at.returns-then-names_receiver-clause-made c).After-names_receiver c.if-names_receiver.true in (
+      c.fresh_row.result,
+      c.put_at.ensures.items,
+      record {
+        anew = λ n. c.fresh_row.ensures;
+        same = λ u. absurd (cc (u, named_is));
+        holds = λ u. absurd (cc (u, named_is));
+      },
+    )
 
 pub index_mut-requires : goal.index_mut-requires
 index_mut-requires c =
@@ -44,21 +47,27 @@ returns-then-not-changes_receivers_alone-clause-made c =
     let rows = c.args.rows.now.items in
     let r = c.args.receiver.now in
     let unnamed_is = unnamed (goal.at.returns-then-not-changes_receivers_alone-clause-made c).After-names_receiver c.if-names_receiver.false in
-    let below = some-within (RowHolds c.args.change.now.past.value r) rows c.args.place (c.requires.there unnamed_is) in
-    (c.renew.new.row, placed-set c.args.place c.renew.new.row rows below, record {
-      anew = λ n. absurd (cc (n, unnamed_is));
-      same = λ u. item-there (λ (old : HeldRow). row_of r c.renew.new.row ≡ row_of r old) rows c.args.place c.index_mut.result.now below c.index_mut.ensures.value c.renew.ensures.row;
-      holds = λ u. c.renew.ensures.holds;
-    })
+    let below = some-within (RowHolds c.args.change.now.past.value r) rows c.args.place (c.requires.there unnamed_is) in (
+      c.renew.new.row,
+      placed-set c.args.place c.renew.new.row rows below,
+      record {
+        anew = λ n. absurd (cc (n, unnamed_is));
+        same = λ u. item-there (λ (old : HeldRow). row_of r c.renew.new.row ≡ row_of r old) rows c.args.place c.index_mut.result.now below c.index_mut.ensures.value c.renew.ensures.row;
+        holds = λ u. c.renew.ensures.holds;
+      },
+    )
 
 pub returns-else-not-changes_receivers_alone-clause-made : goal.returns-else-not-changes_receivers_alone-clause-made
 returns-else-not-changes_receivers_alone-clause-made c =
     let rows = c.args.rows.now.items in
     let r = c.args.receiver.now in
     let unnamed_is = unnamed (goal.at.returns-else-not-changes_receivers_alone-clause-made c).After-names_receiver c.if-names_receiver.false in
-    let found = some-item (RowHolds c.args.change.now.past.value r) rows c.args.place (c.requires.there unnamed_is) in
-    (found.item, placed-same c.args.place found.item rows found.there, record {
-      anew = λ n. absurd (cc (n, unnamed_is));
-      same = λ u. subst (λ o. IsSomeAnd o (λ (old : HeldRow). row_of r found.item ≡ row_of r old)) (sym found.there) refl;
-      holds = λ u. stays-right c.args.change.now c.requires.change r unnamed_is (sym c.changes_receivers_alone.ensures ∙ c.if-not-changes_receivers_alone.false) found.item found.holds;
-    })
+    let found = some-item (RowHolds c.args.change.now.past.value r) rows c.args.place (c.requires.there unnamed_is) in (
+      found.item,
+      placed-same c.args.place found.item rows found.there,
+      record {
+        anew = λ n. absurd (cc (n, unnamed_is));
+        same = λ u. subst (λ o. IsSomeAnd o (λ (old : HeldRow). row_of r found.item ≡ row_of r old)) (sym found.there) refl;
+        holds = λ u. stays-right c.args.change.now c.requires.change r unnamed_is (sym c.changes_receivers_alone.ensures ∙ c.if-not-changes_receivers_alone.false) found.item found.holds;
+      },
+    )
