@@ -1,5 +1,5 @@
 -- Adding an energy to a sum adds its ends.
-use Rattle.std.proofs.Common.{◌≡◌, ℕ, ◌+◌, ◌<◌, ◌≤◌, ◌^◌, ℤ, pos, negsuc, ◌≤ℤ◌, unsigned_abs, Option, sym, ap, ◌∙◌, subst, arith, lit<, to_z, of_z}
+use Rattle.std.proofs.Common.{◌≡◌, ℕ, ◌+◌, ◌-◌, ◌<◌, ◌≤◌, ◌^◌, ℤ, pos, negsuc, ◌≤ℤ◌, unsigned_abs, Option, refl, sym, ap, ◌∙◌, subst, arith, lit<, to_z, of_z}
 use Rattle.std.specs.Int.{w128}
 use Rattle.std.proofs.Math.IntN.{zero-*ℤ}
 use Rattle.fix_interval.specs.Units.{unit}
@@ -48,6 +48,27 @@ added-made a b s e x y is lo_is hi_is whole ordered low high below =
   where
     interval-of : (lo hi : Option ℤ) (x y : ℤ) → lo ≡ Some x → hi ≡ Some y → bounds (Some x) (Some y) ≡ bounds lo hi
     interval-of lo hi x y p q = ap (λ (o : Option ℤ). bounds o (Some y)) (sym p) ∙ ap (bounds lo) (sym q)
+
+-- what is left of a sum where an energy is taken off: where the energy is added, it is the sum again
+pub left-made : (a b : ℕ) (s e : Interval) (x y : ℤ) → record { lo = Some (pos a); hi = Some (pos b) } ≡ s → e.lo ≡ Some x → e.hi ≡ Some y → IsInterval e → a ≤ b → b < 2 ^ 126 → IsSomeAnd e.lo (λ z. pos 0 ≤ℤ z) → IsSomeAnd e.hi (λ z. pos 0 ≤ℤ z) → units_of e.lo ≤ units_of s.lo → units_of s.lo + units_of e.hi ≤ units_of s.hi + units_of e.lo
+    → add_of (record { lo = Some (pos (a - unsigned_abs (to_z w128 (of_z w128 x)))); hi = Some (pos (b - unsigned_abs (to_z w128 (of_z w128 y)))) }) e ≡ s
+left-made a b s e x y is lo_is hi_is whole ordered bounded low high part left =
+    let m_is : units_of e.lo ≡ unsigned_abs x = ap units_of lo_is in
+    let n_is : units_of e.hi ≡ unsigned_abs y = ap units_of hi_is in
+    let a_is : units_of s.lo ≡ a = ap (λ (i : Interval). units_of i.lo) (sym is) in
+    let b_is : units_of s.hi ≡ b = ap (λ (i : Interval). units_of i.hi) (sym is) in
+    let m_small : unsigned_abs x < 2 ^ 126 = omega (arith, ordered, bounded, part, m_is, a_is) in
+    let n_small : unsigned_abs y < 2 ^ 126 = omega (arith, ordered, bounded, part, left, m_is, n_is, a_is, b_is) in
+    let m = unsigned_abs x in
+    let n = unsigned_abs y in
+    let low_again : a - m + m ≡ a = omega (arith, part, m_is, a_is) in
+    let high_again : b - n + n ≡ b = omega (arith, part, left, m_is, n_is, a_is, b_is) in
+    let again = added-made (a - m) (b - n) (bounds (Some (pos (a - m))) (Some (pos (b - n)))) e x y refl lo_is hi_is whole (omega (arith, part, left, m_is, n_is, a_is, b_is)) low high (omega (arith, part, left, bounded, m_is, n_is, a_is, b_is)) in
+    rw (passed x m_small, passed y n_small)
+    (sym (rw (passed x m_small, passed y n_small) at again)
+    ∙ ap (λ k. bounds (Some (pos k)) (Some (pos (b - n + n)))) low_again
+    ∙ ap (λ k. bounds (Some (pos a)) (Some (pos k))) high_again
+    ∙ is)
 
 abbrev point : ℤ → Interval
 point z = record { lo = Some z; hi = Some z }

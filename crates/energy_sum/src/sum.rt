@@ -1,5 +1,5 @@
 //! Exact sums of energies.
-ghost use Rattle.std.specs.Prelude.{◌≡◌, ◌+◌, ◌-◌, ◌<◌, ◌≤◌, ◌^◌, pos, ◌≤ℤ◌, IsSomeAnd};
+ghost use Rattle.std.specs.Prelude.{◌≡◌, ◌+◌, ◌-◌, ◌<◌, ◌≤◌, ◌^◌, pos, ◌≤ℤ◌, Some, IsSomeAnd};
 ghost use Rattle.fix_interval.specs.Bounds.{AreBetween};
 ghost use Rattle.fix_interval.specs.Tree.{Known, Const, Add, enc};
 ghost use Rattle.energy_sum.specs.Sums.{units_of};
@@ -45,6 +45,21 @@ impl Sum {
     {
         self.lo += e.low().unwrap() as u128;
         self.hi += e.high().unwrap() as u128;
+    }
+
+    /// Takes off an energy that was added before: the low end is subtracted from the low end, the high end from the high end.
+    /// Where the energy is added again, the sum is again what it was.
+    pub fn take_off(&mut self, e: Iv)
+        requires low { IsSomeAnd e.lo (λ z. pos 0 ≤ℤ z) }
+        requires high { IsSomeAnd e.hi (λ z. pos 0 ≤ℤ z) }
+        requires part { units_of e.lo ≤ units_of self.old.lo }
+        requires ordered { units_of self.old.lo + units_of e.hi ≤ units_of self.old.hi + units_of e.lo }
+        ensures low { self.new.lo ≡ Some (pos (units_of self.old.lo - units_of e.lo)) }
+        ensures high { self.new.hi ≡ Some (pos (units_of self.old.hi - units_of e.hi)) }
+        ensures again { enc (Add (Known self.new) (Known e)) ≡ self.old }
+    {
+        self.lo -= e.low().unwrap() as u128;
+        self.hi -= e.high().unwrap() as u128;
     }
 
     /// The sum as an interval.
