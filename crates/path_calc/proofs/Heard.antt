@@ -1,15 +1,20 @@
 -- What is heard at the end of paths is what the definitions say of their source and their receiver.
-use Rattle.std.proofs.Common.{◌≡◌, ℕ, ℤ, pos, List, [], ◌∷◌, ◌++◌, get_or, map, Option, refl, sym, ap, ◌∙◌, arith}
-use Rattle.std.specs.Prelude.{Some, None}
+use Rattle.std.proofs.Common.{◌≡◌, ℕ, ℤ, pos, Bool, true, false, List, [], ◌∷◌, ◌++◌, get_or, map, Option, refl, sym, ap, ◌∙◌, arith}
+use Rattle.std.specs.Prelude.{Some, None, ◌&&◌, is_some}
+use Rattle.std.specs.List.{list_any}
+use Rattle.std.proofs.lemmas.Bool.{false≢true}
+use Rattle.std.proofs.lemmas.List.Folds.{list_any_at}
 use Rattle.std.specs.Option.{option_map}
 use Rattle.std.proofs.lemmas.Int.{ints}
 use Rattle.std.proofs.lemmas.List.{get_or-map, map-append}
 use Rattle.fix_interval.specs.Interval.{Interval}
 use Rattle.fix_interval.specs.Values.{add_of, less_of, pick_of}
 use Rattle.fix_interval.specs.declared.truth.Truth.{Truth}
-use Rattle.fix_interval.specs.declared.truth.Truth.TheVariants.{Unsure}
+use Rattle.fix_interval.specs.declared.truth.Truth.TheVariants.{Sure, Never, Unsure}
 use Rattle.fix_interval.specs.Tree.{Tree, Known, Const, Add, Sub, enc}
 use Rattle.energy_sum.specs.Energies.{energy_form}
+use Rattle.scene_geom.specs.declared.plan.Side.{Side}
+use Rattle.scene_geom.specs.declared.reflection.Reflection.{Reflection}
 use Rattle.scene_geom.specs.declared.band.Band.{Band}
 use Rattle.scene_geom.specs.Bands.{all_bands, place_of}
 use Rattle.scene_parts.specs.Views.{Source, Receiver, Zone, Foliage, Globals}
@@ -31,6 +36,7 @@ use Rattle.term_foliage.specs.Foliage.{foliage_attenuation}
 use Rattle.term_foliage.proofs.Lawful.{same-length}
 use Rattle.term_barrier.specs.Screening.{screening}
 use Rattle.path_calc.specs.declared.propagation.Propagation.{Propagation}
+use Rattle.path_calc.specs.declared.reflected.Sound.{Sound}
 use Rattle.path_calc.specs.Propagations.{Reflected, counts_at}
 use Rattle.path_calc.specs.Losses.{loss_in, losses_along}
 use Rattle.path_calc.specs.declared.paths.Paths.{Paths}
@@ -44,9 +50,9 @@ use Rattle.path_calc.specs.Surroundings.{Surroundings, path_of, ends_of, edges_a
 use Rattle.path_calc.specs.Contributions.{Contribution, emission_in, power_along, power_between, unscreened_level, ground_along, ground_in, screening_in, lateral_screening_in, sound_past, direct_sound, lateral_sound, leading, reflected_power, reflected_ground_in, reflected_screening_in, reflected_foliage_in, reflection_level, reflected_sound, sounds_of}
 use Rattle.path_calc.specs.Energies.{sum_form, weighted, correction_of, band_energy, band_energy_between, long_energy_in}
 use Rattle.path_calc.specs.Bundles.{bundle_of}
-use Rattle.path_calc.specs.Prepared.{PreparedSource, prepared_of, emission_at}
+use Rattle.path_calc.specs.Prepared.{PreparedSource, prepared_of, emission_at, has_power}
 use Rattle.path_calc.specs.Ranges.{IsAtReceiver}
-use Rattle.path_calc.specs.Hearing.{IsDirect, ArePaths, direct_square, omega_along, grounds_along, raised, power_at, propagation_along, bar_over, bars_over, ground_at, screening_at, lateral_at, reflected_of, screenings_at, level_before, past, downwind_energy, long_term_energy, reflected_energy, sum_after, energy_after, long_energy_after}
+use Rattle.path_calc.specs.Hearing.{IsDirect, ArePaths, direct_square, omega_along, grounds_along, raised, power_at, propagation_along, where_asked, bar_over, bars_over, ground_at, screening_at, lateral_at, may_count, may_be_heard, echo_of, counts_on, sound_along, reflected_of, screenings_at, level_before, past, downwind_energy, long_term_energy, sound_energy, echo_energy, reflected_energy, sum_after, energy_after, long_energy_after}
 use Rattle.path_calc.proofs.Alike.{same-needed, same-dimension, same-correction, energy_by, same-each, same-through, same-lists}
 use Rattle.path_calc.proofs.Sums.{are-small, and-nothing, less-nothing}
 use Rattle.path_calc.proofs.Eight.{at-place, map-same, place-below}
@@ -105,20 +111,21 @@ loss-known foliage path d band =
     ∙ at-place (λ band. enc (foliage_attenuation foliage path d band)) (enc (Const (pos 0) 1)) band
 
 -- and so is that by screening
-screening-known : (path : Path) (edges : Band → List Edge) (dp d gr : Tree) (ground : List Interval) (band : Band) (default : Interval) → path.dp ≡ enc dp
-    → get_or ground (place_of band) (enc d) ≡ enc gr
-    → get_or (bars_over path edges (enc d) ground) (place_of band) default ≡ enc (screening path dp (edges band) d gr band)
-screening-known path edges dp d gr ground band default length-is ground-is =
-    at-place (λ band. bar_over path (edges band) (enc d) ground band) default band
+screening-known : (path : Path) (edges : Band → List Edge) (dp d gr : Tree) (ground : List Interval) (asked : Band → Bool) (band : Band) (default : Interval) → path.dp ≡ enc dp
+    → get_or ground (place_of band) (enc d) ≡ enc gr → asked band ≡ true
+    → get_or (bars_over path edges (enc d) ground asked) (place_of band) default ≡ enc (screening path dp (edges band) d gr band)
+screening-known path edges dp d gr ground asked band default length-is ground-is wanted =
+    at-place (λ band. where_asked (asked band) (bar_over path (edges band) (enc d) ground band)) default band
+    ∙ ap (λ (b : Bool). where_asked b (bar_over path (edges band) (enc d) ground band)) wanted
     ∙ ap (λ (i : Interval). enc (screening path (Known path.dp) (edges band) (Known (enc d)) (Known i) band)) ground-is
     ∙ same-screening path (edges band) band (Known path.dp) dp (Known (enc d)) d (Known (enc gr)) gr length-is refl refl
 
 -- ---- the direct path
 
 -- what the code knows of it
-pub direct-is : (p : Propagation) (book : Book) (s : Source) (r : Receiver) (d : Interval) (crossings : List Crossing) → d ≡ enc (distance s.at s.h r.at r.h) → crossings ≡ crossings_of (ends_of s r) book.obstacles
-    → p ≡ propagation_along book (path_of s r) (direct_square s r) d crossings → IsDirect p book s r
-direct-is p book s r d crossings distance-is crossings-are is =
+pub direct-is : (p : Propagation) (book : Book) (s : Source) (r : Receiver) (d : Interval) (crossings : List Crossing) (asked : Band → Bool) → d ≡ enc (distance s.at s.h r.at r.h) → ((band : Band) → asked band ≡ has_power (prepared_of s) band)
+    → crossings ≡ crossings_of (ends_of s r) book.obstacles → p ≡ propagation_along book (path_of s r) (direct_square s r) d crossings asked → IsDirect p book s r
+direct-is p book s r d crossings asked distance-is asked-are crossings-are is =
     let path = path_of s r in
     let globals = book.globals in
     let dp = plan_length s.at r.at in
@@ -126,8 +133,8 @@ direct-is p book s r d crossings distance-is crossings-are is =
     let around = surroundings_of book s r in
     let found = grounds_along globals book.zones path (enc dist) in
     let in_band = λ (band : Band). edges_in band (ends_of s r) book.obstacles in
-    let known : p ≡ propagation_along book path (direct_square s r) (enc dist) crossings =
-    is ∙ ap (λ (i : Interval). propagation_along book path (direct_square s r) i crossings) distance-is in
+    let known : p ≡ propagation_along book path (direct_square s r) (enc dist) crossings asked =
+    is ∙ ap (λ (i : Interval). propagation_along book path (direct_square s r) i crossings asked) distance-is in
     let there : (band : Band) (default : Interval) → get_or found (place_of band) default ≡ enc (ground_in globals around.zones s r band) =
     λ (band : Band) (default : Interval).
     ground-known globals book.zones path dp dist band default refl
@@ -137,11 +144,11 @@ direct-is p book s r d crossings distance-is crossings-are is =
       distance = ap (λ (q : Propagation). q.distance) known;
       ground = λ (band : Band). ap (λ (q : Propagation). ground_at q band) known ∙ there band _;
       omega = ap (λ (q : Propagation). q.omega) known;
-      screening = λ (band : Band).
+      screening = λ (band : Band) powered.
           let gr = ground_in globals around.zones s r band in
           ap (λ (q : Propagation). screening_at q band) known
-          ∙ ap (λ (is : List Interval). get_or is (place_of band) (enc (divergence (Known (enc dist))))) (bars-are path (enc dist) found crossings (ends_of s r) book.obstacles crossings-are)
-          ∙ screening-known path in_band dp dist gr found band _ refl (there band (enc dist))
+          ∙ ap (λ (is : List Interval). get_or is (place_of band) (enc (divergence (Known (enc dist))))) (bars-are path (enc dist) found crossings (ends_of s r) book.obstacles asked crossings-are)
+          ∙ screening-known path in_band dp dist gr found asked band _ refl (there band (enc dist)) (asked-are band ∙ powered)
           ∙ ap (λ (es : List Edge). enc (screening_in es s r gr band)) (sym (edges-there book s r band));
       foliage = λ (band : Band).
           ap (λ (q : Propagation). loss_in q.foliage band) known
@@ -182,12 +189,13 @@ lateral-is paths book s r d band distance-is is =
 
 -- ---- paths by way of walls
 
--- what is known of a path by way of a wall is what the formulas say
-reflected-is : (f : Tree → Tree → Tree) → ((a b t u : Tree) → enc a ≡ enc b → enc t ≡ enc u → enc (f a t) ≡ enc (f b u)) → (globals : Globals) (s : Source) (r : Receiver) (band : Band) (emission : Tree) (path : ReflectedPath)
-    → enc (reflected_energy f band (enc emission) (reflected_of globals (ends_of s r) path)) ≡ enc (energy_by globals s r f (reflected_sound globals s r band emission path))
-reflected-is f same globals s r band emission path =
+-- what is known of a sound by way of a wall is what the formulas say, in a band that is asked for
+sound-is : (f : Tree → Tree → Tree) → ((a b t u : Tree) → enc a ≡ enc b → enc t ≡ enc u → enc (f a t) ≡ enc (f b u)) → (globals : Globals) (s : Source) (r : Receiver) (band : Band) (emission : Tree) (path : ReflectedPath) (counts : Band → Truth) (asked : Band → Bool) → asked band ≡ true
+    → enc (sound_energy f band (enc emission) (sound_along globals (ends_of s r) path (enc (reflected_distance path.unfolded.square s.h r.h)) counts asked))
+    ≡ enc (f (correction_of globals s r (reflected_sound globals s r band emission path)) (reflected_sound globals s r band emission path).level)
+sound-is f same globals s r band emission path counts asked wanted =
     let ends = ends_of s r in
-    let m = reflected_of globals ends path in
+    let m = sound_along globals ends path (enc (reflected_distance path.unfolded.square s.h r.h)) counts asked in
     let unfolded = path_along ends path.unfolded in
     let dp = length_of path.unfolded.square in
     let d = reflected_distance path.unfolded.square s.h r.h in
@@ -201,7 +209,7 @@ reflected-is f same globals s r band emission path =
     let power : add_of (power_at m.path (enc emission)) m.level ≡ enc sent =
     ap (λ (i : Interval). add_of i m.level) (power-known globals.method unfolded (square_form path.unfolded.square) emission) in
     let there : (default : Interval) → get_or known (place_of band) default ≡ enc gr = λ (default : Interval). ground-known globals path.zones unfolded dp d band default refl in
-    let screened : screening_at m.path band ≡ enc bar = screening-known unfolded in_band dp d gr known band m.path.divergence refl (there (enc d)) in
+    let screened : screening_at m.path band ≡ enc bar = screening-known unfolded in_band dp d gr known asked band m.path.divergence refl (there (enc d)) wanted in
     let lost : loss_in m.path.foliage band ≡ enc fol = loss-known path.foliage unfolded d band in
     let before : enc (level_before m.path band (add_of (power_at m.path (enc emission)) m.level)) ≡ enc (unscreened_level sent d (coefficient_in globals.air band) gr) =
     unscreened-known m.path globals.air d gr sent (add_of (power_at m.path (enc emission)) m.level) band refl refl (there m.path.divergence) power in
@@ -210,14 +218,71 @@ reflected-is f same globals s r band emission path =
     ap (λ (i : Interval). enc (past i (screening_at m.path band) (loss_in m.path.foliage band))) before
     ∙ ap (λ (i : Interval). enc (Sub (Sub (unscreened_level sent d (coefficient_in globals.air band) gr) (Known i)) (Known (loss_in m.path.foliage band)))) screened
     ∙ ap (λ (i : Interval). enc (Sub (Sub (unscreened_level sent d (coefficient_in globals.air band) gr) bar) (Known i))) lost in
-    let decided : counts_at m band ≡ less_of (enc (needed_squared path.unfolded.p d band)) (enc (dimension_squared path.side path.h path.unfolded.p d)) =
-    at-place (λ band. less_of (enc (needed_squared path.unfolded.p (Known (enc d)) band)) (enc (dimension_squared path.side path.h path.unfolded.p (Known (enc d))))) Unsure band
-    ∙ ap (λ (i : Interval). less_of i (enc (dimension_squared path.side path.h path.unfolded.p (Known (enc d))))) (same-needed path.unfolded.p d band)
-    ∙ ap (less_of (enc (needed_squared path.unfolded.p d band))) (same-dimension path.side path.h path.unfolded.p d) in
-    ap (λ (truth : Truth). pick_of truth (enc (f (Known m.path.correction) here)) (enc (Const (pos 0) 1))) decided
-    ∙ ap (λ (i : Interval). pick_of (less_of (enc (needed_squared path.unfolded.p d band)) (enc (dimension_squared path.side path.h path.unfolded.p d))) i (enc (Const (pos 0) 1)))
-    (same (Known m.path.correction) (correction_of globals s r sound) here sound.level
-    (same-correction dp s.h r.h globals.c0) level)
+    same (Known m.path.correction) (correction_of globals s r sound) here sound.level (same-correction dp s.h r.h globals.c0) level
+
+-- whether a wall counts is what the formulas say
+counting-is : (side : Side) (h : ℕ) (laid : Reflection) (d : Tree) (band : Band)
+    → counts_on side h laid (enc d) band ≡ less_of (enc (needed_squared laid.p d band)) (enc (dimension_squared side h laid.p d))
+counting-is side h laid d band =
+    ap (λ (i : Interval). less_of i (enc (dimension_squared side h laid.p (Known (enc d))))) (same-needed laid.p d band)
+    ∙ ap (less_of (enc (needed_squared laid.p d band))) (same-dimension side h laid.p d)
+
+-- where something is heard in one band, something is heard
+heard-somewhere : (f : Band → Bool) (band : Band) → f band ≡ true → list_any f all_bands ≡ true
+heard-somewhere f band is = list_any_at f all_bands (place_of band) band (place-below band) (ap f (at-place (λ (b : Band). b) band band) ∙ is)
+
+-- a wall that is too small has no energy
+none-picked : (truth : Truth) (energy nothing : Interval) → may_count truth ≡ false → pick_of truth energy nothing ≡ nothing
+unfolding pick_of
+none-picked Sure energy nothing none = absurd (false≢true (sym none))
+none-picked Never energy nothing none = refl
+none-picked Unsure energy nothing none = absurd (false≢true (sym none))
+
+-- what is known of a path by way of a wall is what the formulas say, where there is power: in a band that isn't asked for the
+-- wall doesn't count
+module _ (f : Tree → Tree → Tree) (same : (a b t u : Tree) → enc a ≡ enc b → enc t ≡ enc u → enc (f a t) ≡ enc (f b u)) (globals : Globals) (s : Source) (r : Receiver) (band : Band) (emission : Tree) (powered : has_power (prepared_of s) band ≡ true) (path : ReflectedPath) where
+  abbrev far : Tree
+  far = reflected_distance path.unfolded.square s.h r.h
+
+  abbrev counts : Band → Truth
+  counts = counts_on path.side path.h path.unfolded (enc far)
+
+  abbrev wanted : Band → Bool
+  wanted = may_be_heard (prepared_of s) counts
+
+  abbrev known : Sound
+  known = sound_along globals (ends_of s r) path (enc far) counts wanted
+
+  abbrev sound : Contribution
+  sound = reflected_sound globals s r band emission path
+
+  abbrev decided : Truth
+  decided = less_of (enc (needed_squared path.unfolded.p far band)) (enc (dimension_squared path.side path.h path.unfolded.p far))
+
+  decided-is : counts band ≡ decided
+  decided-is = counting-is path.side path.h path.unfolded far band
+
+  in-bands : counts_at known band ≡ counts band
+  in-bands = at-place counts Unsure band
+
+  -- where the wall doesn't count, whatever is known elsewhere
+  silent : (some : Bool) → may_count (counts band) ≡ false → echo_energy f band (enc emission) (echo_of some known) ≡ enc (Const (pos 0) 1)
+  silent true none = none-picked (counts_at known band) (enc (sound_energy f band (enc emission) known)) (enc (Const (pos 0) 1)) (ap may_count in-bands ∙ none)
+  silent false none = refl
+
+  heard-or-not : (may : Bool) → may_count (counts band) ≡ may
+      → echo_energy f band (enc emission) (echo_of (list_any wanted all_bands) known) ≡ enc (energy_by globals s r f sound)
+  heard-or-not false is =
+      silent (list_any wanted all_bands) is
+      ∙ sym (none-picked decided (enc (f (correction_of globals s r sound) sound.level)) (enc (Const (pos 0) 1)) (ap may_count (sym decided-is) ∙ is))
+  heard-or-not true is =
+      let here : wanted band ≡ true = ap (λ (b : Bool). b && may_count (counts band)) powered ∙ is in
+      ap (λ (some : Bool). echo_energy f band (enc emission) (echo_of some known)) (heard-somewhere wanted band here)
+      ∙ ap (λ (truth : Truth). pick_of truth (enc (sound_energy f band (enc emission) known)) (enc (Const (pos 0) 1))) (in-bands ∙ decided-is)
+      ∙ ap (λ (i : Interval). pick_of decided i (enc (Const (pos 0) 1))) (sound-is f same globals s r band emission path counts wanted here)
+
+  reflected-is : enc (reflected_energy f band (enc emission) (reflected_of globals (prepared_of s) (ends_of s r) path)) ≡ enc (energy_by globals s r f sound)
+  reflected-is = heard-or-not (may_count (counts band)) refl
 
 -- ---- the energies of all sounds
 
@@ -230,12 +295,12 @@ map-twice : {X Y Z : Type 0} (f : Y → Z) (g : X → Y) (xs : List X) → map (
 map-twice f g [] = refl
 map-twice f g (x ∷ xs) = ap (λ zs. f (g x) ∷ zs) (map-twice f g xs)
 
-screenings-are : (paths : Paths) (book : Book) (s : Source) (r : Receiver) (band : Band) → ArePaths paths book s r
+screenings-are : (paths : Paths) (book : Book) (s : Source) (r : Receiver) (band : Band) → ArePaths paths book s r → has_power (prepared_of s) band ≡ true
     → screenings_at paths band ≡ map enc (screenings (surroundings_of book s r) s r band (ground_in book.globals (surroundings_of book s r).zones s r band))
-screenings-are paths book s r band are =
+screenings-are paths book s r band are powered =
     let round = leading (laterals_at band (surroundings_of book s r)) in
     let bar = screening_in (edges_at band (surroundings_of book s r)) s r (ground_in book.globals (surroundings_of book s r).zones s r band) band in
-    ap (λ (i : Interval). i ∷ lateral_at paths band) (are.direct.screening band)
+    ap (λ (i : Interval). i ∷ lateral_at paths band) (are.direct.screening band powered)
     ∙ ap (λ (es : List Interval). enc bar ∷ es) (are.lateral band ∙ map-twice enc (λ (path : LateralPath). lateral_screening_in path s r band) round)
 
 -- the sounds over the top and round the sides are those past such attenuations
@@ -249,10 +314,10 @@ unreflected-are globals around s r band emission f =
     (sym (map-twice (λ (t : Tree). f (sound_past globals around s r band emission t)) (λ (path : LateralPath). lateral_screening_in path s r band) paths)
     ∙ map-twice f (lateral_sound globals around s r band emission) paths)
 
-energies-are : (f : Tree → Tree → Tree) → ((a b t u : Tree) → enc a ≡ enc b → enc t ≡ enc u → enc (f a t) ≡ enc (f b u)) → (paths : Paths) (book : Book) (s : Source) (r : Receiver) (band : Band) (emission : Option Tree) → ArePaths paths book s r
+energies-are : (f : Tree → Tree → Tree) → ((a b t u : Tree) → enc a ≡ enc b → enc t ≡ enc u → enc (f a t) ≡ enc (f b u)) → (paths : Paths) (book : Book) (s : Source) (r : Receiver) (band : Band) (emission : Option Tree) → ArePaths paths book s r → has_power (prepared_of s) band ≡ is_some emission
     → sum_after f paths band (option_map enc emission) ≡ enc (sum_form (map (energy_by book.globals s r f) (sounds_of book.globals (surroundings_of book s r) s r band emission)))
-energies-are f same paths book s r band None are = refl
-energies-are f same paths book s r band (Some emission) are =
+energies-are f same paths book s r band None are powered = refl
+energies-are f same paths book s r band (Some emission) are powered =
     let globals = book.globals in
     let around = surroundings_of book s r in
     let level = enc (level_before paths.direct band (power_at paths.direct (enc emission))) in
@@ -267,12 +332,12 @@ energies-are f same paths book s r band (Some emission) are =
     let unreflected = direct_sound globals around s r band emission ∷ map (lateral_sound globals around s r band emission) (leading (laterals_at band around)) in
     let reflected = map (reflected_sound globals s r band emission) around.reflected in
     let first : map enc (map over (screenings_at paths band)) ≡ map enc (map by unreflected) =
-    ap (λ (es : List Interval). map enc (map over es)) (screenings-are paths book s r band are)
+    ap (λ (es : List Interval). map enc (map over es)) (screenings-are paths book s r band are powered)
     ∙ same-each over past_it (λ (t : Tree). same c_met (correction_of globals s r (sound_past globals around s r band emission t)) (past level (enc t) lost) (sound_past globals around s r band emission t).level are.direct.correction (level-is paths.direct book s r band emission t are.direct)) ts
     ∙ ap (λ (us : List Tree). map enc us) (unreflected-are globals around s r band emission by) in
     let second : map enc (map by_wall paths.reflected.items) ≡ map enc (map by reflected) =
     ap (λ (ms : List Reflected). map enc (map by_wall ms)) are.reflected
-    ∙ same-through by_wall (reflected_of globals (ends_of s r)) (λ (path : ReflectedPath). by (reflected_sound globals s r band emission path)) (reflected-is f same globals s r band emission) around.reflected
+    ∙ same-through by_wall (reflected_of globals (prepared_of s) (ends_of s r)) (λ (path : ReflectedPath). by (reflected_sound globals s r band emission path)) (reflected-is f same globals s r band emission powered) around.reflected
     ∙ ap (λ (us : List Tree). map enc us) (map-twice by (reflected_sound globals s r band emission) around.reflected) in
     same-lists (map over (screenings_at paths band) ++ map by_wall paths.reflected.items) (map by (unreflected ++ reflected)) (
     map-append enc (map over (screenings_at paths band)) (map by_wall paths.reflected.items)
@@ -285,6 +350,14 @@ emitted : (source : PreparedSource) (s : Source) (band : Band) → source ≡ pr
 emitted source s band is =
     ap (λ (q : PreparedSource). emission_at q band) is ∙ at-place (λ band. option_map enc (emission_in band s)) None band
 
+is-there : {X Y : Type 0} (f : X → Y) (x : Option X) → is_some (option_map f x) ≡ is_some x
+is-there f None = refl
+is-there f (Some x) = refl
+
+-- there is power where something is emitted
+power-there : (s : Source) (band : Band) → has_power (prepared_of s) band ≡ is_some (emission_in band s)
+power-there s band = ap is_some (emitted (prepared_of s) s band refl) ∙ is-there enc (emission_in band s)
+
 -- what is heard in all bands
 pub bands-heard : (paths : Paths) (source : PreparedSource) (book : Book) (s : Source) (r : Receiver) → source ≡ prepared_of s → ArePaths paths book s r
     → map (energy_after paths source) all_bands ≡ (bundle_of book s r).energy
@@ -292,7 +365,7 @@ unfolding band_energy
 bands-heard paths source book s r prepared are =
     map-same (energy_after paths source) (λ band. enc (band_energy_between book s r band))
     (λ band. ap (sum_after downwind_energy paths band) (emitted source s band prepared)
-    ∙ energies-are downwind_energy (λ a b t u d e. ap (λ (i : Interval). enc (energy_form (Known i))) e) paths book s r band (emission_in band s) are) all_bands
+    ∙ energies-are downwind_energy (λ a b t u d e. ap (λ (i : Interval). enc (energy_form (Known i))) e) paths book s r band (emission_in band s) are (power-there s band)) all_bands
 
 pub longs-heard : (paths : Paths) (source : PreparedSource) (book : Book) (s : Source) (r : Receiver) → source ≡ prepared_of s → ArePaths paths book s r
     → map (long_energy_after paths source) all_bands ≡ map (λ band. enc (long_energy_in book.globals (surroundings_of book s r) s r band)) all_bands
@@ -300,4 +373,4 @@ longs-heard paths source book s r prepared are =
     map-same (long_energy_after paths source) (λ band. enc (long_energy_in book.globals (surroundings_of book s r) s r band))
     (λ band. ap (sum_after (long_term_energy band) paths band) (emitted source s band prepared)
     ∙ energies-are (long_term_energy band)
-    (λ a b t u d e. ap (λ (i : Interval). enc (long_term_energy band (Known i) t)) d ∙ ap (λ (i : Interval). enc (long_term_energy band b (Known i))) e) paths book s r band (emission_in band s) are) all_bands
+    (λ a b t u d e. ap (λ (i : Interval). enc (long_term_energy band (Known i) t)) d ∙ ap (λ (i : Interval). enc (long_term_energy band b (Known i))) e) paths book s r band (emission_in band s) are (power-there s band)) all_bands

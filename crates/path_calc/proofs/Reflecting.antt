@@ -1,7 +1,7 @@
 -- Paths by way of walls that are found one after another, and what is known of each.
 use Rattle.std.proofs.Common.{◌≡◌, ℕ, zero, suc, ◌^◌, pos, ◌≤ℤ◌, subst, ◌+◌, ◌≤◌, ◌<◌, List, [], ◌∷◌, ◌++◌, length, drop, get_or, map, filter, refl, sym, ap, ◌∙◌, arith, append_assoc, append-nil}
-use Rattle.std.specs.Prelude.{Option, Some, None, Bool, true, false, IsTrue, All, flat_map, slice_get}
-use Rattle.std.specs.List.{filter_map}
+use Rattle.std.specs.Prelude.{Option, Some, None, Bool, true, false, ◌&&◌, IsTrue, All, flat_map, slice_get}
+use Rattle.std.specs.List.{filter_map, list_any}
 use Rattle.std.specs.Bool.{then_some}
 use Rattle.std.specs.Option.{option_to_list}
 use Rattle.std.proofs.lemmas.Int.{ints}
@@ -9,8 +9,8 @@ use Rattle.std.proofs.lemmas.List.{drop_more, map-append, length-append, length-
 use Rattle.std.proofs.lemmas.List.Elements.{All-nil, All-append, All-cons}
 use Rattle.std.proofs.lemmas.Option.{slice_get_within, get_or_from_slice_get}
 use Rattle.fix_interval.specs.Interval.{Interval}
-use Rattle.fix_interval.specs.Values.{less_of}
 use Rattle.fix_interval.specs.declared.truth.Truth.{Truth}
+use Rattle.fix_interval.specs.declared.truth.Truth.TheVariants.{Unsure}
 use Rattle.fix_interval.specs.Tree.{Known, enc}
 use Rattle.scene_geom.specs.declared.band.Band.{Band}
 use Rattle.scene_geom.specs.Bands.{all_bands, place_of}
@@ -29,7 +29,6 @@ use Rattle.scene_parts.specs.declared.crossing.Crossing.{Crossing}
 use Rattle.scene_parts.specs.Crossings.{is_crossing_in}
 use Rattle.image_source.specs.declared.leg.Leg.{Leg}
 use Rattle.image_source.specs.Mirrors.{IsMirror, has_mirror, mirror_of}
-use Rattle.image_source.specs.Dimensions.{dimension_squared, needed_squared}
 use Rattle.image_source.specs.LegCuts.{edge_on, edges_in, crossing_on, before_all, crossings_along, crossings_from, leg_crossings_of, is_leg_crossing_in}
 use Rattle.image_source.specs.declared.leg.Leg.TheVariants.{First, Second}
 use Rattle.image_source.proofs.Edges.{leg-crossings-are-edges}
@@ -37,16 +36,18 @@ use Rattle.image_source.proofs.Fitting.{leg-edges-fit}
 use Rattle.image_source.specs.Laws.{FitsLegEdge}
 use Rattle.term_barrier.specs.Edges.{FitsEdge}
 use Rattle.path_calc.specs.declared.propagation.Propagation.{Propagation}
+use Rattle.path_calc.specs.declared.reflected.Echo.TheVariants.{Audible}
+use Rattle.path_calc.specs.declared.reflected.Sound.{Sound}
 use Rattle.path_calc.specs.Propagations.{Reflected}
+use Rattle.path_calc.specs.Prepared.{PreparedSource, has_power}
 use Rattle.path_calc.specs.Losses.{losses_along}
-use Rattle.path_calc.specs.declared.segments.Seg.{Seg}
 use Rattle.path_calc.specs.declared.segments.Seg.TheVariants.{Legs}
 use Rattle.path_calc.specs.Lengths.{reflected_distance}
 use Rattle.path_calc.specs.Contributions.{reflection_level}
 use Rattle.path_calc.specs.Ranges.{IsPathSquare}
 use Rattle.path_calc.specs.Laws.{ReflectedEdgesAreCuts}
 use Rattle.path_calc.specs.ReflectedPaths.{ReflectedPath, path_along, along_legs, reflected_in, reflected_by, reflected_paths}
-use Rattle.path_calc.specs.Hearing.{edges_among, bar_over, bars_over, grounds_along, propagation_over, propagation_along, crossings_on, reflected_of}
+use Rattle.path_calc.specs.Hearing.{edges_among, where_asked, bar_over, bars_over, grounds_along, propagation_over, propagation_along, is_asked, crossings_on, truth_in, may_count, may_be_heard, echo_of, counts_on, sound_along, reflected_of}
 use Rattle.path_calc.proofs.Eight.{at-place, map-same}
 use Rattle.path_calc.proofs.Zones.{same-ground_along, same-losses}
 
@@ -120,43 +121,74 @@ unfolded-there o side ends m is = by (has_mirror o side ends) is where
   by true e = cc
   by false e = absurd (cc)
 
--- what the code knows of a path by way of a wall is what is read along it
-pub by-way-is : (m : Reflected) (book : Book) (ends : Ends) (o : Obstacle) (side : Side) (laid : Reflection) (legs : List (Leg × Crossing)) (d : Interval)
-    → d ≡ enc (reflected_distance laid.square ends.hs ends.hr) → legs ≡ leg_crossings_of laid ends book.obstacles
-    → m.wall ≡ Legs side ends.s ends.r
-    → m.path ≡ propagation_along book (path_along ends laid) laid.square d (crossings_on legs)
-    → m.level ≡ enc (reflection_level o.rho)
-    → m.counts ≡ map (λ band. less_of (enc (needed_squared laid.p (Known d) band)) (enc (dimension_squared side o.h laid.p (Known d)))) all_bands
-    → m ≡ reflected_of book.globals ends (along_legs book ends o side laid)
-by-way-is m book ends o side laid legs d distance-is legs-are wall-is path-is level-is counts-are =
+-- ---- the bands that are asked for
+
+-- a wall counts in a band as its length tells
+counted : (counts : List Truth) (side : Side) (h : ℕ) (laid : Reflection) (d : Interval) (band : Band) → counts ≡ map (counts_on side h laid d) all_bands → truth_in counts band ≡ counts_on side h laid d band
+counted counts side h laid d band is = ap (λ (ts : List Truth). truth_in ts band) is ∙ at-place (counts_on side h laid d) Unsure band
+
+heard-there : (source : PreparedSource) (counts : List Truth) (side : Side) (h : ℕ) (laid : Reflection) (d : Interval) (band : Band) → counts ≡ map (counts_on side h laid d) all_bands
+    → may_be_heard source (truth_in counts) band ≡ may_be_heard source (counts_on side h laid d) band
+heard-there source counts side h laid d band is = ap (λ (truth : Truth). has_power source band && may_count truth) (counted counts side h laid d band is)
+
+-- the bands that are asked for are those in which something may be heard
+asked-are : (asked : List Bool) (source : PreparedSource) (counts : List Truth) (side : Side) (h : ℕ) (laid : Reflection) (d : Interval) → asked ≡ map (may_be_heard source (truth_in counts)) all_bands
+    → counts ≡ map (counts_on side h laid d) all_bands → asked ≡ map (may_be_heard source (counts_on side h laid d)) all_bands
+asked-are asked source counts side h laid d is counts-are =
+    is ∙ map-same (may_be_heard source (truth_in counts)) (may_be_heard source (counts_on side h laid d)) (λ (band : Band). heard-there source counts side h laid d band counts-are) all_bands
+
+any-of : (asked : List Bool) (f : Band → Bool) → asked ≡ map f all_bands → list_any (λ (b : Bool). b) asked ≡ list_any f all_bands
+any-of asked f is = ap (λ (bs : List Bool). list_any (λ (b : Bool). b) bs) is
+
+-- what the code knows of a path by way of a wall that may count is what is read along it
+pub by-way-is : (m : Reflected) (sound : Sound) (book : Book) (source : PreparedSource) (ends : Ends) (o : Obstacle) (side : Side) (laid : Reflection) (d : Interval) (asked : List Bool)
+    → d ≡ enc (reflected_distance laid.square ends.hs ends.hr)
+    → sound.path ≡ propagation_along book (path_along ends laid) laid.square d (crossings_on (leg_crossings_of laid ends book.obstacles)) (is_asked asked)
+    → sound.level ≡ enc (reflection_level o.rho)
+    → sound.counts ≡ map (counts_on side o.h laid d) all_bands
+    → asked ≡ map (may_be_heard source (truth_in sound.counts)) all_bands
+    → list_any (λ (b : Bool). b) asked ≡ true
+    → m ≡ record { wall = Legs side ends.s ends.r; echo = Audible sound }
+    → m ≡ reflected_of book.globals source ends (along_legs book ends o side laid)
+by-way-is m sound book source ends o side laid d asked distance-is path-is level-is counts-are asked-is some is =
     let globals = book.globals in
     let path = path_along ends laid in
     let read = along_legs book ends o side laid in
-    let want = reflected_of globals ends read in
-    let far = want.path.distance in
+    let far = enc (reflected_distance laid.square ends.hs ends.hr) in
+    let here = counts_on side o.h laid far in
+    let wanted = may_be_heard source here in
+    let want = sound_along globals ends read far here wanted in
+    let legs = leg_crossings_of laid ends book.obstacles in
     let edges = λ (band : Band). edges_among band (crossings_on legs) in
     let there = λ (band : Band). get_or read.edges (place_of band) [] in
     let same-edges : (band : Band) → edges band ≡ there band = λ (band : Band).
     among-legs band legs
-    ∙ ap (λ (ls : List (Leg × Crossing)). map (λ (c : Leg × Crossing). c.1.edge) (filter (is_leg_crossing_in band) ls)) legs-are
     ∙ leg-crossings-are-edges band laid ends book.obstacles
     ∙ sym (at-place (λ band. edges_in band laid ends book.obstacles) [] band) in
+    let tests : sound.counts ≡ map here all_bands = counts-are ∙ ap (λ (i : Interval). map (counts_on side o.h laid i) all_bands) distance-is in
+    let all-asked : asked ≡ map wanted all_bands = asked-are asked source sound.counts side o.h laid far asked-is tests in
+    let same-asked : (band : Band) → is_asked asked band ≡ wanted band = λ (band : Band). ap (λ (bs : List Bool). is_asked bs band) all-asked ∙ at-place wanted false band in
+    let somewhere : list_any wanted all_bands ≡ true = sym (any-of asked wanted all-asked) ∙ some in
     let grounds : grounds_along globals book.zones path far ≡ want.path.grounds = ap (λ ts. map enc ts) (same-ground_along globals.method book.zones globals.g path (Known path.dp) (Known far)) in
     let losses : losses_along book.foliage path far ≡ want.path.foliage = same-losses book.foliage path far in
-    let bars : bars_over path edges far want.path.grounds ≡ want.path.screening =
-    map-same (λ band. bar_over path (edges band) far want.path.grounds band) (λ band. bar_over path (there band) far want.path.grounds band)
-    (λ band. ap (λ (es : List Edge). bar_over path es far want.path.grounds band) (same-edges band)) all_bands in
-    let paths : m.path ≡ want.path =
+    let bars : bars_over path edges far want.path.grounds (is_asked asked) ≡ want.path.screening =
+    map-same (λ band. where_asked (is_asked asked band) (bar_over path (edges band) far want.path.grounds band)) (λ band. where_asked (wanted band) (bar_over path (there band) far want.path.grounds band))
+    (λ band.
+    ap (λ (es : List Edge). where_asked (is_asked asked band) (bar_over path es far want.path.grounds band)) (same-edges band)
+    ∙ ap (λ (b : Bool). where_asked b (bar_over path (there band) far want.path.grounds band)) (same-asked band)) all_bands in
+    let paths : sound.path ≡ want.path =
     path-is
-    ∙ ap (λ (i : Interval). propagation_along book path laid.square i (crossings_on legs)) distance-is
-    ∙ ap (λ (is : List Interval). propagation_over globals book.foliage path laid.square far is edges) grounds
-    ∙ ap (λ (is : List Interval). record want.path { foliage = is; screening = bars_over path edges far want.path.grounds }) losses
+    ∙ ap (λ (i : Interval). propagation_along book path laid.square i (crossings_on legs) (is_asked asked)) distance-is
+    ∙ ap (λ (is : List Interval). propagation_over globals book.foliage path laid.square far is edges (is_asked asked)) grounds
+    ∙ ap (λ (is : List Interval). record want.path { foliage = is; screening = bars_over path edges far want.path.grounds (is_asked asked) }) losses
     ∙ ap (λ (is : List Interval). record want.path { screening = is }) bars in
-    let tests : m.counts ≡ want.counts = counts-are ∙ ap (λ (i : Interval). map (λ band. less_of (enc (needed_squared laid.p (Known i) band)) (enc (dimension_squared side o.h laid.p (Known i)))) all_bands) distance-is in
-    ap (λ (w : Seg). record m { wall = w }) wall-is
-    ∙ ap (λ (p : Propagation). record { wall = want.wall; path = p; level = m.level; counts = m.counts }) paths
-    ∙ ap (λ (i : Interval). record { wall = want.wall; path = want.path; level = i; counts = m.counts }) level-is
-    ∙ ap (λ (ts : List Truth). record { wall = want.wall; path = want.path; level = want.level; counts = ts }) tests
+    let sounds : sound ≡ want =
+    ap (λ (p : Propagation). record { path = p; level = sound.level; counts = sound.counts }) paths
+    ∙ ap (λ (i : Interval). record { path = want.path; level = i; counts = sound.counts }) level-is
+    ∙ ap (λ (ts : List Truth). record { path = want.path; level = want.level; counts = ts }) tests in
+    is
+    ∙ ap (λ (heard : Sound). record { wall = Legs side ends.s ends.r; echo = Audible heard }) sounds
+    ∙ ap (λ (b : Bool). record { wall = Legs side ends.s ends.r; echo = echo_of b want }) (sym somewhere)
 
 -- ---- paths found one after another
 
@@ -175,22 +207,22 @@ here : (sides : List Side) (i : ℕ) (side : Side) → slice_get sides i ≡ Som
 here sides i side e = drop_more sides i side (slice_get_within sides i side e) ∙ ap (λ x. x ∷ drop (i + 1) sides) (get_or_from_slice_get sides i side side e)
 
 -- a path for a side, where there is one
-pub one-added : (globals : Globals) (book : Book) (ends : Ends) (o : Obstacle) (side : Side) (laid : Reflection) (m : Reflected) (found : List Reflected)
-    → mirror_of o side ends ≡ Some laid → m ≡ reflected_of globals ends (along_legs book ends o side laid)
-    → found ++ m ∷ [] ≡ found ++ map (reflected_of globals ends) (option_to_list (reflected_in book ends o side))
-one-added globals book ends o side laid m found some is = rw (some, is) refl
+pub one-added : (globals : Globals) (source : PreparedSource) (book : Book) (ends : Ends) (o : Obstacle) (side : Side) (laid : Reflection) (m : Reflected) (found : List Reflected)
+    → mirror_of o side ends ≡ Some laid → m ≡ reflected_of globals source ends (along_legs book ends o side laid)
+    → found ++ m ∷ [] ≡ found ++ map (reflected_of globals source ends) (option_to_list (reflected_in book ends o side))
+one-added globals source book ends o side laid m found some is = rw (some, is) refl
 
-pub none-added : (globals : Globals) (book : Book) (ends : Ends) (o : Obstacle) (side : Side) (found : List Reflected)
-    → mirror_of o side ends ≡ None → found ≡ found ++ map (reflected_of globals ends) (option_to_list (reflected_in book ends o side))
-none-added globals book ends o side found none = rw none (sym (append-nil found))
+pub none-added : (globals : Globals) (source : PreparedSource) (book : Book) (ends : Ends) (o : Obstacle) (side : Side) (found : List Reflected)
+    → mirror_of o side ends ≡ None → found ≡ found ++ map (reflected_of globals source ends) (option_to_list (reflected_in book ends o side))
+none-added globals source book ends o side found none = rw none (sym (append-nil found))
 
 -- what is found, and what the sides behind give, is the same after a side
-pub side-added : (globals : Globals) (book : Book) (ends : Ends) (o : Obstacle) (sides : List Side) (i : ℕ) (side : Side) (found new all : List Reflected)
-    → slice_get sides i ≡ Some side → new ≡ found ++ map (reflected_of globals ends) (option_to_list (reflected_in book ends o side))
-    → found ++ map (reflected_of globals ends) (by_sides book ends o (drop i sides)) ≡ all
-    → new ++ map (reflected_of globals ends) (by_sides book ends o (drop (i + 1) sides)) ≡ all
-side-added globals book ends o sides i side found new all e added h =
-    let made = reflected_of globals ends in
+pub side-added : (globals : Globals) (source : PreparedSource) (book : Book) (ends : Ends) (o : Obstacle) (sides : List Side) (i : ℕ) (side : Side) (found new all : List Reflected)
+    → slice_get sides i ≡ Some side → new ≡ found ++ map (reflected_of globals source ends) (option_to_list (reflected_in book ends o side))
+    → found ++ map (reflected_of globals source ends) (by_sides book ends o (drop i sides)) ≡ all
+    → new ++ map (reflected_of globals source ends) (by_sides book ends o (drop (i + 1) sides)) ≡ all
+side-added globals source book ends o sides i side found new all e added h =
+    let made = reflected_of globals source ends in
     let these = option_to_list (reflected_in book ends o side) in
     let rest = by_sides book ends o (drop (i + 1) sides) in
     let next : by_sides book ends o (drop i sides) ≡ these ++ rest =
@@ -208,26 +240,26 @@ none-of-sides book ends o (side ∷ sides) is =
     rw none (none-of-sides book ends o sides is)
 
 -- adds nothing
-pub nothing-reflected : (globals : Globals) (book : Book) (ends : Ends) (o : Obstacle) (found : List Reflected) → o.rho ≡ 0
-    → found ≡ found ++ map (reflected_of globals ends) (reflected_by book ends o)
-nothing-reflected globals book ends o found none =
-    sym (append-nil found) ∙ ap (λ paths. found ++ map (reflected_of globals ends) paths) (sym (none-of-sides book ends o (sides_of o) none))
+pub nothing-reflected : (globals : Globals) (source : PreparedSource) (book : Book) (ends : Ends) (o : Obstacle) (found : List Reflected) → o.rho ≡ 0
+    → found ≡ found ++ map (reflected_of globals source ends) (reflected_by book ends o)
+nothing-reflected globals source book ends o found none =
+    sym (append-nil found) ∙ ap (λ paths. found ++ map (reflected_of globals source ends) paths) (sym (none-of-sides book ends o (sides_of o) none))
 
 obstacle-here : (obstacles : List Obstacle) (i : ℕ) (o : Obstacle) → i < length obstacles → o ≡ get_or obstacles i o → drop i obstacles ≡ o ∷ drop (i + 1) obstacles
 obstacle-here obstacles i o below is = drop_more obstacles i o below ∙ ap (λ x. x ∷ drop (i + 1) obstacles) (sym is)
 
-pub obstacle-added : (globals : Globals) (book : Book) (ends : Ends) (os : List Obstacle) (i : ℕ) (o : Obstacle) (found new all : List Reflected)
-    → i < length os → o ≡ get_or os i o → new ≡ found ++ map (reflected_of globals ends) (reflected_by book ends o)
-    → found ++ map (reflected_of globals ends) (flat_map (reflected_by book ends) (drop i os)) ≡ all
-    → new ++ map (reflected_of globals ends) (flat_map (reflected_by book ends) (drop (i + 1) os)) ≡ all
-obstacle-added globals book ends os i o found new all below is added h =
+pub obstacle-added : (globals : Globals) (source : PreparedSource) (book : Book) (ends : Ends) (os : List Obstacle) (i : ℕ) (o : Obstacle) (found new all : List Reflected)
+    → i < length os → o ≡ get_or os i o → new ≡ found ++ map (reflected_of globals source ends) (reflected_by book ends o)
+    → found ++ map (reflected_of globals source ends) (flat_map (reflected_by book ends) (drop i os)) ≡ all
+    → new ++ map (reflected_of globals source ends) (flat_map (reflected_by book ends) (drop (i + 1) os)) ≡ all
+obstacle-added globals source book ends os i o found new all below is added h =
     let rest = flat_map (reflected_by book ends) (drop (i + 1) os) in
     let these = reflected_by book ends o in
     let next : flat_map (reflected_by book ends) (drop i os) ≡ these ++ rest = ap (flat_map (reflected_by book ends)) (obstacle-here os i o below is) in
-    ap (λ xs. xs ++ map (reflected_of globals ends) rest) added
-    ∙ append_assoc found (map (reflected_of globals ends) these) (map (reflected_of globals ends) rest)
-    ∙ ap (λ xs. found ++ xs) (sym (map-append (reflected_of globals ends) these rest))
-    ∙ ap (λ paths. found ++ map (reflected_of globals ends) paths) (sym next) ∙ h
+    ap (λ xs. xs ++ map (reflected_of globals source ends) rest) added
+    ∙ append_assoc found (map (reflected_of globals source ends) these) (map (reflected_of globals source ends) rest)
+    ∙ ap (λ xs. found ++ xs) (sym (map-append (reflected_of globals source ends) these rest))
+    ∙ ap (λ paths. found ++ map (reflected_of globals source ends) paths) (sym next) ∙ h
 
 -- ---- there are no more than sides
 
@@ -248,5 +280,5 @@ pub few-paths : (book : Book) (ends : Ends) → length (reflected_paths book end
 few-paths book ends = few-of-obstacles book ends book.obstacles
 
 -- so are those that are found
-pub few-found : (globals : Globals) (book : Book) (ends : Ends) (found : List Reflected) → found ≡ map (reflected_of globals ends) (reflected_paths book ends) → length found ≤ side_total book.obstacles
-few-found globals book ends found is = rw (is, length-map (reflected_paths book ends) (reflected_of globals ends)) (few-paths book ends)
+pub few-found : (globals : Globals) (source : PreparedSource) (book : Book) (ends : Ends) (found : List Reflected) → found ≡ map (reflected_of globals source ends) (reflected_paths book ends) → length found ≤ side_total book.obstacles
+few-found globals source book ends found is = rw (is, length-map (reflected_paths book ends) (reflected_of globals source ends)) (few-paths book ends)

@@ -19,7 +19,7 @@ use Rattle.sight_cut.specs.Cuts.{edges_of, edges_in, screens_in, crossings_of}
 use Rattle.sight_cut.proofs.Edges.{crossings-are-edges}
 use Rattle.term_barrier.specs.Screening.{marked, screening}
 use Rattle.path_calc.specs.Surroundings.{ends_of, edges_at, surroundings_of}
-use Rattle.path_calc.specs.Hearing.{edges_among, bar_over, bars_over}
+use Rattle.path_calc.specs.Hearing.{edges_among, where_asked, bar_over, bars_over}
 use Rattle.path_calc.specs.Laws.{EdgesAreCuts}
 use Rattle.path_calc.proofs.Eight.{at-place, map-same}
 
@@ -46,13 +46,13 @@ bar-is bar path marks edges d gr default ground i band crossings marks-are edges
     ∙ ap (λ (g : Interval). enc (screening path (Known path.dp) (edges_among band crossings) (Known d) (Known g) band)) known
 
 -- those of all crossings are those of the edges in the bands
-pub bars-are : (path : Path) (d : Interval) (ground : List Interval) (crossings : List Crossing) (ends : Ends) (obstacles : List Obstacle) → crossings ≡ crossings_of ends obstacles
-    → bars_over path (λ band. edges_among band crossings) d ground ≡ bars_over path (λ band. edges_in band ends obstacles) d ground
-bars-are path d ground crossings ends obstacles crossings-are =
-    map-same (λ band. bar_over path (edges_among band crossings) d ground band) (λ band. bar_over path (edges_in band ends obstacles) d ground band)
+pub bars-are : (path : Path) (d : Interval) (ground : List Interval) (crossings : List Crossing) (ends : Ends) (obstacles : List Obstacle) (asked : Band → Bool) → crossings ≡ crossings_of ends obstacles
+    → bars_over path (λ band. edges_among band crossings) d ground asked ≡ bars_over path (λ band. edges_in band ends obstacles) d ground asked
+bars-are path d ground crossings ends obstacles asked crossings-are =
+    map-same (λ band. where_asked (asked band) (bar_over path (edges_among band crossings) d ground band)) (λ band. where_asked (asked band) (bar_over path (edges_in band ends obstacles) d ground band))
     (λ band.
-    ap (λ (cs : List Crossing). bar_over path (edges_among band cs) d ground band) crossings-are
-    ∙ ap (λ (es : List Edge). bar_over path es d ground band) (crossings-are-edges band ends obstacles))
+    ap (λ (cs : List Crossing). where_asked (asked band) (bar_over path (edges_among band cs) d ground band)) crossings-are
+    ∙ ap (λ (es : List Edge). where_asked (asked band) (bar_over path es d ground band)) (crossings-are-edges band ends obstacles))
     all_bands
 
 -- ---- the edges that are read

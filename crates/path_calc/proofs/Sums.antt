@@ -20,7 +20,7 @@ use Rattle.path_calc.specs.Energies.{sum_form}
 use Rattle.path_calc.specs.Strings.{listed}
 use Rattle.path_calc.specs.Hearing.{with_energy}
 use Rattle.path_calc.specs.Bundles.{IsEnergy, energy_limit, few_bundles}
-use Rattle.path_calc.specs.Ranges.{IsSumOf, sound_limit}
+use Rattle.path_calc.specs.Ranges.{IsSumOf, IsSmall, sound_limit}
 
 -- ---- nothing added
 
@@ -80,6 +80,13 @@ pub nothing-and : (i : Interval) → AreSmall i → add_of (ratio_of (pos 0) 1) 
 unfolding add_of
 nothing-and i is =
     rw nothing-is (ap (λ (e : Option ℤ). ends e (sum_of_ends (Some (pos 0)) i.hi)) (nothing-and-end i.lo is.lo) ∙ ap (ends i.lo) (nothing-and-end i.hi is.hi))
+
+-- and nothing more
+pub nothing-more : (i : Interval) → IsSmall i → i ≡ add_of i (ratio_of (pos 0) 1)
+unfolding add_of
+nothing-more i is =
+    let small = are-small _ _ i is (omega (arith, ints)) (omega (arith, ints)) in
+    rw nothing-is (sym (ap (λ (e : Option ℤ). ends e (sum_of_ends i.hi (Some (pos 0)))) (end-and-nothing i.lo small.lo) ∙ ap (ends i.lo) (end-and-nothing i.hi small.hi)))
 
 -- an energy and nothing else
 pub nothing-and-energy : (e : Interval) → IsSumOf 1 e → add_of (ratio_of (pos 0) 1) e ≡ e

@@ -28,6 +28,7 @@ use Rattle.path_calc.specs.Strings.{numbers_in, corners_at, AreStretched}
 use Rattle.path_calc.specs.Surroundings.{ends_of, surroundings_of}
 use Rattle.path_calc.specs.Trace.{straight, string_segments, lateral_segments, legs_of, trace_of}
 use Rattle.path_calc.specs.Tracing.{same_numbers, segments_between, segments_after, segments_in_band}
+use Rattle.path_calc.specs.Prepared.{PreparedSource}
 use Rattle.path_calc.specs.Hearing.{reflected_of}
 use Rattle.path_calc.proofs.Numbered.{screening_from, numbers-from, corners-there}
 use Rattle.path_calc.proofs.Stretching.{no-chain, none-passes}
@@ -238,7 +239,7 @@ trace-whole t t1 t2 t3 book s r line strings walls =
 
 -- ---- reflected paths
 
-pub walls-are : (globals : Globals) (ends : Ends) (paths : List ReflectedPath)
-    → map (λ path. path.wall) (map (reflected_of globals ends) paths) ≡ map (legs_of ends) paths
-walls-are globals ends [] = refl
-walls-are globals ends (path ∷ paths) = ap (λ (l : List Seg). legs_of ends path ∷ l) (walls-are globals ends paths)
+pub walls-are : (globals : Globals) (source : PreparedSource) (ends : Ends) (paths : List ReflectedPath)
+    → map (λ path. path.wall) (map (reflected_of globals source ends) paths) ≡ map (legs_of ends) paths
+walls-are globals source ends [] = refl
+walls-are globals source ends (path ∷ paths) = ap (λ (l : List Seg). legs_of ends path ∷ l) (walls-are globals source ends paths)

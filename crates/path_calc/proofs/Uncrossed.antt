@@ -19,20 +19,28 @@ use Rattle.sight_cut.proofs.Edges.{crossings-are-edges}
 use Rattle.term_barrier.specs.Diffraction.{whole}
 use Rattle.term_barrier.specs.Limits.{IsScreening}
 use Rattle.path_calc.specs.declared.segments.Seg.{Seg}
-use Rattle.path_calc.specs.Hearing.{edges_among, bars_over}
+use Rattle.path_calc.specs.Hearing.{edges_among, where_asked, bar_over, bars_over}
 use Rattle.path_calc.specs.LateralPaths.{lateral_paths}
 use Rattle.path_calc.specs.ScreeningSets.{is_renewed}
 use Rattle.path_calc.specs.Strings.{both_of, lateral_of, d_z_over}
 use Rattle.path_calc.specs.Trace.{lateral_segments}
 use Rattle.path_calc.specs.Tracing.{segments_in_band}
+use Rattle.path_calc.proofs.Eight.{map-same}
 use Rattle.path_calc.proofs.Screened.{above-in}
 
 -- ---- over the top
 
-pub bars-are-zero : (bar : Interval) (path : Path) (d : Interval) (ground : List Interval) (crossings : List Crossing)
+-- what is 0 dB where it is asked for is 0 dB
+asked-or-not : (asked : Bool) (bar : Interval) → bar ≡ enc (whole 0) → where_asked asked bar ≡ enc (whole 0)
+asked-or-not true bar zero = zero
+asked-or-not false bar zero = refl
+
+pub bars-are-zero : (bar : Interval) (path : Path) (d : Interval) (ground : List Interval) (crossings : List Crossing) (asked : Band → Bool)
     → bar ≡ enc (whole 0) → crossings ≡ []
-    → map (λ (band : Band). bar) all_bands ≡ bars_over path (λ band. edges_among band crossings) d ground
-bars-are-zero bar path d ground crossings zero none = rw (zero, none) refl
+    → map (λ (band : Band). bar) all_bands ≡ bars_over path (λ band. edges_among band crossings) d ground asked
+bars-are-zero bar path d ground crossings asked zero none =
+    map-same (λ (band : Band). bar) (λ band. where_asked (asked band) (bar_over path (edges_among band crossings) d ground band))
+    (λ band. zero ∙ sym (asked-or-not (asked band) (bar_over path (edges_among band crossings) d ground band) (rw none refl))) all_bands
 
 pub zero-screens : IsScreening (enc (whole 0))
 unfolding ratio_of unit

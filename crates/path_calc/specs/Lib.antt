@@ -7,6 +7,7 @@ pub mod ReflectedPaths
 pub mod ScreeningSets
 pub mod Surroundings
 pub mod Segments
+pub mod HeldSegments
 pub mod Trace
 pub mod Contributions
 pub mod Energies

@@ -1,5 +1,5 @@
 -- What all paths of a source share.
-use Rattle.std.specs.Prelude.{◌≡◌, ℕ, pos, neg_ℤ, ◌*◌, ◌^◌, List, length, map, All, Option, None, Some, IfSome, slice_index_or}
+use Rattle.std.specs.Prelude.{◌≡◌, ℕ, pos, neg_ℤ, ◌*◌, ◌^◌, Bool, List, length, map, All, Option, None, Some, IfSome, is_some, slice_index_or}
 use Rattle.std.specs.Option.{option_map}
 use Rattle.fix_interval.specs.Interval.{Interval}
 use Rattle.fix_interval.specs.Bounds.{AreBetween}
@@ -20,6 +20,10 @@ prepared_of s = record { h = s.h; emissions = map (λ band. option_map enc (emis
 -- L_W + D_c in a band, where there is power
 abbrev pub emission_at : PreparedSource → Band → Option Interval
 emission_at source band = slice_index_or source.emissions (place_of band) None
+
+-- whether there is power in a band
+abbrev pub has_power : PreparedSource → Band → Bool
+has_power source band = is_some (emission_at source band)
 
 -- L_W + D_c is from -50 dB to 180 dB
 abbrev pub IsEmission : Interval → Type 0

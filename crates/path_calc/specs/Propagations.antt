@@ -11,6 +11,9 @@ use Rattle.energy_sum.specs.Weather.{IsWeatherCorrection}
 use Rattle.term_div_atm.specs.Terms.{divergence}
 use Rattle.term_barrier.specs.Limits.{IsDistance, IsGroundEffect, IsScreening}
 use Rattle.path_calc.specs.declared.propagation.Propagation.{Propagation}
+use Rattle.path_calc.specs.declared.reflected.Echo.{Echo}
+use Rattle.path_calc.specs.declared.reflected.Echo.TheVariants.{Silent, Audible}
+use Rattle.path_calc.specs.declared.reflected.Sound.{Sound}
 use Rattle.path_calc.specs.declared.segments.Seg.{Seg}
 use Rattle.path_calc.specs.Losses.{AreLosses}
 use Rattle.path_calc.specs.Segments.{FitsSegment}
@@ -46,24 +49,30 @@ pub record IsPropagation (propagation : Propagation) : Type 0 where
   pub foliage : AreLosses propagation.foliage
   pub correction : IsWeatherCorrection propagation.correction
 
--- a path by way of a wall (ISO 9613-2, 7.5): its legs, 10 lg of what the wall reflects, in dB, and for each band
--- whether it is large enough
+-- a path by way of a wall (ISO 9613-2, 7.5): its legs, and what is heard by way of it
 pub record Reflected : Type 0 where
   pub wall : Seg
-  pub path : Propagation
-  pub level : Interval
-  pub counts : List Truth
+  pub echo : Echo
 
 -- the level of a reflection is from -10 dB to 0 dB
 abbrev pub IsReflectionLevel : Interval → Type 0
 IsReflectionLevel level = AreBetween (neg_ℤ (pos (10 * 2 ^ 32))) (pos 0) level
 
+-- the sound by way of a wall
+pub record IsReflectedSound (sound : Sound) : Type 0 where
+  pub path : IsPropagation sound.path
+  pub level : IsReflectionLevel sound.level
+  pub bands : length sound.counts ≡ 8
+
+-- that, where something is heard
+abbrev pub IsEcho : Echo → Type 0
+IsEcho Silent = Unit {0}
+IsEcho (Audible sound) = IsReflectedSound sound
+
 pub record IsReflected (reflected : Reflected) : Type 0 where
   pub wall : FitsSegment reflected.wall
-  pub path : IsPropagation reflected.path
-  pub level : IsReflectionLevel reflected.level
-  pub bands : length reflected.counts ≡ 8
+  pub echo : IsEcho reflected.echo
 
 -- whether the wall is large enough in a band
-abbrev pub counts_at : Reflected → Band → Truth
-counts_at reflected band = slice_index_or reflected.counts (place_of band) Unsure
+abbrev pub counts_at : Sound → Band → Truth
+counts_at sound band = slice_index_or sound.counts (place_of band) Unsure

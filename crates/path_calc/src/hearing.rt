@@ -1,7 +1,7 @@
 //! What a receiver hears at the end of a path, in one band.
 ghost use Rattle.std.specs.Prelude.{◌≡◌, ℕ, ◌+◌, ◌<◌, ◌≤◌, length, map, pos, fold, true, Some, IfSome};
 ghost use Rattle.std.specs.Option.{option_map};
-ghost use Rattle.fix_interval.specs.Values.{add_of, sub_of};
+ghost use Rattle.fix_interval.specs.Values.{add_of, sub_of, pick_of};
 ghost use Rattle.term_barrier.specs.Limits.{IsScreening};
 ghost use Rattle.fix_interval.specs.Tree.{Known, Const, Add, enc};
 ghost use Rattle.energy_sum.specs.Energies.{energy_form};
@@ -9,23 +9,23 @@ ghost use Rattle.energy_sum.specs.Weather.{IsWeatherCorrection};
 ghost use Rattle.path_calc.specs.Weights.{weight_in};
 ghost use Rattle.path_calc.specs.Prepared.{IsEmission, IsSentOn};
 ghost use Rattle.path_calc.specs.Ranges.{IsUnscreened, IsScreened, IsAtReceiver, IsHearable};
-ghost use Rattle.path_calc.specs.Propagations.{IsPropagation};
+ghost use Rattle.path_calc.specs.Propagations.{IsPropagation, IsEcho, IsReflectedSound, counts_at};
 ghost use Rattle.path_calc.specs.Losses.{loss_in};
 ghost use Rattle.path_calc.specs.Ranges.{AreInRange, IsWeight, IsSmall, IsSumOf, most_sounds};
 ghost use Rattle.scene_book.specs.Limits.{most_sides};
 ghost use Rattle.path_calc.specs.Hearing.{energy_after, long_energy_after, sum_after, past, with_energy};
-ghost use Rattle.path_calc.specs.Hearing.{downwind_energy, long_term_energy, reflected_energy};
+ghost use Rattle.path_calc.specs.Hearing.{downwind_energy, long_term_energy, sound_energy, echo_energy, reflected_energy};
 ghost use Rattle.path_calc.specs.Hearing.{level_before as level_form};
 
 use crate::absorption::coefficient;
 use crate::paths::Paths;
 use crate::prepared::PreparedSource;
 use crate::propagation::Propagation;
-use crate::reflected::Reflected;
+use crate::reflected::{Echo, Reflected, Sound};
 use crate::small_sums::{minus, plus};
 use crate::weights::weight_of;
 use energy_sum::energy;
-use fix_interval::{Iv, exact, pick};
+use fix_interval::{Iv, Truth, exact, pick};
 use scene_geom::Band;
 use term_div_atm::a_atm;
 
@@ -85,24 +85,50 @@ fn with_reflected(heard: Heard, reflected: &[Reflected], band: Band, emission: I
 {
     let mut all = heard;
     for path in reflected {
-        all = both(all, heard_by_way(path, band, emission));
+        all = with_echo(all, path.echo(), band, emission);
     }
     all
 }
 
-/// What is heard of an emission by way of a wall: nothing where the wall is too small, and where that isn't decided the
-/// interval of both cases.
-fn heard_by_way(reflected: &Reflected, band: Band, emission: Iv) -> Heard
-    requires { IsEmission emission }
-    ensures energy { result.energy ≡ enc (reflected_energy downwind_energy band emission reflected.now) }
-    ensures long { result.long ≡ enc (reflected_energy (long_term_energy band) band emission reflected.now) }
+/// What is heard, and beside it what is heard by way of a wall of an emission: where nothing is, and in a band in which the
+/// wall is too small, nothing is calculated, since no energy is added there.
+fn with_echo(heard: Heard, echo: &Echo, band: Band, emission: Iv) -> Heard
+    requires energy { IsSmall heard.energy }
+    requires long { IsSmall heard.long }
+    requires echo { IsEcho echo.now }
+    requires emission { IsEmission emission }
+    ensures energy { result.energy
+        ≡ add_of heard.energy (echo_energy downwind_energy band emission echo.now) }
+    ensures long { result.long
+        ≡ add_of heard.long (echo_energy (long_term_energy band) band emission echo.now) }
+    ensures energy_bounds { (n : ℕ) → n < 131072 → IsSumOf n heard.energy → IsSumOf (n + 1) result.energy }
+    ensures long_bounds { (n : ℕ) → n < 131072 → IsSumOf n heard.long → IsSumOf (n + 1) result.long }
+{
+    match echo {
+        Echo::Silent => heard,
+        Echo::Audible(sound) => match sound.counts_in(band) {
+            Truth::Never => heard,
+            Truth::Sure | Truth::Unsure => both(heard, heard_by_way(sound, band, emission)),
+        },
+    }
+}
+
+/// What is heard of an emission by way of a wall: where it isn't decided that the wall is large enough, the interval of both
+/// cases.
+fn heard_by_way(sound: &Sound, band: Band, emission: Iv) -> Heard
+    requires sound { IsReflectedSound sound.now }
+    requires emission { IsEmission emission }
+    ensures energy { result.energy ≡ pick_of (counts_at sound.now band)
+        (enc (sound_energy downwind_energy band emission sound.now)) (enc (Const (pos 0) 1)) }
+    ensures long { result.long ≡ pick_of (counts_at sound.now band)
+        (enc (sound_energy (long_term_energy band) band emission sound.now)) (enc (Const (pos 0) 1)) }
     ensures energy_bounds { IsSumOf 1 result.energy }
     ensures long_bounds { IsSumOf 1 result.long }
 {
-    let path = reflected.path();
-    let level = level_before(path, band, reflected.sends(path.power_of(emission)));
+    let path = &sound.path;
+    let level = level_before(path, band, sound.sends(path.power_of(emission)));
     let heard = heard_past(level, path.screening_in(band), path, band);
-    let counts = reflected.counts_in(band);
+    let counts = sound.counts_in(band);
     Heard {
         energy: pick(counts, heard.energy, exact(0)),
         long: pick(counts, heard.long, exact(0)),

@@ -1,6 +1,7 @@
 //! All paths from a source to a receiver: the direct one, those round the sides and those by way of walls.
 ghost use Rattle.std.specs.Prelude.{◌≡◌, ◌++◌, map, IfOk, OnOk};
 ghost use Rattle.path_calc.specs.Hearing.{ArePaths, lateral_at};
+ghost use Rattle.path_calc.specs.Prepared.{prepared_of};
 ghost use Rattle.path_calc.specs.Ranges.{AreInRange, IsLateralScreening};
 ghost use Rattle.path_calc.specs.Strings.{both_of};
 ghost use Rattle.path_calc.specs.Trace.{trace_of};
@@ -40,7 +41,7 @@ pub(crate) fn paths_between(
     found: &mut Found,
     trace: &mut Segs,
 ) -> Result<Paths, NoMemory>
-    requires source { from.now.h ≡ source.now.h }
+    requires source { from.now ≡ prepared_of source.now }
     requires receiver { to.now ≡ receiver.now.h }
     ensures value { IfOk result (λ paths. ArePaths paths scene.now source.now receiver.now) }
     ensures range { IfOk result AreInRange }
@@ -63,7 +64,8 @@ pub(crate) fn paths_between(
     let distance = distance(source.at, source.h, receiver.at, receiver.h);
     let crossings = scene.crossings(alloc, ends, found)?;
     let square = direct_square(source.at, receiver.at);
-    let direct = between.along(&path, square, distance, crossings.as_slice())?;
+    let powered = from.powered();
+    let direct = between.along(&path, square, distance, crossings.as_slice(), &powered)?;
     trace.push(Seg::Straight(source.at, receiver.at))?;
     let lateral = lateral_screening(
         alloc,

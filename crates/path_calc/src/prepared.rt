@@ -1,9 +1,10 @@
 //! What is calculated once of a source or of a receiver, and serves all of its paths.
-ghost use Rattle.std.specs.Prelude.{◌≡◌, All, IfSome};
+ghost use Rattle.std.specs.Prelude.{◌≡◌, map, All, IfSome};
 ghost use Rattle.std.specs.Option.{option_map};
 ghost use Rattle.fix_interval.specs.Tree.{Known, Const, Add, enc};
 ghost use Rattle.path_calc.specs.Contributions.{power_in as power_of, emission_in as emission_of};
-ghost use Rattle.path_calc.specs.Prepared.{prepared_of, emission_at, IsEmission};
+ghost use Rattle.scene_geom.specs.Bands.{all_bands};
+ghost use Rattle.path_calc.specs.Prepared.{prepared_of, emission_at, has_power as is_powered, IsEmission};
 ghost use Rattle.path_calc.specs.Ranges.{IsPower, IsCorrection};
 
 use crate::numbers::hundredths;
@@ -48,6 +49,29 @@ impl PreparedSource {
         ensures bounds { IfSome result IsEmission }
     {
         self.emissions[band.place()]
+    }
+
+    /// Whether there is power in a band.
+    pub(crate) fn has_power(&self, band: Band) -> bool
+        ensures { result ≡ is_powered self.now band }
+    {
+        self.emission_in(band).is_some()
+    }
+
+    /// For each band whether there is power in it.
+    pub(crate) fn powered(&self) -> [bool; 8]
+        ensures { result ≡ map (is_powered self.now) all_bands }
+    {
+        [
+            self.has_power(Band::Hz63),
+            self.has_power(Band::Hz125),
+            self.has_power(Band::Hz250),
+            self.has_power(Band::Hz500),
+            self.has_power(Band::Hz1000),
+            self.has_power(Band::Hz2000),
+            self.has_power(Band::Hz4000),
+            self.has_power(Band::Hz8000),
+        ]
     }
 
     /// The decays at the height of the source.

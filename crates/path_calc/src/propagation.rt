@@ -3,7 +3,7 @@ ghost use Rattle.std.specs.Prelude.{◌≡◌, All, IfOk, IfSome};
 ghost use Rattle.path_shape.specs.Shape.{IsPath};
 ghost use Rattle.scene_parts.specs.Ranges.{IsHeight};
 ghost use Rattle.scene_parts.specs.declared.kinds.Ground.TheVariants as methods;
-ghost use Rattle.path_calc.specs.Hearing.{propagation_along, grounds_along, omega_along, ground_at, screening_at, power_at};
+ghost use Rattle.path_calc.specs.Hearing.{propagation_along, is_asked, grounds_along, omega_along, ground_at, screening_at, power_at};
 ghost use Rattle.path_calc.specs.Prepared.{IsEmission, IsSent};
 ghost use Rattle.path_calc.specs.Propagations.{IsPropagation, IsGroundBy, IsSimpleGround, IsSolidAngle};
 ghost use Rattle.path_calc.specs.Ranges.{IsPathSquare};
@@ -38,7 +38,8 @@ pub(crate) struct Between<'a> {
 
 /// What the bands share of a path: the air, the distance in metres, the divergence there in dB, beside it the
 /// attenuations by the ground, by screening over the top and by foliage in each band in dB, D_Omega in dB where the ground
-/// goes by the alternative method, and C_met in dB.
+/// goes by the alternative method, and C_met in dB. By how much a path is screened is the dearest of them: it is calculated
+/// only in the bands that are asked for, and 0 dB stands in the others.
 #[derive(Drop)]
 pub(crate) struct Propagation {
     pub(crate) air: Air,
@@ -53,13 +54,14 @@ pub(crate) struct Propagation {
 
 impl<'a> Between<'a> {
     /// The quantities of a path, of which the square of the plan length in mm² is this, over a distance in metres, where
-    /// these sides cross it.
+    /// these sides cross it and these bands are asked for.
     pub(crate) fn along(
         &self,
         path: &Path,
         square: Frac,
         distance: Iv,
         crossings: &[Crossing],
+        asked: &[bool; 8],
     ) -> Result<Propagation, NoMemory>
         requires path { IsPath path.now }
         requires source { self.now.from.now.h ≡ path.now.hs }
@@ -70,12 +72,13 @@ impl<'a> Between<'a> {
         requires distance { IsDistance distance }
         requires edges { All (λ crossing. FitsEdge crossing.edge) crossings.now }
         ensures value { IfOk result (λ found. found
-            ≡ propagation_along self.now.scene.now path.now square distance crossings.now) }
+            ≡ propagation_along self.now.scene.now path.now square distance crossings.now
+            (is_asked asked.now)) }
         ensures range { IfOk result IsPropagation }
     {
         let globals = self.scene.globals();
         let grounds = self.grounds_along(path, distance);
-        let screening = over_top(self.alloc, crossings, path, distance, &grounds)?;
+        let screening = over_top(self.alloc, crossings, path, distance, &grounds, asked)?;
         Ok(Propagation {
             air: globals.air,
             distance,

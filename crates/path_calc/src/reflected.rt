@@ -3,7 +3,7 @@ ghost use Rattle.std.specs.Prelude.{◌≡◌};
 ghost use Rattle.fix_interval.specs.Values.{add_of};
 ghost use Rattle.path_calc.specs.Prepared.{IsSent, IsSentOn};
 ghost use Rattle.path_calc.specs.Segments.{FitsSegment};
-ghost use Rattle.path_calc.specs.Propagations.{IsPropagation, IsReflectionLevel, counts_at};
+ghost use Rattle.path_calc.specs.Propagations.{IsEcho, IsReflectedSound, counts_at};
 
 use crate::propagation::Propagation;
 use crate::segments::Seg;
@@ -11,14 +11,29 @@ use fix_interval::{Iv, Truth, add};
 use scene_geom::Band;
 use std::marker::Model;
 
-/// What the bands share of a path by way of a wall: its legs, its quantities, the level of the reflection in dB, 10 lg rho, and
-/// whether the wall is large enough in each band.
+/// A path by way of a wall: its legs, which are read whether anything is heard or not, and what is heard.
 #[derive(Drop)]
 pub(crate) struct Reflected {
     wall: Seg,
-    path: Propagation,
-    level: Iv,
-    counts: [Truth; 8],
+    echo: Echo,
+}
+
+/// What is heard by way of a wall that mirrors the source to the receiver.
+#[derive(Drop)]
+pub(crate) enum Echo {
+    /// Nothing: in each band the wall is too small, or the source has no power. Nothing along the legs is calculated.
+    Silent,
+    /// A sound in some bands, or one that may be there. What stands in the other bands of its path is never read.
+    Audible(Sound),
+}
+
+/// What the bands share of a sound by way of a wall: the quantities of its path, the level of the reflection in dB, 10 lg rho,
+/// and whether the wall is large enough in each band.
+#[derive(Drop)]
+pub(crate) struct Sound {
+    pub(crate) path: Propagation,
+    pub(crate) level: Iv,
+    pub(crate) counts: [Truth; 8],
 }
 
 impl Model for Reflected {
@@ -26,26 +41,19 @@ impl Model for Reflected {
 
     ghost Value = { ReflectedSeen };
 
-    ghost view = { λ r. record { wall = r.wall; path = r.path; level = r.level; counts = r.counts } };
+    ghost view = { λ r. record { wall = r.wall; echo = r.echo } };
 
-    ghost invariant = { λ r. IsReflected (record { wall = r.wall; path = r.path; level = r.level; counts = r.counts }) };
+    ghost invariant = { λ r. IsReflected (record { wall = r.wall; echo = r.echo }) };
 }
 
 impl Reflected {
-    /// A path with these legs and quantities, by way of a wall that reflects with a level in dB and is large enough in some
-    /// bands.
-    pub(crate) fn of(wall: Seg, path: Propagation, level: Iv, counts: [Truth; 8]) -> Reflected
+    /// A path with these legs, by way of which this is heard.
+    pub(crate) fn of(wall: Seg, echo: Echo) -> Reflected
         requires wall { FitsSegment wall }
-        requires path { IsPropagation path }
-        requires level { IsReflectionLevel level }
-        ensures { result ≡ record { wall = wall; path = path; level = level; counts = counts } }
+        requires echo { IsEcho echo }
+        ensures { result ≡ record { wall = wall; echo = echo } }
     {
-        Reflected {
-            wall,
-            path,
-            level,
-            counts,
-        }
+        Reflected { wall, echo }
     }
 
     /// The legs of the path.
@@ -56,17 +64,20 @@ impl Reflected {
         self.wall
     }
 
-    /// The quantities of the path.
-    pub(crate) fn path(&self) -> &Propagation
-        ensures value { result.now ≡ self.now.path }
-        ensures range { IsPropagation result.now }
+    /// What is heard by way of the wall.
+    pub(crate) fn echo(&self) -> &Echo
+        ensures value { result.now ≡ self.now.echo }
+        ensures range { IsEcho result.now }
     {
-        &self.path
+        &self.echo
     }
+}
 
+impl Sound {
     /// What the wall sends on of what is sent along the path, in dB.
     pub(crate) fn sends(&self, power: Iv) -> Iv
-        requires { IsSent self.now.path.omega power }
+        requires sound { IsReflectedSound self.now }
+        requires power { IsSent self.now.path.omega power }
         ensures value { result ≡ add_of power self.now.level }
         ensures bounds { IsSentOn self.now.path.omega result }
     {
@@ -75,6 +86,7 @@ impl Reflected {
 
     /// Whether the wall is large enough in a band.
     pub(crate) fn counts_in(&self, band: Band) -> Truth
+        requires { IsReflectedSound self.now }
         ensures { result ≡ counts_at self.now band }
     {
         self.counts[band.place()]

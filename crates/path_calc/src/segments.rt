@@ -4,8 +4,9 @@ ghost use Rattle.path_calc.specs.Segments.{FitsSegment};
 
 use scene_geom::{Pt, Side};
 use scene_parts::NoMemory;
-use std::alloc::Global;
+use std::alloc::{AllocError, Global};
 use std::marker::Model;
+use std::slice;
 
 /// A plan segment, or both legs of the path by way of a reflecting side from source to receiver.
 #[derive(Clone, Copy, Debug, PartialEq, Eq)]
@@ -16,21 +17,45 @@ pub enum Seg {
 
 /// Plan segments in an order. Each side whose legs are among them is at most 262,143 mm long and has source and receiver
 /// strictly on one side of its line. Contracts see it as the list of the segments.
-#[derive(Clone, Debug, Drop)]
+#[derive(Debug, Drop)]
 pub struct Segs {
-    segments: Vec<Seg>,
+    held: Held,
+}
+
+/// Where segments stand. A single one, as of a path in the open, takes no memory of its own.
+#[derive(Debug, Drop)]
+enum Held {
+    Nothing(Global),
+    One(Global, Seg),
+    Many(Vec<Seg>),
 }
 
 impl Model for Segs {
     ghost use Rattle.std.specs.Prelude.{List, All};
     ghost use Rattle.path_calc.specs.declared.segments.Seg.{Seg};
     ghost use Rattle.path_calc.specs.Segments.{FitsSegment};
+    ghost use Rattle.path_calc.specs.HeldSegments.{segments_in};
 
     ghost Value = { List Seg };
 
-    ghost view = { λ s. s.segments.items };
+    ghost view = { λ s. segments_in s.held };
 
-    ghost invariant = { λ s. All FitsSegment s.segments.items };
+    ghost invariant = { λ s. All FitsSegment (segments_in s.held) };
+}
+
+impl Clone for Segs {
+    ghost use Rattle.std.specs.Prelude.{◌≡◌};
+
+    ghost is_clone = { λ segs copy. copy ≡ segs };
+
+    fn clone(&self) -> Result<Self, AllocError> {
+        let held = match &self.held {
+            Held::Nothing(alloc) => Held::Nothing(*alloc),
+            Held::One(alloc, segment) => Held::One(*alloc, *segment),
+            Held::Many(segments) => Held::Many(segments.clone()?),
+        };
+        Ok(Segs { held })
+    }
 }
 
 impl Segs {
@@ -39,7 +64,7 @@ impl Segs {
         ensures { result ≡ [] }
     {
         Segs {
-            segments: Vec::new(alloc),
+            held: Held::Nothing(alloc),
         }
     }
 
@@ -48,7 +73,12 @@ impl Segs {
         requires { FitsSegment segment }
         ensures { OnOk result (self.new ≡ self.old ++ segment ∷ []) }
     {
-        Ok(self.segments.push(segment)?)
+        match &mut self.held {
+            Held::Nothing(alloc) => self.held = Held::One(*alloc, segment),
+            Held::One(alloc, first) => self.held = Held::Many(vec![in *alloc; *first, segment]?),
+            Held::Many(segments) => segments.push(segment)?,
+        }
+        Ok(())
     }
 
     /// The list of these segments.
@@ -56,7 +86,9 @@ impl Segs {
         requires { All FitsSegment items.items }
         ensures { result ≡ items.items }
     {
-        Segs { segments: items }
+        Segs {
+            held: Held::Many(items),
+        }
     }
 
     /// The segments in their order.
@@ -64,6 +96,10 @@ impl Segs {
         ensures value { result.now ≡ self.now }
         ensures fit { All FitsSegment self.now }
     {
-        self.segments.as_slice()
+        match &self.held {
+            Held::Nothing(_) => &[],
+            Held::One(_, segment) => slice::from_ref(segment),
+            Held::Many(segments) => segments.as_slice(),
+        }
     }
 }

@@ -5,10 +5,12 @@ use Rattle.fix_interval.specs.Values.{add_of}
 use Rattle.fix_interval.specs.Tree.{Tree, Known, Add, enc}
 use Rattle.scene_geom.specs.declared.plan.Pt.{Pt}
 use Rattle.scene_geom.specs.declared.band.Band.{Band}
+use Rattle.scene_geom.specs.declared.band.Band.TheVariants.{Hz63, Hz125, Hz250, Hz500, Hz1000, Hz2000, Hz4000, Hz8000}
+use Rattle.scene_geom.specs.Bands.{all_bands}
 use Rattle.path_shape.specs.Shape.{plan_length}
 use Rattle.term_barrier.specs.Diffraction.{c_3, at_one_edge, at_two_edges, path_difference, three_and, attenuation, ten_lg, single_limit, double_limit}
-use Rattle.term_barrier.specs.Prepared.{apart_of, two_edges}
-use Rattle.term_barrier.specs.Lateral.{steps, between_corners, last_corner, height_square, lateral_difference, side_attenuation}
+use Rattle.term_barrier.specs.Reaching.{apart_of, two_edges}
+use Rattle.term_barrier.specs.Lateral.{in_band, steps, between_corners, last_corner, height_square, lateral_difference, side_attenuation}
 
 -- a sum of formulas
 pub sum-is : (t : Tree) (ts : List Tree) → enc (fold Add t ts) ≡ fold add_of (enc t) (map enc ts)
@@ -56,3 +58,19 @@ last-end last here total f h = rw f at h
 pub two-known : (band : Band) (e z : Interval) → two_edges band (apart_of e) z ≡ enc (at_two_edges band (Known e) (Known z))
 unfolding at_two_edges c_3
 two-known band e z = refl
+
+-- ---- all bands
+
+pub in-bands : (f : Band → Interval) (band : Band) → in_band (map f all_bands) band ≡ f band
+in-bands f Hz63 = refl
+in-bands f Hz125 = refl
+in-bands f Hz250 = refl
+in-bands f Hz500 = refl
+in-bands f Hz1000 = refl
+in-bands f Hz2000 = refl
+in-bands f Hz4000 = refl
+in-bands f Hz8000 = refl
+
+-- what holds in each band holds in the list of all
+pub all-bands : (f g : Band → Interval) → ((band : Band) → f band ≡ g band) → map f all_bands ≡ map g all_bands
+all-bands f g same = rw (same Hz63, same Hz125, same Hz250, same Hz500, same Hz1000, same Hz2000, same Hz4000, same Hz8000) refl

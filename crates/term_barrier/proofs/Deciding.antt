@@ -1,12 +1,13 @@
 -- The greatest number under a logarithm, found one after another, decides what the greatest D_z is.
-use Rattle.std.proofs.Common.{◌≡◌, ℕ, ◌≤◌, ℤ, Bool, true, false, List, [], ◌∷◌, map, ap, sym, ◌∙◌, IfSome}
+use Rattle.std.proofs.Common.{◌≡◌, ℕ, ◌≤◌, ℤ, Bool, true, false, List, [], ◌∷◌, map, ap, sym, subst, refl, arith, ◌∙◌, IfSome}
 use Rattle.std.specs.Prelude.{Option, Some, None, IsSome, filter}
 use Rattle.std.specs.Option.{option_map}
 use Rattle.std.proofs.lemmas.Bool.{false≢true}
 use Rattle.fix_interval.specs.Interval.{Interval, IsInterval}
 use Rattle.fix_interval.specs.Values.{max_of, greater_high}
 use Rattle.fix_interval.proofs.Intervals.{IsInterval-max_of}
-use Rattle.term_barrier.specs.Prepared.{greater_of, greatest_from, Decides}
+use Rattle.term_barrier.specs.Diffraction.{double_limit}
+use Rattle.term_barrier.specs.Prepared.{greater_of, greatest_from, Decides, Numbered, are_marked, marked_values}
 use Rattle.term_barrier.proofs.OneLogarithm.{screens, screens-max}
 
 -- so far a number decides: with D_z of the rest behind, D_z of it gives the greatest of all
@@ -33,6 +34,18 @@ deciding-more limit number rest (Some best) total few whole h = record {
       ap (λ (i : Interval). greatest_from (Some i) rest) (screens-max limit best number few h.interval whole both.0 both.1)
       ∙ h.decides both.0;
 }
+
+-- a value whose number doesn't raise the greatest, marked or not
+pub deciding-passed : (marks : List Bool) (x : Numbered) (xs : List Numbered) (best number : Interval) (total : Option Interval)
+    → IsInterval number → x.2 ≡ screens double_limit number → max_of best number ≡ best
+    → Deciding double_limit (Some best) (marked_values marks (x ∷ xs)) total → Deciding double_limit (Some best) (marked_values marks xs) total
+deciding-passed marks x xs best number total whole is lesser h = by_mark (are_marked marks x) refl h where
+  by_mark : (mark : Bool) → are_marked marks x ≡ mark → Deciding double_limit (Some best) (marked_values marks (x ∷ xs)) total
+      → Deciding double_limit (Some best) (marked_values marks xs) total
+  by_mark true m h =
+      subst (λ (i : Interval). Deciding double_limit (Some i) (marked_values marks xs) total) lesser
+      (deciding-more double_limit number (marked_values marks xs) (Some best) total (omega arith) whole (rw (m, is) at h))
+  by_mark false m h = rw m at h
 
 -- of a list in which each thing that passes a test has a number: one that passes, and one that doesn't
 pub deciding-kept : {A : Type 0} (limit : ℕ) (f : A → Interval) (p : A → Bool) (x : A) (number : Interval) (here next : List A) (best more total : Option Interval)

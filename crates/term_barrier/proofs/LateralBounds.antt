@@ -28,7 +28,7 @@ use Rattle.scene_geom.specs.declared.band.Band.{Band}
 use Rattle.scene_geom.specs.declared.band.Band.TheVariants.{Hz63, Hz125, Hz250, Hz500, Hz1000, Hz2000, Hz4000, Hz8000}
 use Rattle.path_shape.specs.Shape.{plan_length}
 use Rattle.term_barrier.specs.Diffraction.{whole, c_2_by_wavelength, five_wavelengths_squared, c_3, path_difference, at_one_edge, at_two_edges, three_and, ten_lg, attenuation, single_limit, double_limit}
-use Rattle.term_barrier.specs.Prepared.{apart_of, two_edges}
+use Rattle.term_barrier.specs.Reaching.{apart_of, two_edges}
 use Rattle.term_barrier.specs.Lateral.{between_corners, last_corner, height_square}
 use Rattle.term_barrier.specs.Limits.{most_top, IsDistance}
 use Rattle.term_barrier.proofs.Lengths.{Near, near-length, near-sum, near-wider, near-corners, near-between}
@@ -67,45 +67,48 @@ difference-between length square d h k l =
 
 -- ---- C_3
 
--- a quotient of what is at most 2^20 times as great
+-- a quotient of what is at most m times as great
 ceil-exact : (k : ℤ) (d : ℕ) → 0 < d → ceil_of (k *ℤ pos d) d ≡ k
 ceil-exact k d some = subst (λ (n : ℕ). ceil_of (k *ℤ pos d) n ≡ k) (omega arith) (ceil_of-scaled k 1 d (omega arith) some ∙ ceil_of-one k)
 
-abbrev IsFactor : ℤ → Type 0
-IsFactor z = (pos 0 ≤ℤ z) × (z ≤ℤ pos (2 ^ 52))
+abbrev IsFactor : ℕ → ℤ → Type 0
+IsFactor m z = (pos 0 ≤ℤ z) × (z ≤ℤ pos (m * 2 ^ 32))
 
 floor-not_below : (n d : ℕ) → 0 < d → pos 0 ≤ℤ floor_of (pos n *ℤ pos unit) d
 floor-not_below n d some = omega (arith, ints)
 
-ceil-within : (n d : ℕ) → 0 < d → n ≤ 2 ^ 20 * d → ceil_of (pos n *ℤ pos unit) d ≤ℤ pos (2 ^ 52)
-ceil-within n d some h =
-    ≤ℤ_trans _ (ceil_of (pos (2 ^ 52) *ℤ pos d) d) _ (ceil_of-mono (pos n *ℤ pos unit) (pos (2 ^ 52) *ℤ pos d) d some (rw unit-is (omega (arith, ints))))
-    (rw (ceil-exact (pos (2 ^ 52)) d some) (omega (arith, ints)))
+ceil-within : (m n d : ℕ) → 0 < d → n ≤ m * d → ceil_of (pos n *ℤ pos unit) d ≤ℤ pos (m * 2 ^ 32)
+ceil-within m n d some h =
+    let order : n * 2 ^ 32 ≤ m * 2 ^ 32 * d = omega (arith, h) in
+    ≤ℤ_trans _ (ceil_of (pos (m * 2 ^ 32) *ℤ pos d) d) _
+    (ceil_of-mono (pos n *ℤ pos unit) (pos (m * 2 ^ 32) *ℤ pos d) d some (rw unit-is (omega (arith, ints, order))))
+    (rw (ceil-exact (pos (m * 2 ^ 32)) d some) (omega (arith, ints)))
 
-factors : (n d : ℕ) → 0 < d → n ≤ 2 ^ 20 * d → IsFactor (floor_of (pos n *ℤ pos unit) d) × IsFactor (ceil_of (pos n *ℤ pos unit) d)
-factors n d some h =
+factors : (m n d : ℕ) → 0 < d → n ≤ m * d → IsFactor m (floor_of (pos n *ℤ pos unit) d) × IsFactor m (ceil_of (pos n *ℤ pos unit) d)
+factors m n d some h =
     let low = floor-not_below n d some in
-    let high = ceil-within n d some h in
+    let high = ceil-within m n d some h in
     let order = floor_of-le-ceil_of (pos n *ℤ pos unit) d some in
     ((low, ≤ℤ_trans _ _ _ order high), (≤ℤ_trans _ _ _ low order, high))
 
-quotient-between : (al ah bl bh : ℕ) → 0 < bl → bl ≤ bh → al ≤ ah → ah < 2 ^ 94 → ah ≤ 2 ^ 20 * bl
-    → AreBetween (pos 0) (pos (2 ^ 52)) (quotient_of_ends (pos al) (pos ah) (pos bl) (pos bh))
-quotient-between al ah bl bh some order up small h =
-    let a = factors al bl some (omega arith) in
-    let b = factors al bh (omega arith) (omega arith) in
-    let c = factors ah bl some h in
-    let d = factors ah bh (omega arith) (omega arith) in
+quotient-between : (m al ah bl bh : ℕ) → 0 < bl → bl ≤ bh → al ≤ ah → ah < 2 ^ 94 → ah ≤ m * bl
+    → AreBetween (pos 0) (pos (m * 2 ^ 32)) (quotient_of_ends (pos al) (pos ah) (pos bl) (pos bh))
+quotient-between m al ah bl bh some order up small h =
+    let wide : m * bl ≤ m * bh = mul-le m bl m bh (omega arith) order in
+    let a = factors m al bl some (omega (arith, h, up)) in
+    let b = factors m al bh (omega (arith, some, order)) (omega (arith, h, up, wide)) in
+    let c = factors m ah bl some h in
+    let d = factors m ah bh (omega (arith, some, order)) (omega (arith, h, wide)) in
     rw (quotient_of_ends-positive (pos al) (pos ah) (pos bl) (pos bh) (omega (arith, ints)) (omega (arith, ints)) (omega (arith, ints)) (omega arith) (omega arith))
     (record {
-      lo = int_min-keeps IsFactor _ _ a.0 b.0;
-      hi = int_max-keeps IsFactor _ _ c.1 d.1;
+      lo = int_min-keeps (IsFactor m) _ _ a.0 b.0;
+      hi = int_max-keeps (IsFactor m) _ _ c.1 d.1;
     })
 
 -- ends that are naturals
-record Naturals (low high : ℕ) (i : Interval) : Type 0 where
-  lo_is : i.lo ≡ Some (pos low)
-  hi_is : i.hi ≡ Some (pos high)
+pub record Naturals (low high : ℕ) (i : Interval) : Type 0 where
+  pub lo_is : i.lo ≡ Some (pos low)
+  pub hi_is : i.hi ≡ Some (pos high)
 
 -- the square of e
 pub record Squared (e : Interval) : Type 0 where
@@ -208,36 +211,37 @@ third i low high n order few =
     }
 
 -- (5 λ)²
-record Waves (i : Interval) : Type 0 where
-  low : ℕ
-  high : ℕ
-  are : Naturals low high i
-  some : 2 ^ 27 ≤ low
-  ordered : low ≤ high
-  few : high ≤ 2 ^ 42
+pub record Waves (i : Interval) : Type 0 where
+  pub low : ℕ
+  pub high : ℕ
+  pub are : Naturals low high i
+  pub some : 2 ^ 27 ≤ low
+  pub ordered : low ≤ high
+  pub close : high ≤ low + 1
+  pub few : high ≤ 2 ^ 42
 
-waves : (band : Band) → Waves (enc (five_wavelengths_squared band))
+pub waves : (band : Band) → Waves (enc (five_wavelengths_squared band))
 unfolding five_wavelengths_squared ratio_of unit
-waves Hz63 = record { low = 2890000 * 2 ^ 32 / 3969; high = 2890000 * 2 ^ 32 / 3969 + 1; are = record { lo_is = refl; hi_is = refl }; some = lit≤ tt; ordered = lit≤ tt; few = lit≤ tt }
-waves Hz125 = record { low = 2890000 * 2 ^ 32 / 15625; high = 2890000 * 2 ^ 32 / 15625 + 1; are = record { lo_is = refl; hi_is = refl }; some = lit≤ tt; ordered = lit≤ tt; few = lit≤ tt }
-waves Hz250 = record { low = 2890000 * 2 ^ 32 / 62500; high = 2890000 * 2 ^ 32 / 62500 + 1; are = record { lo_is = refl; hi_is = refl }; some = lit≤ tt; ordered = lit≤ tt; few = lit≤ tt }
-waves Hz500 = record { low = 2890000 * 2 ^ 32 / 250000; high = 2890000 * 2 ^ 32 / 250000 + 1; are = record { lo_is = refl; hi_is = refl }; some = lit≤ tt; ordered = lit≤ tt; few = lit≤ tt }
-waves Hz1000 = record { low = 2890000 * 2 ^ 32 / 1000000; high = 2890000 * 2 ^ 32 / 1000000 + 1; are = record { lo_is = refl; hi_is = refl }; some = lit≤ tt; ordered = lit≤ tt; few = lit≤ tt }
-waves Hz2000 = record { low = 2890000 * 2 ^ 32 / 4000000; high = 2890000 * 2 ^ 32 / 4000000 + 1; are = record { lo_is = refl; hi_is = refl }; some = lit≤ tt; ordered = lit≤ tt; few = lit≤ tt }
-waves Hz4000 = record { low = 2890000 * 2 ^ 32 / 16000000; high = 2890000 * 2 ^ 32 / 16000000 + 1; are = record { lo_is = refl; hi_is = refl }; some = lit≤ tt; ordered = lit≤ tt; few = lit≤ tt }
-waves Hz8000 = record { low = 2890000 * 2 ^ 32 / 64000000; high = 2890000 * 2 ^ 32 / 64000000 + 1; are = record { lo_is = refl; hi_is = refl }; some = lit≤ tt; ordered = lit≤ tt; few = lit≤ tt }
+waves Hz63 = record { low = 2890000 * 2 ^ 32 / 3969; high = 2890000 * 2 ^ 32 / 3969 + 1; are = record { lo_is = refl; hi_is = refl }; some = lit≤ tt; ordered = lit≤ tt; close = lit≤ tt; few = lit≤ tt }
+waves Hz125 = record { low = 2890000 * 2 ^ 32 / 15625; high = 2890000 * 2 ^ 32 / 15625 + 1; are = record { lo_is = refl; hi_is = refl }; some = lit≤ tt; ordered = lit≤ tt; close = lit≤ tt; few = lit≤ tt }
+waves Hz250 = record { low = 2890000 * 2 ^ 32 / 62500; high = 2890000 * 2 ^ 32 / 62500 + 1; are = record { lo_is = refl; hi_is = refl }; some = lit≤ tt; ordered = lit≤ tt; close = lit≤ tt; few = lit≤ tt }
+waves Hz500 = record { low = 2890000 * 2 ^ 32 / 250000; high = 2890000 * 2 ^ 32 / 250000 + 1; are = record { lo_is = refl; hi_is = refl }; some = lit≤ tt; ordered = lit≤ tt; close = lit≤ tt; few = lit≤ tt }
+waves Hz1000 = record { low = 2890000 * 2 ^ 32 / 1000000; high = 2890000 * 2 ^ 32 / 1000000 + 1; are = record { lo_is = refl; hi_is = refl }; some = lit≤ tt; ordered = lit≤ tt; close = lit≤ tt; few = lit≤ tt }
+waves Hz2000 = record { low = 2890000 * 2 ^ 32 / 4000000; high = 2890000 * 2 ^ 32 / 4000000 + 1; are = record { lo_is = refl; hi_is = refl }; some = lit≤ tt; ordered = lit≤ tt; close = lit≤ tt; few = lit≤ tt }
+waves Hz4000 = record { low = 2890000 * 2 ^ 32 / 16000000; high = 2890000 * 2 ^ 32 / 16000000 + 1; are = record { lo_is = refl; hi_is = refl }; some = lit≤ tt; ordered = lit≤ tt; close = lit≤ tt; few = lit≤ tt }
+waves Hz8000 = record { low = 2890000 * 2 ^ 32 / 64000000; high = 2890000 * 2 ^ 32 / 64000000 + 1; are = record { lo_is = refl; hi_is = refl }; some = lit≤ tt; ordered = lit≤ tt; close = lit≤ tt; few = lit≤ tt }
 
-naturals-sum : (a b c d : ℕ) (i k : Interval) → Naturals a b i → Naturals c d k → a + c < 2 ^ 126 → b + d < 2 ^ 126 → Naturals (a + c) (b + d) (add_of i k)
+pub naturals-sum : (a b c d : ℕ) (i k : Interval) → Naturals a b i → Naturals c d k → a + c < 2 ^ 126 → b + d < 2 ^ 126 → Naturals (a + c) (b + d) (add_of i k)
 unfolding add_of
 naturals-sum a b c d i k m n low high =
     record { lo_is = rw (m.lo_is, n.lo_is) (end_of-small (pos a +ℤ pos c) (omega arith)); hi_is = rw (m.hi_is, n.hi_is) (end_of-small (pos b +ℤ pos d) (omega arith)) }
 
-naturals-quotient : (al ah bl bh : ℕ) (i k : Interval) → Naturals al ah i → Naturals bl bh k → 0 < bl → bl ≤ bh → al ≤ ah → ah < 2 ^ 94 → ah ≤ 2 ^ 20 * bl
-    → AreBetween (pos 0) (pos (2 ^ 52)) (div_of i k)
+pub naturals-quotient : (times al ah bl bh : ℕ) (i k : Interval) → Naturals al ah i → Naturals bl bh k → 0 < bl → bl ≤ bh → al ≤ ah → ah < 2 ^ 94 → ah ≤ times * bl
+    → AreBetween (pos 0) (pos (times * 2 ^ 32)) (div_of i k)
 unfolding div_of
-naturals-quotient al ah bl bh i k m n some order up small h =
-    subst (AreBetween (pos 0) (pos (2 ^ 52))) (sym (on_ends-bounded quotient_of_ends i k (pos al) (pos ah) (pos bl) (pos bh) (m.lo_is, m.hi_is) (n.lo_is, n.hi_is)))
-    (quotient-between al ah bl bh some order up small h)
+naturals-quotient times al ah bl bh i k m n some order up small h =
+    subst (AreBetween (pos 0) (pos (times * 2 ^ 32))) (sym (on_ends-bounded quotient_of_ends i k (pos al) (pos ah) (pos bl) (pos bh) (m.lo_is, m.hi_is) (n.lo_is, n.hi_is)))
+    (quotient-between times al ah bl bh some order up small h)
 
 c_3-between : (band : Band) (e : Interval) → Near (2 ^ 33) (2 ^ 62) e → AreBetween (pos 0) (pos (2 ^ 52)) (enc (c_3 band (Known e)))
 unfolding c_3
@@ -247,7 +251,7 @@ c_3-between band e near =
     let wave = waves band in
     let above = naturals-sum square.low square.high wave.low wave.high _ _ square.are wave.are (omega (arith, square.ordered, square.small, wave.ordered, wave.few)) (omega (arith, square.small, wave.few)) in
     let below = naturals-sum part.from part.to wave.low wave.high _ _ part.are wave.are (omega (arith, part.ordered, part.few, square.small, wave.ordered, wave.few)) (omega (arith, part.few, square.small, wave.few)) in
-    naturals-quotient (square.low + wave.low) (square.high + wave.high) (part.from + wave.low) (part.to + wave.high) _ _ above below
+    naturals-quotient (2 ^ 20) (square.low + wave.low) (square.high + wave.high) (part.from + wave.low) (part.to + wave.high) _ _ above below
     (omega (arith, wave.some)) (omega (arith, part.ordered, wave.ordered)) (omega (arith, square.ordered, wave.ordered)) (omega (arith, square.small, wave.few))
     (omega (arith, square.close, part.some, wave.some, wave.few))
 

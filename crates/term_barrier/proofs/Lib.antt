@@ -15,3 +15,6 @@ pub mod Fitting
 pub mod Slants
 pub mod OneLogarithm
 pub mod Deciding
+pub mod Raising
+pub mod Reaching
+pub mod Passing

@@ -41,6 +41,19 @@ pub left-pairs : {A : Type 0} (f : A × A → Interval) (p : A → Bool) (x : A)
     → greatest_from best (map f (pairs_of (filter p here))) ≡ total → greatest_from more (map f (pairs_of (filter p next))) ≡ total
 left-pairs f p x here next best more total e t m h = rw m (rw (e, t) at h)
 
+-- the pairs of an item with the first of some, where that counts
+pub kept-both : {A : Type 0} (f : A × A → Interval) (p : A → Bool) (x y : A) (here next : List A) (best more total : Option Interval)
+    → here ≡ y ∷ next → p y ≡ true → more ≡ greater_of (greater_of best (f (x, y))) (f (y, x))
+    → greatest_from best (map f (flat_map (both_ways x) (filter p here))) ≡ total
+    → greatest_from more (map f (flat_map (both_ways x) (filter p next))) ≡ total
+kept-both f p x y here next best more total e t m h = rw m (rw (e, t) at h)
+
+pub left-both : {A : Type 0} (f : A × A → Interval) (p : A → Bool) (x y : A) (here next : List A) (best more total : Option Interval)
+    → here ≡ y ∷ next → p y ≡ false → more ≡ best
+    → greatest_from best (map f (flat_map (both_ways x) (filter p here))) ≡ total
+    → greatest_from more (map f (flat_map (both_ways x) (filter p next))) ≡ total
+left-both f p x y here next best more total e t m h = rw m (rw (e, t) at h)
+
 -- of marked items: one that is marked, and one that isn't
 pub marked-kept : {A : Type 0} (marks : List Bool) (xs : List A) (i : ℕ) (x : A) → drop i xs ≡ x ∷ drop (i + 1) xs → is_marked marks i ≡ true
     → marked (drop i marks) (drop i xs) ≡ x ∷ marked (drop (i + 1) marks) (drop (i + 1) xs)

@@ -1,6 +1,6 @@
 -- What a band makes of marked edges that were prepared is what it makes of these edges alone.
 use Rattle.std.proofs.Common.{◌≡◌, ℕ, suc, ap, sym, refl, ◌∙◌, Bool, true, false, List, [], ◌∷◌, map, drop}
-use Rattle.std.specs.Prelude.{filter, if◌then◌else◌, Option, None}
+use Rattle.std.specs.Prelude.{filter, if◌then◌else◌, Option, Some, None, IsSomeAnd}
 use Rattle.std.specs.List.{All, AllByRecursion}
 use Rattle.std.proofs.lemmas.List.Elements.{recursion_from_All}
 use Rattle.fix_interval.specs.Interval.{Interval}
@@ -10,10 +10,10 @@ use Rattle.scene_parts.specs.declared.edge.Edge.{Edge}
 use Rattle.path_shape.specs.declared.path.Path.{Path}
 use Rattle.term_barrier.specs.declared.single.Single.{Single}
 use Rattle.term_barrier.specs.declared.joined.Joined.{Joined}
-use Rattle.term_barrier.specs.Diffraction.{at_one_edge, attenuation, ten_lg}
+use Rattle.term_barrier.specs.Diffraction.{at_one_edge, attenuation, ten_lg, double_limit}
 use Rattle.term_barrier.specs.Edges.{single_argument}
-use Rattle.term_barrier.specs.Screening.{Passing, edges_above, marked, pairs_of, screening}
-use Rattle.term_barrier.specs.Prepared.{single_of, known_argument, known_single, single_is_above, single_value, argument_value, both_value, risen, edges_in, is_marked, joined_value, numbered_value, are_marked, marked_values, Numbered, IsSingle, ArePrepared, greatest_from, best_marked, best_over, best_argument, screened_by}
+use Rattle.term_barrier.specs.Screening.{Passing, is_above, edges_above, marked, pairs_of, screening}
+use Rattle.term_barrier.specs.Prepared.{single_of, known_argument, known_single, single_is_above, single_value, argument_value, both_value, joint_value, risen, rising_from, edges_in, is_marked, joined_value, numbered_value, are_marked, marked_values, Numbered, IsSingle, IsRaised, IsDecided, ArePrepared, greatest_from, best_alone, best_marked, best_over, best_argument, screened_by}
 use Rattle.term_barrier.proofs.Screened.{screening-is}
 use Rattle.term_barrier.proofs.Lists.{map-map, map-same, filter-map, both, each, filter-pairs, map-pairs, marked-map, marked-none, marked-step}
 
@@ -79,11 +79,19 @@ pairs-marked path d band marks edges =
     ∙ ap (map (both_value path d band)) (map-pairs edge_in (filter (is_numbered marks) (risen 0 edges)))
     ∙ ap (λ edges. map (both_value path d band) (pairs_of edges)) (risen-marked marks 0 edges)
 
-pub pairs-known : (path : Path) (d : Interval) (singles : List Single) (pairs : List Joined) (band : Band) (marks : List Bool)
-    → ArePrepared path d singles pairs
-    → marked_values marks (map (joined_value band) pairs) ≡ map (both_value path d band) (pairs_of (edges_above (marked marks (edges_in singles))))
-pairs-known path d singles pairs band marks h =
-    ap (marked_values marks) (h.pairs_are band) ∙ pairs-marked path d band marks (edges_in singles)
+abbrev edge_of : Single → Edge
+edge_of single = single.bend.edge
+
+-- the pairs of what was prepared are those of the edges
+rising-known : (path : Path) (d : Interval) (band : Band) (marks : List Bool) (singles : List Single)
+    → map (joint_value path d band) (pairs_of (rising_from 0 marks singles))
+    ≡ map (both_value path d band) (pairs_of (edges_above (marked marks (edges_in singles))))
+rising-known path d band marks singles =
+    let rising = filter single_is_above (marked marks singles) in
+    sym (map-map (both_value path d band) (each edge_of) (pairs_of rising))
+    ∙ ap (map (both_value path d band)) (map-pairs edge_of rising)
+    ∙ ap (λ edges. map (both_value path d band) (pairs_of edges))
+    (sym (filter-map is_above edge_of (marked marks singles)) ∙ ap edges_above (sym (marked-map edge_of marks singles)))
 
 -- what was prepared of edges alone is that of its own edges
 pub singles-are : (path : Path) (d : Interval) (singles : List Single) → All (IsSingle path d) singles → singles ≡ map (single_of path d) (edges_in singles)
@@ -97,13 +105,28 @@ singles-are path d singles h = along singles (recursion_from_All (IsSingle path 
 
 -- ---- what is greatest
 
-pub over-known : (path : Path) (d : Interval) (singles : List Single) (pairs : List Joined) (band : Band) (marks : List Bool)
-    → ArePrepared path d singles pairs → best_marked band marks singles pairs ≡ best_over path d band (marked marks (edges_in singles))
-over-known path d singles pairs band marks h =
+pub over-known : (path : Path) (d : Interval) (singles : List Single) (band : Band) (marks : List Bool)
+    → All (IsSingle path d) singles → best_marked path d band marks singles ≡ best_over path d band (marked marks (edges_in singles))
+over-known path d singles band marks h =
     let edges = edges_in singles in
-    let first = ap (λ (singles : List Single). map (known_single band) (filter single_is_above (marked marks singles))) (singles-are path d singles h.singles_are) ∙ singles-known path d band marks edges in
-    ap (λ (from : Option Interval). greatest_from from (marked_values marks (map (joined_value band) pairs))) (ap (greatest_from None) first)
-    ∙ ap (greatest_from (greatest_from None (map (single_value path d band) (edges_above (marked marks edges))))) (pairs-known path d singles pairs band marks h)
+    let first = ap (λ (singles : List Single). map (known_single band) (filter single_is_above (marked marks singles))) (singles-are path d singles h) ∙ singles-known path d band marks edges in
+    ap (λ (from : Option Interval). greatest_from from (map (joint_value path d band) (pairs_of (rising_from 0 marks singles)))) (ap (greatest_from None) first)
+    ∙ ap (greatest_from (greatest_from None (map (single_value path d band) (edges_above (marked marks edges))))) (rising-known path d band marks singles)
+
+-- where the pairs that were kept decide, so do all pairs
+pub decided-all : (path : Path) (d : Interval) (singles : List Single) (pairs : List Joined) (band : Band) (marks : List Bool) (number : Interval)
+    → ArePrepared path d singles pairs → IsDecided band marks singles pairs number
+    → Some (enc (attenuation double_limit (Known number))) ≡ best_marked path d band marks singles
+decided-all path d singles pairs band marks number h k = by_best (best_alone band marks singles) refl k where
+  by_best : (best : Option Interval) → best_alone band marks singles ≡ best
+      → IsSomeAnd best (λ best. IsRaised best
+      × (greatest_from (Some best) (marked_values marks (map (joined_value band) pairs)) ≡ Some (enc (attenuation double_limit (Known number)))))
+      → Some (enc (attenuation double_limit (Known number))) ≡ best_marked path d band marks singles
+  by_best None e k = absurd k
+  by_best (Some best) e k =
+      sym k.1 ∙ h.pairs_are band marks best k.0
+      ∙ ap (greatest_from (Some best)) (pairs-marked path d band marks (edges_in singles) ∙ sym (rising-known path d band marks singles))
+      ∙ ap (λ (from : Option Interval). greatest_from from (map (joint_value path d band) (pairs_of (rising_from 0 marks singles)))) (sym e)
 
 pub argument-over : (path : Path) (d : Interval) (singles : List Single) (band : Band) (marks : List Bool) → All (IsSingle path d) singles
     → greatest_from None (map (known_argument band) (marked marks singles)) ≡ best_argument path d band (marked marks (edges_in singles))
@@ -115,12 +138,12 @@ argument-over path d singles band marks h =
 pub screened-known : (now : Passing) (path : Path) (d gr : Interval) (singles : List Single) (pairs : List Joined) (band : Band) (marks : List Bool)
     (best argument : Option Interval) → ArePrepared path d singles pairs
     → record { path = path; edges = edges_in singles; d = d } ≡ now
-    → best ≡ best_marked band marks singles pairs
+    → best ≡ best_marked path d band marks singles
     → argument ≡ greatest_from None (map (known_argument band) (marked marks singles))
     → screened_by best argument gr ≡ enc (screening now.path (Known now.path.dp) (marked marks now.edges) (Known now.d) (Known gr) band)
 screened-known now path d gr singles pairs band marks best argument h view b g =
     let edges = marked marks (edges_in singles) in
-    ap (λ (best : Option Interval). screened_by best argument gr) (b ∙ over-known path d singles pairs band marks h)
+    ap (λ (best : Option Interval). screened_by best argument gr) (b ∙ over-known path d singles band marks h.singles_are)
     ∙ ap (λ (argument : Option Interval). screened_by (best_over path d band edges) argument gr) (g ∙ argument-over path d singles band marks h.singles_are)
     ∙ sym (screening-is path d gr band edges)
     ∙ ap (λ (v : Passing). enc (screening v.path (Known v.path.dp) (marked marks v.edges) (Known v.d) (Known gr) band)) view

@@ -23,6 +23,7 @@ use Rattle.enclose_log.proofs.LgInterval.{lg_of-ends}
 use Rattle.enclose_log.proofs.Monotone.{lg_low-mono, lg_high-mono}
 use Rattle.enclose_log.proofs.Value.{lg-ordered, lg_high-within, lg_low-from_one}
 use Rattle.term_barrier.specs.Diffraction.{whole, ten_lg, attenuation, single_limit, double_limit}
+use Rattle.term_barrier.specs.Prepared.{IsRaised}
 
 -- D_z of a number that stands under the logarithm
 abbrev pub screens : ℕ → Interval → Interval
@@ -272,8 +273,8 @@ screens-capped b h k =
 
 -- ---- what doesn't screen
 
-limited-from : (log : ℕ → ℤ) → Grows log → log (2 ^ 32) ≡ pos 0 → (n : ℕ) → IsNumber n → pos 0 ≤ℤ limited double_limit (log n)
-limited-from log grows one n h = let le = grows (2 ^ 32) n (omega arith) h.from_one h.small in omega (arith, ints, clamps, one, le)
+limited-from : (limit : ℕ) (log : ℕ → ℤ) → Grows log → log (2 ^ 32) ≡ pos 0 → (n : ℕ) → IsNumber n → pos 0 ≤ℤ limited limit (log n)
+limited-from limit log grows one n h = let le = grows (2 ^ 32) n (omega arith) h.from_one h.small in omega (arith, ints, clamps, one, le)
 
 hull-zero : (low high : ℤ) → pos 0 ≤ℤ low → pos 0 ≤ℤ high → between (int_min low (pos 0)) (int_max high (pos 0)) ≡ between (pos 0) high
 hull-zero low high h k =
@@ -308,8 +309,8 @@ hull-screens low (Some high) h =
       same-number high,
       one-low,
     )
-    (hull-zero _ _ (limited-from lg_low lg_low-mono one-low (number low) (number-is low h.low_end))
-    (limited-from lg_high lg_high-mono one-high (counted high) (number-is (Some high) h.high_end)))
+    (hull-zero _ _ (limited-from double_limit lg_low lg_low-mono one-low (number low) (number-is low h.low_end))
+    (limited-from double_limit lg_high lg_high-mono one-high (counted high) (number-is (Some high) h.high_end)))
 
 pub screens-one : enc (whole 0) ≡ screens double_limit (enc (whole 1))
 screens-one =
@@ -324,3 +325,19 @@ unfolding pick_of
 screens-picked Sure b h = refl
 screens-picked Never b h = screens-one
 screens-picked Unsure b h = hull-screens b.lo b.hi h
+
+-- ---- 0 dB
+
+greatest-zero : (low high : ℤ) → pos 0 ≤ℤ low → pos 0 ≤ℤ high → between (int_max low (pos 0)) (int_max high (pos 0)) ≡ between low high
+greatest-zero low high h k =
+    let least : int_max low (pos 0) ≡ low = omega (arith, ints, clamps) in
+    let most : int_max high (pos 0) ≡ high = omega (arith, ints, clamps) in
+    ap (λ (z : ℤ). between z (int_max high (pos 0))) least ∙ ap (between low) most
+
+-- D_z of a number whose high end is bounded isn't below 0 dB at either end
+pub screens-raised : (limit : ℕ) (b : Interval) → limit ≤ 25 → IsInterval b → IsSome b.hi → IsRaised (screens limit b)
+unfolding max_of
+screens-raised limit b few h k =
+    rw (screens-is limit b few h k, whole-is 0 (omega arith))
+    (greatest-zero _ _ (limited-from limit lg_low lg_low-mono one-low (number b.lo) (number-is b.lo h.low_end))
+    (limited-from limit lg_high lg_high-mono one-high (number b.hi) (number-is b.hi h.high_end)))

@@ -1,5 +1,5 @@
 -- Two edges, and whether sound bends over both.
-use Rattle.std.proofs.Common.{◌≡◌, ℤ, ap, sym, refl, ◌∙◌, arith}
+use Rattle.std.proofs.Common.{◌≡◌, ℤ, ap, sym, subst, refl, ◌∙◌, arith}
 use Rattle.std.specs.Prelude.{Option, Some, None}
 use Rattle.std.proofs.lemmas.Int.{ints, clamps}
 use Rattle.fix_interval.specs.Units.{unit}
@@ -7,14 +7,16 @@ use Rattle.fix_interval.specs.Interval.{Interval}
 use Rattle.fix_interval.specs.Values.{ratio_of, hull_of, pick_of, lesser_low, greater_high}
 use Rattle.fix_interval.specs.declared.truth.Truth.{Truth}
 use Rattle.fix_interval.specs.declared.truth.Truth.TheVariants.{Sure, Never, Unsure}
-use Rattle.fix_interval.specs.Tree.{Tree, Known, enc}
+use Rattle.fix_interval.specs.Tree.{Tree, Known, Mul, enc}
 use Rattle.scene_geom.specs.declared.band.Band.{Band}
 use Rattle.scene_parts.specs.declared.edge.Edge.{Edge}
 use Rattle.path_shape.specs.declared.path.Path.{Path}
-use Rattle.term_barrier.specs.declared.pair.Pair.{Pair}
-use Rattle.term_barrier.specs.Diffraction.{whole, attenuation, ten_lg, at_two_edges, c_3, double_limit}
-use Rattle.term_barrier.specs.Edges.{across, edge_to_edge, pair_difference, pair_k, pair_argument, where_convex}
-use Rattle.term_barrier.specs.Prepared.{both_of, apart_of, IsConvexity, IsPair, known_pair}
+use Rattle.term_barrier.specs.declared.bend.Bend.{Bend}
+use Rattle.term_barrier.specs.declared.apart.Apart.{Apart}
+use Rattle.term_barrier.specs.Diffraction.{whole, three_and, attenuation, ten_lg, at_two_edges, c_3, double_limit}
+use Rattle.term_barrier.specs.Edges.{across, edge_to_edge, pair_difference, pair_k, pair_argument, pair_attenuation, where_convex}
+use Rattle.term_barrier.specs.Reaching.{apart_of, two_edges}
+use Rattle.term_barrier.specs.Prepared.{bend_of, both_of, convexity_of, IsConvexity, IsNoPair}
 
 -- ---- choices
 
@@ -45,9 +47,15 @@ pick-both Unsure Sure i = refl
 pick-both Unsure Never i = sym hull-zero
 pick-both Unsure Unsure i = sym (hull-twice i (enc (whole 0)))
 
-pub never-picked : (convex : Truth) (i k : Interval) → convex ≡ Never → pick_of convex i (enc (whole 0)) ≡ pick_of convex k (enc (whole 0))
+never-picked : (convex : Truth) (i k : Interval) → convex ≡ Never → pick_of convex i k ≡ k
 unfolding pick_of
 never-picked convex i k e = rw e refl
+
+-- what never holds beside what may
+pub both-never : (a : Truth) → both_of a Never ≡ Never
+both-never Sure = refl
+both-never Never = refl
+both-never Unsure = refl
 
 -- ---- pairs
 
@@ -56,28 +64,40 @@ known-quantity : (path : Path) (first second : Edge) (t : Tree)
 unfolding where_convex
 known-quantity path first second t = refl
 
+-- whether sound bends over both, as it was found
+convexity-is : (path : Path) (first second : Edge) → IsConvexity path first second (convexity_of (bend_of path first) (bend_of path second))
+unfolding where_convex
+convexity-is path first second = λ quantity. rw (pick-both, pick-both) refl
+
 abbrev its_attenuation : Path → Edge → Edge → Interval → Band → Tree
 its_attenuation path first second d band = attenuation double_limit (pair_argument path first second (Known d) band)
 
-its-known : (path : Path) (d : Interval) (first second : Edge) (pair : Pair) (band : Band)
-    → pair.apart ≡ apart_of (enc (edge_to_edge (across first) first second))
-    → pair.z ≡ enc (pair_difference path first second (Known d)) → pair.k ≡ enc (pair_k path first second (Known d))
-    → known_pair pair band ≡ enc (its_attenuation path first second d band)
+its-known : (path : Path) (d : Interval) (first second : Edge) (apart : Apart) (z k : Interval) (band : Band)
+    → apart ≡ apart_of (enc (edge_to_edge (across first) first second))
+    → z ≡ enc (pair_difference path first second (Known d)) → k ≡ enc (pair_k path first second (Known d))
+    → enc (attenuation double_limit (three_and (Mul (Known (two_edges band apart z)) (Known k)))) ≡ enc (its_attenuation path first second d band)
 unfolding attenuation ten_lg at_two_edges c_3 pair_argument
-its-known path d first second pair band e z k = rw (e, z, k) refl
+its-known path d first second apart z k band e f g = rw (e, f, g) refl
 
-pub pair-is : (path : Path) (d : Interval) (first second : Edge) (pair : Pair) → IsConvexity path first second pair.convex
-    → pair.apart ≡ apart_of (enc (edge_to_edge (across first) first second))
-    → pair.z ≡ enc (pair_difference path first second (Known d)) → pair.k ≡ enc (pair_k path first second (Known d))
-    → IsPair path d first second pair
-pair-is path d first second pair convex e z k = λ band.
-    convex (known_pair pair band)
-    ∙ ap (λ (i : Interval). enc (where_convex path (Known path.dp) first second (Known i))) (its-known path d first second pair band e z k)
+pub convexity-from : (path : Path) (first second : Bend) (convex : Truth) → first ≡ bend_of path first.edge → second ≡ bend_of path second.edge
+    → convex ≡ convexity_of first second → IsConvexity path first.edge second.edge convex
+convexity-from path first second convex e f is =
+    subst (IsConvexity path first.edge second.edge)
+    (ap (λ (bend : Bend). convexity_of bend (bend_of path second.edge)) (sym e) ∙ ap (convexity_of first) (sym f) ∙ sym is)
+    (convexity-is path first.edge second.edge)
+
+pub pair-is : (path : Path) (d : Interval) (first second : Edge) (convex : Truth) (apart : Apart) (z k : Interval) → IsConvexity path first second convex
+    → apart ≡ apart_of (enc (edge_to_edge (across first) first second))
+    → z ≡ enc (pair_difference path first second (Known d)) → k ≡ enc (pair_k path first second (Known d)) → (band : Band)
+    → pick_of convex (enc (attenuation double_limit (three_and (Mul (Known (two_edges band apart z)) (Known k))))) (enc (whole 0))
+    ≡ enc (pair_attenuation path (Known path.dp) first second (Known d) band)
+pair-is path d first second convex apart z k is e f g = λ band.
+    is (enc (attenuation double_limit (three_and (Mul (Known (two_edges band apart z)) (Known k)))))
+    ∙ ap (λ (i : Interval). enc (where_convex path (Known path.dp) first second (Known i))) (its-known path d first second apart z k band e f g)
     ∙ known-quantity path first second (its_attenuation path first second d band)
 
-pub pair-never : (path : Path) (d : Interval) (first second : Edge) (pair : Pair) → IsConvexity path first second pair.convex
-    → pair.convex ≡ Never → IsPair path d first second pair
-pair-never path d first second pair convex never = λ band.
+pub pair-never : (path : Path) (d : Interval) (first second : Edge) (convex : Truth) → IsConvexity path first second convex → convex ≡ Never
+    → IsNoPair path d first second
+pair-never path d first second convex is never = λ band.
     let quantity = its_attenuation path first second d band in
-    never-picked pair.convex (known_pair pair band) (enc quantity) never ∙ convex (enc quantity)
-    ∙ known-quantity path first second quantity
+    sym (known-quantity path first second quantity) ∙ sym (is (enc quantity)) ∙ never-picked convex (enc quantity) (enc (whole 0)) never

@@ -1,10 +1,12 @@
 -- The attenuation by screening round vertical edges (ISO 9613-2, 7.4, equations 13 to 17), in dB: sound goes from the
 -- source round the corners of a chain to the receiver. K_met is 1 there.
-use Rattle.std.specs.Prelude.{ℕ, ◌*◌, pos, List, [], ◌∷◌, fold}
+use Rattle.std.specs.Prelude.{ℕ, ◌*◌, pos, List, [], ◌∷◌, fold, map, get_or}
 use Rattle.std.specs.Int.{abs_diff}
-use Rattle.fix_interval.specs.Tree.{Tree, Const, Add}
+use Rattle.fix_interval.specs.Interval.{Interval, All}
+use Rattle.fix_interval.specs.Tree.{Tree, Known, Const, Add, enc}
 use Rattle.scene_geom.specs.declared.plan.Pt.{Pt}
 use Rattle.scene_geom.specs.declared.band.Band.{Band}
+use Rattle.scene_geom.specs.Bands.{all_bands, place_of}
 use Rattle.path_shape.specs.Shape.{plan_length}
 use Rattle.term_barrier.specs.Diffraction.{whole, path_difference, at_one_edge, at_two_edges, three_and, attenuation, single_limit, double_limit}
 
@@ -41,3 +43,11 @@ side_attenuation s hs r hr (corner ∷ []) d band =
 side_attenuation s hs r hr (first ∷ second ∷ others) d band =
     let z = lateral_difference s hs r hr first (second ∷ others) d in
     attenuation double_limit (three_and (at_two_edges band (between_corners first (second ∷ others)) z))
+
+-- D_z round the corners in each band, from the lowest
+abbrev pub side_attenuations : Pt → ℕ → Pt → ℕ → List Pt → Interval → List Interval
+side_attenuations s hs r hr corners d = map (λ band. enc (side_attenuation s hs r hr corners (Known d) band)) all_bands
+
+-- what stands for a band among such values
+abbrev pub in_band : List Interval → Band → Interval
+in_band values band = get_or values (place_of band) All

@@ -4,4 +4,5 @@ pub mod Screening
 pub mod Lateral
 pub mod Laws
 pub mod Limits
+pub mod Reaching
 pub mod Prepared

@@ -1,22 +1,22 @@
 -- Scaffolding between the code and the definitions: what the bands of a path share, as the code keeps it, and the
 -- greatest of intervals that are found one after another.
-use Rattle.std.specs.Prelude.{◌≡◌, ℕ, suc, List, [], ◌∷◌, ◌++◌, map, filter, Bool, false, ◌&&◌, Option, Some, None, IsSome, unwrap_or, slice_get}
+use Rattle.std.specs.Prelude.{◌≡◌, ℕ, pos, suc, List, [], ◌∷◌, ◌++◌, map, filter, drop, Bool, false, ◌&&◌, Option, Some, None, IsSome, IsSomeAnd, unwrap_or, slice_get}
 use Rattle.std.specs.List.{All}
-use Rattle.fix_interval.specs.Interval.{Interval}
-use Rattle.fix_interval.specs.Values.{max_of, pick_of}
+use Rattle.fix_interval.specs.Interval.{Interval, IsInterval}
+use Rattle.fix_interval.specs.Values.{max_of, mul_of, less_of, pick_of}
 use Rattle.fix_interval.specs.declared.truth.Truth.{Truth}
 use Rattle.fix_interval.specs.declared.truth.Truth.TheVariants.{Sure, Never, Unsure}
-use Rattle.fix_interval.specs.Tree.{Known, Add, Mul, Div, enc}
+use Rattle.fix_interval.specs.Tree.{Known, Const, Add, Sub, Mul, Root, enc}
 use Rattle.scene_geom.specs.declared.band.Band.{Band}
 use Rattle.scene_parts.specs.declared.edge.Edge.{Edge}
 use Rattle.path_shape.specs.declared.path.Path.{Path}
-use Rattle.term_barrier.specs.declared.apart.Apart.{Apart}
 use Rattle.term_barrier.specs.declared.bend.Bend.{Bend}
 use Rattle.term_barrier.specs.declared.single.Single.{Single}
 use Rattle.term_barrier.specs.declared.pair.Pair.{Pair}
 use Rattle.term_barrier.specs.declared.joined.Joined.{Joined}
-use Rattle.term_barrier.specs.Diffraction.{whole, c_2_by_wavelength, five_wavelengths_squared, at_one_edge, three_and, attenuation, single_limit, double_limit}
-use Rattle.term_barrier.specs.Edges.{FitsEdge, across, beside, place, source_to_edge, single_difference, single_k, single_argument, where_convex, pair_attenuation}
+use Rattle.term_barrier.specs.Diffraction.{whole, at_one_edge, three_and, attenuation, single_limit, double_limit}
+use Rattle.term_barrier.specs.Edges.{FitsEdge, across, beside, place, rest, rise, distance_to, source_to_edge, single_difference, single_k, single_argument, where_convex, pair_attenuation}
+use Rattle.term_barrier.specs.Reaching.{two_edges}
 use Rattle.term_barrier.specs.Screening.{is_above, edges_above, marked, pairs_of, less_ground, grazing}
 
 -- ---- edges
@@ -26,10 +26,20 @@ abbrev pub bend_of : Path → Edge → Bend
 bend_of path edge = record {
   edge = edge;
   place = enc (place edge);
+  rest = enc (rest edge);
+  before = enc (distance_to (Known path.dp) edge);
+  behind = enc (Sub (Known path.dp) (distance_to (Known path.dp) edge));
+  height = enc (Const (pos edge.h) 1000);
+  over_source = enc (rise edge.h path.hs);
+  over_receiver = enc (rise edge.h path.hr);
   x = enc (across edge);
-  y = enc (beside edge);
+  y_square = enc (Mul (beside edge) (beside edge));
   d_ss = enc (source_to_edge path (across edge) edge);
 }
+
+-- the length of a way that is so long in plan and rises so much
+abbrev pub slant_of : Interval → Interval → Interval
+slant_of length rise = enc (Root (Add (Mul (Known length) (Known length)) (Mul (Known rise) (Known rise))))
 
 -- and z and K_met of the edge alone
 abbrev pub single_of : Path → Interval → Edge → Single
@@ -60,30 +70,22 @@ both_of Unsure Never = Never
 both_of Unsure Sure = Unsure
 both_of Unsure Unsure = Unsure
 
--- whether sound bends over both edges, by what that picks
+-- whether sound bends over both edges, from how the path passes each
+abbrev pub convexity_of : Bend → Bend → Truth
+convexity_of first second =
+    both_of
+    (less_of first.before second.before)
+    (both_of
+    (less_of (mul_of second.over_source first.before) (mul_of first.over_source second.before))
+    (less_of (mul_of first.over_receiver second.behind) (mul_of second.over_receiver first.behind)))
+
+-- the same, by what that picks
 abbrev pub IsConvexity : Path → Edge → Edge → Truth → Type 0
 IsConvexity path first second convex =
     (quantity : Interval)
     → pick_of convex quantity (enc (whole 0)) ≡ enc (where_convex path (Known path.dp) first second (Known quantity))
 
--- what C_3 takes of the distance e between two edges, and C_3 and (C_2 / λ) C_3 z from it
-abbrev pub apart_of : Interval → Apart
-apart_of e = record {
-  square = enc (Mul (Known e) (Known e));
-  third = enc (Div (Mul (Known e) (Known e)) (whole 3));
-}
-
-abbrev pub known_c_3 : Band → Apart → Interval
-known_c_3 band apart =
-    enc
-    (Div
-    (Add (Known apart.square) (five_wavelengths_squared band))
-    (Add (Known apart.third) (five_wavelengths_squared band)))
-
-abbrev pub two_edges : Band → Apart → Interval → Interval
-two_edges band apart z = enc (Mul (Mul (c_2_by_wavelength band) (Known (known_c_3 band apart))) (Known z))
-
--- D_z of two edges of which that, z and K_met are known
+-- D_z of two edges of which e, z and K_met are known
 abbrev pub known_pair : Pair → Band → Interval
 known_pair pair band =
     enc (attenuation double_limit (three_and (Mul (Known (two_edges band pair.apart pair.z)) (Known pair.k))))
@@ -96,6 +98,11 @@ pair_value pair band = pick_of pair.convex (known_pair pair band) (enc (whole 0)
 abbrev pub IsPair : Path → Interval → Edge → Edge → Pair → Type 0
 IsPair path d first second pair =
     (band : Band) → pair_value pair band ≡ enc (pair_attenuation path (Known path.dp) first second (Known d) band)
+
+-- sound never bends over both: D_z is 0 in every band
+abbrev pub IsNoPair : Path → Interval → Edge → Edge → Type 0
+IsNoPair path d first second =
+    (band : Band) → enc (pair_attenuation path (Known path.dp) first second (Known d) band) ≡ enc (whole 0)
 
 -- ---- the greatest
 
@@ -112,6 +119,13 @@ greatest_from best (next ∷ others) = greatest_from (greater_of best next) othe
 -- where its high end is bounded, a number under the logarithm decides what is greatest: that is D_z of the number
 abbrev pub Decides : ℕ → Interval → Option Interval → Type 0
 Decides limit number best = IsSome number.hi → best ≡ Some (enc (attenuation limit (Known number)))
+
+-- a number decides what D_z of two edges is, and doesn't raise the greatest so far
+pub record Passes (best : Interval) (band : Band) (pair : Pair) : Type 0 where
+  pub number : Interval
+  pub interval : IsInterval number
+  pub decides : pair_value pair band ≡ enc (attenuation double_limit (Known number))
+  pub lesser : max_of best number ≡ best
 
 -- D_z of an edge alone, what stands under its logarithm, and D_z of two edges
 abbrev pub single_value : Path → Interval → Band → Edge → Interval
@@ -182,20 +196,54 @@ are_marked marks pair = is_marked marks pair.0 && is_marked marks pair.1
 abbrev pub marked_values : List Bool → List Numbered → List Interval
 marked_values marks pairs = map (λ pair. pair.2) (filter (are_marked marks) pairs)
 
--- the greatest attenuation of marked edges alone that rise above the line of sight, and with all pairs of marked edges
+-- the greatest attenuation of marked edges alone that rise above the line of sight
 abbrev pub best_alone : Band → List Bool → List Single → Option Interval
 best_alone band marks singles =
     greatest_from None (map (known_single band) (filter single_is_above (marked marks singles)))
 
-abbrev pub best_marked : Band → List Bool → List Single → List Joined → Option Interval
-best_marked band marks singles pairs =
-    greatest_from (best_alone band marks singles) (marked_values marks (map (joined_value band) pairs))
+-- the marked edges from one on that rise above the line of sight
+abbrev pub rising_from : ℕ → List Bool → List Single → List Single
+rising_from n marks singles = filter single_is_above (marked (drop n marks) (drop n singles))
 
--- what was prepared of some pairs stands behind the rest
+-- D_z of two edges that were prepared
+abbrev pub joint_value : Path → Interval → Band → Single × Single → Interval
+joint_value path d band pair = both_value path d band (pair.0.bend.edge, pair.1.bend.edge)
+
+-- the greatest attenuation of marked edges alone and of each two of them
+abbrev pub best_marked : Path → Interval → Band → List Bool → List Single → Option Interval
+best_marked path d band marks singles =
+    greatest_from
+    (best_alone band marks singles)
+    (map (joint_value path d band) (pairs_of (rising_from 0 marks singles)))
+
+-- ---- pairs that were kept
+
+-- an attenuation that isn't below 0 dB at either end, so that one of 0 dB can't raise it
+abbrev pub IsRaised : Interval → Type 0
+IsRaised best = max_of best (enc (whole 0)) ≡ best
+
+-- some values stand for others: from 0 dB on they have the same greatest, whichever edges are marked
+abbrev pub StandFor : List Numbered → List Numbered → Type 0
+StandFor kept all =
+    (marks : List Bool) (best : Interval)
+    → IsRaised best
+    → greatest_from (Some best) (marked_values marks kept) ≡ greatest_from (Some best) (marked_values marks all)
+
+-- what is kept after some pairs stands for what was kept before and all of these
 abbrev pub Adds : Path → Interval → List Joined → List Joined → List ((ℕ × Edge) × (ℕ × Edge)) → Type 0
 Adds path d before after pairs =
     (band : Band)
-    → map (joined_value band) after ≡ map (joined_value band) before ++ map (numbered_value path d band) pairs
+    → StandFor (map (joined_value band) after)
+    (map (joined_value band) before ++ map (numbered_value path d band) pairs)
+
+-- with all pairs that were kept, D_z of a number is the greatest, and so it is with those that these stand for
+abbrev pub IsDecided : Band → List Bool → List Single → List Joined → Interval → Type 0
+IsDecided band marks singles pairs number =
+    IsSomeAnd
+    (best_alone band marks singles)
+    (λ best. IsRaised best
+    × (greatest_from (Some best) (marked_values marks (map (joined_value band) pairs))
+    ≡ Some (enc (attenuation double_limit (Known number)))))
 
 -- an edge that was prepared
 pub record IsSingle (path : Path) (d : Interval) (single : Single) : Type 0 where

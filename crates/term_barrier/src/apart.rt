@@ -1,7 +1,7 @@
 //! What C_3 takes of the distance between two edges.
 
 ghost use Rattle.std.specs.Prelude.{◌≡◌};
-ghost use Rattle.term_barrier.specs.Prepared.{apart_of};
+ghost use Rattle.term_barrier.specs.Reaching.{apart_of};
 
 use fix_interval::{Iv, mul, over};
 

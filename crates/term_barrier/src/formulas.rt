@@ -4,6 +4,7 @@ ghost use Rattle.std.specs.Prelude.{◌≡◌};
 ghost use Rattle.fix_interval.specs.Tree.{Known, enc};
 ghost use Rattle.term_barrier.specs.Diffraction as form;
 ghost use Rattle.term_barrier.specs.Screening as screen;
+ghost use Rattle.term_barrier.specs.Reaching as reaching;
 ghost use Rattle.term_barrier.specs.Prepared as prepared;
 
 use crate::apart::Apart;
@@ -42,7 +43,7 @@ pub(crate) fn at_one_edge(band: Band, z: Iv) -> Iv
 
 /// (C_2 / λ) C_3 z, of two edges.
 pub(crate) fn at_two_edges(band: Band, apart: &Apart, z: Iv) -> Iv
-    ensures { result ≡ prepared.two_edges band apart.now z }
+    ensures { result ≡ reaching.two_edges band apart.now z }
 {
     mul(mul(c_2_by_wavelength(band), c_3(band, apart)), z)
 }
@@ -66,7 +67,7 @@ fn c_2_by_wavelength(band: Band) -> Iv
 
 /// C_3 of two edges (equation 15).
 fn c_3(band: Band, apart: &Apart) -> Iv
-    ensures { result ≡ prepared.known_c_3 band apart.now }
+    ensures { result ≡ reaching.known_c_3 band apart.now }
 {
     let waves = five_wavelengths_squared(band);
     div(add(apart.square, waves), add(apart.third, waves))

@@ -7,12 +7,15 @@
 mod apart;
 mod bend;
 mod components;
+mod convexity;
 mod formulas;
 mod gathering;
 mod greater;
 mod joined;
 pub mod laws;
 mod pair;
+mod pairing;
+mod reach;
 mod screens;
 mod sides;
 mod single;

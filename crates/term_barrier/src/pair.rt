@@ -1,110 +1,102 @@
 //! Diffraction at two edges, one after another.
 
-ghost use Rattle.std.specs.Prelude.{◌≡◌};
-ghost use Rattle.fix_interval.specs.Tree.{Known, enc};
-ghost use Rattle.term_barrier.specs.Diffraction.{attenuation, double_limit};
-ghost use Rattle.term_barrier.specs.Edges.{FitsEdge};
-ghost use Rattle.term_barrier.specs.Prepared.{bend_of, both_of, pair_value, IsPair, IsConvexity};
+ghost use Rattle.std.specs.Prelude.{IfSome};
+ghost use Rattle.std.proofs.Props.{props};
+ghost use Rattle.term_barrier.specs.Reaching.{IsReach};
 
 use crate::apart::Apart;
-use crate::bend::{Bend, rest, rise, slant};
+use crate::bend::{Bend, slant};
+use crate::convexity::convexity;
 use crate::formulas::{at_two_edges, double_attenuation, k_met, path_difference, three_and};
-use fix_interval::{Iv, Truth, add, exact, less, mul, pick, sub};
+use crate::reach::{reach, stays_below};
+use fix_interval::{Iv, Truth, add, exact, mul, pick, sub};
 use path_shape::Path;
 use scene_geom::Band;
 
-/// Two edges: whether sound bends over both, what C_3 takes of the distance between them, z in metres, and K_met.
+/// Two edges over both of which sound bends, or may bend: whether that is sure, what C_3 takes of the distance between
+/// them, z in metres, K_met, and how far z K_met reaches at most, where that is known.
 #[derive(Clone, Copy, Drop)]
 pub(crate) struct Pair {
+    pub reach: Option<u64>,
     pub convex: Truth,
     pub apart: Apart,
     pub z: Iv,
     pub k: Iv,
+    pub ghost reached: { IfSome reach (IsReach apart z k) } by { Prim.hlevel props },
 }
 
 impl Pair {
-    /// Two edges on a path whose source and receiver are `d` apart, in metres.
-    pub(crate) fn of(path: &Path, first: &Bend, second: &Bend, d: Iv) -> Pair
+    ghost use Rattle.std.specs.Prelude.{◌≡◌, IsTrue, IfSome, IfNone};
+    ghost use Rattle.fix_interval.specs.Tree.{Known, enc};
+    ghost use Rattle.scene_geom.specs.declared.band.Band.{Band};
+    ghost use Rattle.term_barrier.specs.Diffraction.{attenuation, double_limit};
+    ghost use Rattle.term_barrier.specs.Reaching.{growth_of};
+    ghost use Rattle.term_barrier.specs.Prepared.{bend_of, both_value, pair_value, IsPair, IsNoPair, Passes};
+
+    /// Two edges on a path whose source and receiver are `d` apart, in metres. Where sound never bends over both, there is
+    /// no pair: D_z is 0 then in every band.
+    pub(crate) fn of(path: &Path, first: &Bend, second: &Bend, d: Iv) -> Option<Pair>
         requires first { first.now ≡ bend_of path.now first.now.edge }
         requires second { second.now ≡ bend_of path.now second.now.edge }
-        requires fits { FitsEdge second.now.edge }
-        ensures { IsPair path.now d first.now.edge second.now.edge result }
+        ensures bends { IfSome result (IsPair path.now d first.now.edge second.now.edge) }
+        ensures never { IfNone result (IsNoPair path.now d first.now.edge second.now.edge) }
     {
-        let convex = convexity(path, first, second);
+        let convex = convexity(first, second);
         if let Truth::Never = convex {
-            return Pair {
-                convex,
-                apart: Apart {
-                    square: Iv::ALL,
-                    third: Iv::ALL,
-                },
-                z: Iv::ALL,
-                k: Iv::ALL,
-            };
+            return None;
         }
         let x = first.x;
-        let d_sr = slant(mul(rest(&second.edge), x), second.edge.h, path.hr);
-        let apart = mul(sub(second.place, first.place), x);
-        let e = slant(apart, second.edge.h, first.edge.h);
+        let d_sr = slant(mul(second.rest, x), second.over_receiver);
+        let way = mul(sub(second.place, first.place), x);
+        let e = slant(way, sub(second.height, first.height));
         let length = add(add(first.d_ss, d_sr), e);
-        let z = path_difference(length, mul(first.y, first.y), d);
+        let z = path_difference(length, first.y_square, d);
         let k = k_met(first.d_ss, d_sr, d, z);
-        Pair {
+        let apart = Apart::of(e);
+        Some(Pair {
+            reach: reach(&apart, z, k),
             convex,
-            apart: Apart::of(e),
+            apart,
             z,
             k,
-        }
+        })
     }
 
-    /// D_z in a band, in dB: 0 where sound doesn't bend over both edges.
+    /// D_z in a band, in dB.
     pub(crate) fn attenuation(&self, band: Band) -> Iv
         ensures { result ≡ pair_value self.now band }
     {
         double_attenuation(self.argument(band))
     }
 
-    /// What stands under the logarithm in a band: 1 where sound doesn't bend over both edges.
+    /// What stands under the logarithm in a band, which is 1 where sound doesn't bend over both edges.
     pub(crate) fn argument(&self, band: Band) -> Iv
         ensures { pair_value self.now band ≡ enc (attenuation double_limit (Known result)) }
     {
-        if let Truth::Never = self.convex {
-            return exact(1);
-        }
         let b = three_and(mul(at_two_edges(band, &self.apart, self.z), self.k));
         pick(self.convex, b, exact(1))
     }
-}
 
-/// Whether sound bends over both edges: the second lies behind the first, the first rises above the line from the source
-/// to the second, and the second above that from the first to the receiver.
-fn convexity(path: &Path, first: &Bend, second: &Bend) -> Truth
-    requires first { first.now ≡ bend_of path.now first.now.edge }
-    requires second { second.now ≡ bend_of path.now second.now.edge }
-    ensures { IsConvexity path.now first.now.edge second.now.edge result }
-{
-    let to_first = mul(first.place, path.dp);
-    let to_second = mul(second.place, path.dp);
-    let (before, behind) = (first.edge.h, second.edge.h);
-    let in_order = less(to_first, to_second);
-    let bends_at_first = less(
-        mul(rise(behind, path.hs), to_first),
-        mul(rise(before, path.hs), to_second),
-    );
-    let bends_at_second = less(
-        mul(rise(before, path.hr), sub(path.dp, to_second)),
-        mul(rise(behind, path.hr), sub(path.dp, to_first)),
-    );
-    both(in_order, both(bends_at_first, bends_at_second))
-}
+    /// Whether the number can't raise the greatest so far, in a band with this growth: what it is at most isn't above the
+    /// low end of that, so that neither of its ends is above that of the greatest.
+    pub(crate) fn is_passed(&self, best: Iv, growth: u64) -> bool
+        ensures { IsTrue result → (band : Band) → growth ≡ growth_of band → Passes best band self.now }
+    {
+        match self.reach {
+            Some(reach) => stays_below(best, growth, reach),
+            None => false,
+        }
+    }
 
-/// Whether two statements hold.
-fn both(a: Truth, b: Truth) -> Truth
-    ensures { result ≡ both_of a b }
-{
-    match (a, b) {
-        (Truth::Never, _) | (_, Truth::Never) => Truth::Never,
-        (Truth::Sure, Truth::Sure) => Truth::Sure,
-        _ => Truth::Unsure,
+    /// D_z of two edges in a band, in dB: 0 where sound never bends over both.
+    pub(crate) fn attenuation_of(path: &Path, first: &Bend, second: &Bend, d: Iv, band: Band) -> Iv
+        requires first { first.now ≡ bend_of path.now first.now.edge }
+        requires second { second.now ≡ bend_of path.now second.now.edge }
+        ensures { result ≡ both_value path.now d band (first.now.edge, second.now.edge) }
+    {
+        match Pair::of(path, first, second, d) {
+            Some(pair) => pair.attenuation(band),
+            None => exact(0),
+        }
     }
 }

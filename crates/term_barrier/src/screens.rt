@@ -7,8 +7,9 @@ ghost use Rattle.term_barrier.specs.Limits.{IsGroundEffect, IsScreening};
 ghost use Rattle.term_barrier.specs.Screening.{marked, screening};
 
 use crate::formulas::{below_line, less_ground};
-use crate::gathering::{best_over, greatest_argument, prepare, prepare_pairs};
+use crate::gathering::{best_over, greatest_argument, prepare};
 use crate::joined::Joined;
+use crate::pairing::prepare_pairs;
 use crate::single::Single;
 use fix_interval::Iv;
 use path_shape::Path;
@@ -17,8 +18,8 @@ use scene_parts::{Edge, NoMemory};
 use std::alloc::Global;
 use std::marker::Model;
 
-/// The edges that a path passes, and what its bands share of them: z and K_met of each edge, and of each two that rise
-/// above the line of sight e, z, K_met and whether sound bends over both. It is seen as the path, the edges, and how far
+/// The edges that a path passes, and what its bands share of them: z and K_met of each edge, and e, z and K_met of each two
+/// that rise above the line of sight and over both of which sound may bend. It is seen as the path, the edges, and how far
 /// source and receiver are apart.
 #[derive(Drop)]
 pub struct Screens {
@@ -64,7 +65,14 @@ impl Screens {
         ensures bounds { IsGroundEffect gr → IsScreening result }
     {
         let singles = self.singles.as_slice();
-        match best_over(singles, self.pairs.as_slice(), marks, band) {
+        match best_over(
+            &self.path,
+            self.d,
+            singles,
+            self.pairs.as_slice(),
+            marks,
+            band,
+        ) {
             Some(best) => less_ground(best, gr),
             None => below_line(greatest_argument(singles, marks, band), gr),
         }

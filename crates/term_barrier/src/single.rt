@@ -7,7 +7,7 @@ ghost use Rattle.term_barrier.specs.Edges.{FitsEdge};
 ghost use Rattle.term_barrier.specs.Edges as form;
 ghost use Rattle.term_barrier.specs.Prepared.{single_of};
 
-use crate::bend::{Bend, rest, slant};
+use crate::bend::{Bend, slant};
 use crate::formulas::{at_one_edge, k_met, path_difference, three_and};
 use fix_interval::{Iv, add, mul, neg};
 use path_shape::Path;
@@ -29,8 +29,8 @@ impl Single {
         ensures { result ≡ single_of path.now d edge.now }
     {
         let bend = Bend::of(path, edge);
-        let d_sr = slant(mul(rest(edge), bend.x), edge.h, path.hr);
-        let over = path_difference(add(bend.d_ss, d_sr), mul(bend.y, bend.y), d);
+        let d_sr = slant(mul(bend.rest, bend.x), bend.over_receiver);
+        let over = path_difference(add(bend.d_ss, d_sr), bend.y_square, d);
         let z = negated_below(edge.above, over);
         let k = k_met(bend.d_ss, d_sr, d, z);
         Single { bend, z, k }

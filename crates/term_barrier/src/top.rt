@@ -91,7 +91,6 @@ fn best_with(
     band: Band,
 ) -> Option<Iv>
     requires bend { edge.now ≡ bend_of path.now edge.now.edge }
-    requires edge { FitsEdge edge.now.edge }
     requires others { All FitsEdge others.now }
     ensures { result
         ≡ greatest_from best
@@ -101,8 +100,8 @@ fn best_with(
     for other in others {
         if other.above {
             let other = Bend::of(path, other);
-            let there = Pair::of(path, edge, &other, d).attenuation(band);
-            let back = Pair::of(path, &other, edge, d).attenuation(band);
+            let there = Pair::attenuation_of(path, edge, &other, d, band);
+            let back = Pair::attenuation_of(path, &other, edge, d, band);
             best = greater(greater(best, there), back);
         }
     }

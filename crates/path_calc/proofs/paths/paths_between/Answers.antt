@@ -1,5 +1,5 @@
 use Rattle.std.proofs.Common.{◌≡◌, ap, sym, subst, ◌∙◌, List, [], ◌∷◌, ◌++◌, map}
-use Rattle.std.specs.Prelude.{All, flat_map, pos}
+use Rattle.std.specs.Prelude.{Bool, false, All, flat_map, pos}
 use Rattle.fix_interval.specs.Tree.{enc}
 use Rattle.scene_geom.specs.declared.band.Band.{Band}
 use Rattle.scene_geom.specs.Bands.{all_bands}
@@ -20,8 +20,10 @@ use Rattle.path_calc.specs.declared.segments.Seg.{Seg}
 use Rattle.path_calc.specs.declared.segments.Seg.TheVariants.{Straight}
 use Rattle.path_calc.specs.Propagations.{Reflected}
 use Rattle.path_calc.specs.Tracing.{segments_in_band}
-use Rattle.path_calc.specs.Hearing.{propagation_along, direct_square, reflected_of}
+use Rattle.path_calc.specs.Prepared.{PreparedSource, prepared_of, has_power}
+use Rattle.path_calc.specs.Hearing.{propagation_along, is_asked, direct_square, reflected_of}
 use Rattle.path_calc.proofs.Tracing.{trace-whole, walls-are}
+use Rattle.path_calc.proofs.Eight.{at-place}
 use Rattle.path_calc.proofs.Fitting.{edges-fit}
 use Rattle.path_calc.proofs.Heard.{direct-is, lateral-is}
 use Rattle.path_calc.proofs.paths.paths_between.Goals as goal
@@ -46,14 +48,20 @@ returns-clause-value c =
     c.direct-path.ensures.value ∙ ap (λ (s : Source). direct_path s.at s.h c.receiver.inside.at c.receiver.inside.h) c.source.view_is ∙ ap (λ (r : Receiver). path_of s r) c.receiver.view_is in
     let square : c.direct_square-square.result ≡ direct_square s r =
     c.direct_square-square.ensures.value ∙ ap (λ (s : Source). over (pos (plan_square s.at c.receiver.inside.at)) (pos 1)) c.source.view_is ∙ ap (λ (r : Receiver). direct_square s r) c.receiver.view_is in
+    let powered : c.powered-powered.result ≡ map (has_power (prepared_of s)) all_bands =
+    c.powered-powered.ensures ∙ ap (λ (p : PreparedSource). map (has_power p) all_bands) c.requires.source in
+    let walls : c.in_ok-reflected.reflected.items ≡ map (reflected_of book.globals (prepared_of s) (ends_of s r)) (reflected_paths book (ends_of s r)) =
+    c.in_ok-reflected.ensures.value
+    ∙ ap (λ (e : Ends). map (reflected_of book.globals c.args.from.now e) (reflected_paths book e)) ends
+    ∙ ap (λ (p : PreparedSource). map (reflected_of book.globals p (ends_of s r)) (reflected_paths book (ends_of s r))) c.requires.source in
     record {
-      direct = direct-is c.in_ok-direct.direct book s r d found length
+      direct = direct-is c.in_ok-direct.direct book s r d found (is_asked c.powered-powered.result) length (λ (band : Band). ap (λ (bs : List Bool). is_asked bs band) powered ∙ at-place (has_power (prepared_of s)) false band)
           (c.as_slice.ensures.value ∙ c.in_ok-crossings.ensures ∙ ap (λ (e : Ends). crossings_of e book.obstacles) ends)
-          (c.in_ok-direct.ensures.value ∙ ap (λ (q : Frac). propagation_along book c.direct-path.result q d found) square ∙ ap (λ (p : Path). propagation_along book p (direct_square s r) d found) path);
+          (c.in_ok-direct.ensures.value ∙ ap (λ (q : Frac). propagation_along book c.direct-path.result q d found (is_asked c.powered-powered.result)) square ∙ ap (λ (p : Path). propagation_along book p (direct_square s r) d found (is_asked c.powered-powered.result)) path);
       lateral = λ (band : Band). lateral-is (record { direct = c.in_ok-direct.direct; lateral = c.in_ok-lateral.lateral; reflected = c.in_ok-reflected.reflected }) book s r d band length (
           c.in_ok-lateral.ensures.value band
           ∙ ap (λ (e : Ends). d_z_over e book.obstacles d band) ends);
-      reflected = c.in_ok-reflected.ensures.value ∙ ap (λ (e : Ends). map (reflected_of book.globals e) (reflected_paths book e)) ends;
+      reflected = walls;
     }
 
 pub returns-clause-trace : goal.returns-clause-trace
@@ -70,5 +78,5 @@ returns-clause-trace c =
     ∙ ap (λ (e : Ends). c.push.new.self ++ flat_map (segments_in_band e book.obstacles) all_bands) ends)
     (c.in_ok-add_walls.ensures
     ∙ ap (λ (found : List Reflected). c.lateral_screening.new.trace ++ map (λ (path : Reflected). path.wall) found)
-    (c.as_slice-3.ensures.value ∙ c.in_ok-reflected.ensures.value ∙ ap (λ (e : Ends). map (reflected_of book.globals e) (reflected_paths book e)) ends)
-    ∙ ap (λ (l : List Seg). c.lateral_screening.new.trace ++ l) (walls-are book.globals (ends_of s r) (reflected_paths book (ends_of s r))))
+    (c.as_slice-3.ensures.value ∙ c.in_ok-reflected.ensures.value ∙ ap (λ (e : Ends). map (reflected_of book.globals c.args.from.now e) (reflected_paths book e)) ends)
+    ∙ ap (λ (l : List Seg). c.lateral_screening.new.trace ++ l) (walls-are book.globals c.args.from.now (ends_of s r) (reflected_paths book (ends_of s r))))

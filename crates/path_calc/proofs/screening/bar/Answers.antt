@@ -6,4 +6,4 @@ pub returns-clause-value : goal.returns-clause-value
 returns-clause-value c =
     let below : c.place.result < length c.args.ground.now = omega (arith, c.place.ensures.bound, c.type_inv.ground) in
     bar-is _ _ _ _ _ _ c.index-ground-place.result c.args.ground.now c.place.result c.args.band c.args.crossings.now
-    (c.as_slice.ensures.value ∙ c.in_ok-marks.ensures) c.requires.edges c.place.ensures.value below refl c.a_bar.ensures.value
+    (c.as_slice.ensures.value ∙ c.in_ok-mark.ensures) c.requires.edges c.place.ensures.value below refl c.a_bar.ensures.value

@@ -5,13 +5,14 @@ use Rattle.scene_parts.specs.declared.edge.Edge.{Edge}
 use Rattle.scene_parts.specs.declared.crossing.Crossing.{Crossing}
 use Rattle.term_barrier.specs.Edges.{FitsEdge}
 use Rattle.term_barrier.specs.Limits.{IsScreening}
+use Rattle.path_calc.specs.Hearing.{is_asked}
 use Rattle.path_calc.proofs.Stretching.{nothing-in}
 use Rattle.path_calc.proofs.Uncrossed.{bars-are-zero, zero-screens}
 use Rattle.path_calc.proofs.screening.over_top.Goals as goal
 
 pub returns-then-is_empty-clause-value : goal.returns-then-is_empty-clause-value
 returns-then-is_empty-clause-value c =
-    bars-are-zero c.exact.result c.args.path.now c.args.distance c.args.ground.now c.args.crossings.now c.exact.ensures
+    bars-are-zero c.exact.result c.args.path.now c.args.distance c.args.ground.now c.args.crossings.now (is_asked c.args.asked.now) c.exact.ensures
     (nothing-in c.args.crossings.now _ c.is_empty.ensures c.if-is_empty.true)
 
 pub returns-then-is_empty-clause-bounds : goal.returns-then-is_empty-clause-bounds

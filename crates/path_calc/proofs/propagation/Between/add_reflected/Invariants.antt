@@ -9,6 +9,6 @@ use Rattle.path_calc.proofs.propagation.Between.add_reflected.Given as goal
 abbrev pub invariant-loop-i : goal.invariant-loop-i
 invariant-loop-i l =
     l.found.items
-    ++ map (reflected_of l.self.scene.now.globals l.self.ends) (by_sides l.self.scene.now l.self.ends l.obstacle (drop l.i (sides_of l.obstacle)))
+    ++ map (reflected_of l.self.scene.now.globals l.self.from.now l.self.ends) (by_sides l.self.scene.now l.self.ends l.obstacle (drop l.i (sides_of l.obstacle)))
     ≡ l.initial.found.items
-    ++ map (reflected_of l.self.scene.now.globals l.self.ends) (reflected_by l.self.scene.now l.self.ends l.obstacle)
+    ++ map (reflected_of l.self.scene.now.globals l.self.from.now l.self.ends) (reflected_by l.self.scene.now l.self.ends l.obstacle)

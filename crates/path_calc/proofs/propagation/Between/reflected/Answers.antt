@@ -10,7 +10,7 @@ use Rattle.path_calc.proofs.propagation.Between.reflected.Goals as goal
 pub loop-obstacle-preserved : goal.loop-obstacle-preserved
 loop-obstacle-preserved c =
     let book = c.args.self.now.scene.now in
-    obstacle-added book.globals book c.args.self.now.ends c.obstacles-obstacle-items.result.now c.loop-obstacle.obstacle-index c.obstacle-item.result _ _ _
+    obstacle-added book.globals c.args.self.now.from.now book c.args.self.now.ends c.obstacles-obstacle-items.result.now c.loop-obstacle.obstacle-index c.obstacle-item.result _ _ _
     c.loop-obstacle-test.true c.obstacle-item.is c.in_ok-add_reflected.ensures c.loop-obstacle.invariant
 
 pub returns-clause-few : goal.returns-clause-few
@@ -20,7 +20,7 @@ returns-clause-few c =
     let os = c.obstacles-obstacle-items.result.now in
     let found = c.loop-obstacle.found.items in
     let none : drop c.loop-obstacle.obstacle-index os ≡ [] = drop_all c.loop-obstacle.obstacle-index os c.loop-obstacle-test.false in
-    let rest = λ (os : List Obstacle). map (reflected_of book.globals ends) (flat_map (reflected_by book ends) os) in
-    let all = few-found book.globals book ends found (
+    let rest = λ (os : List Obstacle). map (reflected_of book.globals c.args.self.now.from.now ends) (flat_map (reflected_by book ends) os) in
+    let all = few-found book.globals c.args.self.now.from.now book ends found (
     sym (append-nil found) ∙ ap (λ (os : List Obstacle). found ++ rest os) (sym none) ∙ c.loop-obstacle.invariant ∙ ap rest c.obstacles-obstacle-items.ensures.value) in
     omega (arith, all, c.obstacles-obstacle-items.ensures.within.sides)

@@ -8,5 +8,5 @@ use Rattle.path_calc.proofs.propagation.Between.reflected.Given as goal
 abbrev pub invariant-loop-obstacle : goal.invariant-loop-obstacle
 invariant-loop-obstacle l =
     l.found.items
-    ++ map (reflected_of l.self.scene.now.globals l.self.ends) (flat_map (reflected_by l.self.scene.now l.self.ends) (drop l.obstacle-index l.obstacle-items))
-    ≡ map (reflected_of l.self.scene.now.globals l.self.ends) (flat_map (reflected_by l.self.scene.now l.self.ends) l.obstacle-items)
+    ++ map (reflected_of l.self.scene.now.globals l.self.from.now l.self.ends) (flat_map (reflected_by l.self.scene.now l.self.ends) (drop l.obstacle-index l.obstacle-items))
+    ≡ map (reflected_of l.self.scene.now.globals l.self.from.now l.self.ends) (flat_map (reflected_by l.self.scene.now l.self.ends) l.obstacle-items)

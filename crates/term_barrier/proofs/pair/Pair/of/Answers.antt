@@ -3,12 +3,12 @@ use Rattle.fix_interval.specs.Interval.{Interval}
 use Rattle.fix_interval.specs.Tree.{Known, Add, Sub, Mul, enc}
 use Rattle.scene_parts.specs.declared.edge.Edge.{Edge}
 use Rattle.path_shape.specs.declared.path.Path.{Path}
-use Rattle.term_barrier.specs.declared.bend.Bend.{Bend}
 use Rattle.term_barrier.specs.Diffraction.{path_difference, k_met}
 use Rattle.term_barrier.specs.Edges.{across, beside, place, rest, source_to_edge, edge_to_receiver, edge_to_edge, pair_difference, pair_k}
-use Rattle.term_barrier.specs.Prepared.{apart_of}
-use Rattle.term_barrier.proofs.Slants.{slant-known}
-use Rattle.term_barrier.proofs.Pairs.{pair-is, pair-never}
+use Rattle.term_barrier.specs.Prepared.{bend_of}
+use Rattle.term_barrier.specs.Reaching.{apart_of}
+use Rattle.term_barrier.proofs.Slants.{slant-is, slant-between}
+use Rattle.term_barrier.proofs.Pairs.{convexity-from, pair-is, pair-never}
 use Rattle.term_barrier.proofs.pair.Pair.of.Goals as goal
 
 z-known : (path : Path) (first second : Edge) (d : Interval)
@@ -26,27 +26,29 @@ k-known : (path : Path) (first second : Edge) (d : Interval)
 unfolding pair_k k_met
 k-known path first second d = refl
 
-pub returns-in-Never : goal.returns-in-Never
-returns-in-Never c =
-    pair-never c.args.path.now c.args.d c.args.first.now.edge c.args.second.now.edge _ c.convexity-convex.ensures c.in-Never.is
+pub returns-in-Never-clause-never : goal.returns-in-Never-clause-never
+returns-in-Never-clause-never c =
+    pair-never c.args.path.now c.args.d c.args.first.now.edge c.args.second.now.edge c.convexity-convex.result
+    (convexity-from c.args.path.now c.args.first.now c.args.second.now c.convexity-convex.result c.requires.first c.requires.second c.convexity-convex.ensures)
+    c.in-Never.is
 
-pub returns : goal.returns
-returns c =
+pub returns-clause-bends : goal.returns-clause-bends
+returns-clause-bends c =
     let path = c.args.path.now in
     let d = c.args.d in
     let first = c.args.first.now.edge in
     let second = c.args.second.now.edge in
-    let x : c.args.first.now.x ≡ enc (across first) = ap (λ (b : Bend). b.x) c.requires.first in
-    let y : c.args.first.now.y ≡ enc (beside first) = ap (λ (b : Bend). b.y) c.requires.first in
-    let d_ss : c.args.first.now.d_ss ≡ enc (source_to_edge path (across first) first) = ap (λ (b : Bend). b.d_ss) c.requires.first in
-    let before : c.args.first.now.place ≡ enc (place first) = ap (λ (b : Bend). b.place) c.requires.first in
-    let behind : c.args.second.now.place ≡ enc (place second) = ap (λ (b : Bend). b.place) c.requires.second in
+    let start : c.args.first.now ≡ bend_of path first = c.requires.first in
+    let end : c.args.second.now ≡ bend_of path second = c.requires.second in
     let d_sr : c.slant-d_sr.result ≡ enc (edge_to_receiver path (across first) second) =
-    rw (c.slant-d_sr.ensures, c.mul.ensures, c.rest.ensures, x) (slant-known (Mul (rest second) (across first)) second.h path.hr) in
+    rw (c.slant-d_sr.ensures, c.mul.ensures, start, end) (slant-is (Mul (rest second) (across first)) second.h path.hr) in
     let e : c.slant-e.result ≡ enc (edge_to_edge (across first) first second) =
-    rw (c.slant-e.ensures, c.mul-apart.ensures, c.sub.ensures, x, before, behind) (slant-known (Mul (Sub (place second) (place first)) (across first)) second.h first.h) in
+    rw (c.slant-e.ensures, c.mul-way.ensures, c.sub.ensures, c.sub-2.ensures, start, end)
+    (slant-between (Mul (Sub (place second) (place first)) (across first)) second.h first.h) in
     let z : c.path_difference-z.result ≡ enc (pair_difference path first second (Known d)) =
-    rw (c.path_difference-z.ensures, c.add-length.ensures, c.add.ensures, c.mul-2.ensures, d_ss, d_sr, e, y) (z-known path first second d) in
+    rw (c.path_difference-z.ensures, c.add-length.ensures, c.add.ensures, d_sr, e, start) (z-known path first second d) in
     let k : c.k_met-k.result ≡ enc (pair_k path first second (Known d)) =
-    rw (c.k_met-k.ensures, z, d_ss, d_sr) (k-known path first second d) in
-    pair-is path d first second _ c.convexity-convex.ensures (c.of.ensures ∙ ap apart_of e) z k
+    rw (c.k_met-k.ensures, z, d_sr, start) (k-known path first second d) in
+    pair-is path d first second c.convexity-convex.result c.of-apart.result c.path_difference-z.result c.k_met-k.result
+    (convexity-from path c.args.first.now c.args.second.now c.convexity-convex.result start end c.convexity-convex.ensures)
+    (c.of-apart.ensures ∙ ap apart_of e) z k

@@ -18,7 +18,7 @@ over c =
     c.less_ground.ensures
     ∙ ap (λ (best : Option Interval). screened_by best argument c.args.gr) (sym c.in-Some.is)
     ∙ screened-known c.args.self.now s.path s.d c.args.gr s.singles.items s.pairs.items c.args.band c.args.marks.now c.best_over.result argument
-    c.self.invariant c.self.view_is (rw (c.as_slice-singles.ensures.value, c.as_slice.ensures.value) at c.best_over.ensures) refl
+    c.self.invariant c.self.view_is (rw c.as_slice-singles.ensures.value at c.best_over.ensures) refl
 
 below : (c : goal.After-below_line)
     → c.below_line.result
@@ -28,7 +28,7 @@ below c =
     c.below_line.ensures
     ∙ ap (λ (best : Option Interval). screened_by best c.greatest_argument.result c.args.gr) (sym c.in-None.is)
     ∙ screened-known c.args.self.now s.path s.d c.args.gr s.singles.items s.pairs.items c.args.band c.args.marks.now c.best_over.result c.greatest_argument.result
-    c.self.invariant c.self.view_is (rw (c.as_slice-singles.ensures.value, c.as_slice.ensures.value) at c.best_over.ensures)
+    c.self.invariant c.self.view_is (rw c.as_slice-singles.ensures.value at c.best_over.ensures)
     (rw c.as_slice-singles.ensures.value at c.greatest_argument.ensures)
 
 pub returns-in-Some-clause-value : goal.returns-in-Some-clause-value

@@ -5,7 +5,7 @@ use Rattle.scene_parts.specs.declared.edge.Edge.{Edge}
 use Rattle.path_shape.specs.declared.path.Path.{Path}
 use Rattle.term_barrier.specs.Diffraction.{path_difference, k_met}
 use Rattle.term_barrier.specs.Edges.{across, beside, rest, source_to_edge, edge_to_receiver, negated_below, single_difference, single_k}
-use Rattle.term_barrier.proofs.Slants.{slant-known}
+use Rattle.term_barrier.proofs.Slants.{slant-is}
 use Rattle.term_barrier.proofs.single.Single.of.Goals as goal
 
 negated-known : (above : Bool) (z : Tree) → enc (negated_below above (Known (enc z))) ≡ enc (negated_below above z)
@@ -34,9 +34,9 @@ returns c =
     let path = c.args.path.now in
     let edge = c.args.edge.now in
     let d_sr : c.slant-d_sr.result ≡ enc (edge_to_receiver path (across edge) edge) =
-    rw (c.slant-d_sr.ensures, c.mul.ensures, c.rest.ensures, c.of-bend.ensures) (slant-known (Mul (rest edge) (across edge)) edge.h path.hr) in
+    rw (c.slant-d_sr.ensures, c.mul.ensures, c.of-bend.ensures) (slant-is (Mul (rest edge) (across edge)) edge.h path.hr) in
     let z : c.negated_below-z.result ≡ enc (single_difference path edge (Known c.args.d)) =
-    rw (c.negated_below-z.ensures, c.path_difference-over.ensures, c.add.ensures, c.mul-2.ensures, d_sr, c.of-bend.ensures) (z-known path edge c.args.d) in
+    rw (c.negated_below-z.ensures, c.path_difference-over.ensures, c.add.ensures, d_sr, c.of-bend.ensures) (z-known path edge c.args.d) in
     let k : c.k_met-k.result ≡ enc (single_k path edge (Known c.args.d)) =
     rw (c.k_met-k.ensures, z, d_sr, c.of-bend.ensures) (k-known path edge c.args.d) in
     rw (k, z, c.of-bend.ensures) refl

@@ -3,7 +3,7 @@ use Rattle.std.proofs.Common.{[], drop}
 use Rattle.term_barrier.specs.Screening.{pairs_of}
 use Rattle.term_barrier.specs.Prepared.{edges_in, risen}
 use Rattle.term_barrier.proofs.Joining.{Remains}
-use Rattle.term_barrier.proofs.gathering.prepare_pairs.Given as goal
+use Rattle.term_barrier.proofs.pairing.prepare_pairs.Given as goal
 
 abbrev pub invariant-loop-i : goal.invariant-loop-i
 invariant-loop-i l =

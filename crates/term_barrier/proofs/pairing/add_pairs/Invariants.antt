@@ -4,7 +4,7 @@ use Rattle.std.specs.Prelude.{flat_map}
 use Rattle.term_barrier.specs.Screening.{both_ways}
 use Rattle.term_barrier.specs.Prepared.{edges_in, risen}
 use Rattle.term_barrier.proofs.Joining.{Remains}
-use Rattle.term_barrier.proofs.gathering.add_pairs.Given as goal
+use Rattle.term_barrier.proofs.pairing.add_pairs.Given as goal
 
 abbrev pub invariant-loop-j : goal.invariant-loop-j
 invariant-loop-j l =

@@ -1,0 +1,108 @@
+-- A pair whose number can't be above the low end of the greatest so far doesn't raise that.
+use Rattle.std.proofs.Common.{◌≡◌, ℕ, ◌*◌, ◌<◌, ◌≤◌, ◌^◌, ℤ, pos, ◌*ℤ◌, ◌≤ℤ◌, ap, sym, refl, ◌∙◌, arith, inl, inr}
+use Rattle.std.specs.Prelude.{Option, Some, None, unwrap_or, unsigned_abs, IsSomeAnd, ◌⊎◌}
+use Rattle.std.proofs.lemmas.Int.{ints, clamps}
+use Rattle.std.proofs.lemmas.Bool.{cases_lt}
+use Rattle.fix_interval.specs.Units.{unit}
+use Rattle.fix_interval.specs.Interval.{Interval, IsInterval, IsOrdered, open_low}
+use Rattle.fix_interval.specs.Values.{ratio_of, end_of, on_ends, mul_of, product_of_ends, least_product, greatest_product, rounded_outward, max_of, hull_of, pick_of, greater_low, greater_high}
+use Rattle.fix_interval.specs.declared.truth.Truth.{Truth}
+use Rattle.fix_interval.specs.declared.truth.Truth.TheVariants.{Sure, Never, Unsure}
+use Rattle.fix_interval.specs.Tree.{Known, Mul, enc}
+use Rattle.fix_interval.proofs.Intervals.{IsInterval-All, IsInterval-add_of, IsInterval-pick_of}
+use Rattle.fix_interval.proofs.Multiplying.{end_of-small, end_of-large, least_of-le-greatest_of, IsInterval-outward}
+use Rattle.fix_interval.proofs.Ratios.{IsInterval-Const}
+use Rattle.scene_geom.specs.declared.band.Band.{Band}
+use Rattle.term_barrier.specs.declared.apart.Apart.{Apart}
+use Rattle.term_barrier.specs.declared.pair.Pair.{Pair}
+use Rattle.term_barrier.specs.Diffraction.{whole, three_and, double_limit}
+use Rattle.term_barrier.specs.Reaching.{two_edges, pair_number, growth_of, most_number, IsReach}
+use Rattle.term_barrier.specs.Prepared.{pair_value, Passes}
+use Rattle.term_barrier.proofs.Bounds.{known-attenuation}
+use Rattle.term_barrier.proofs.OneLogarithm.{screens, screens-picked}
+
+-- ---- the number that decides
+
+pub argument-decides : (pair : Pair) (band : Band) (number : Interval) → number ≡ pair_number band pair.apart pair.z pair.k → IsInterval number
+    → pair_value pair band ≡ screens double_limit (pick_of pair.convex number (enc (whole 1)))
+argument-decides pair band number e interval =
+    let formula = three_and (Mul (Known (two_edges band pair.apart pair.z)) (Known pair.k)) in
+    ap (λ (i : Interval). pick_of pair.convex i (enc (whole 0))) (sym (ap (screens double_limit) e ∙ known-attenuation double_limit formula))
+    ∙ screens-picked pair.convex number interval
+
+-- a product is an interval whatever its factors are
+product-interval : (al ah bl bh : Option ℤ) → IsInterval (on_ends product_of_ends al ah bl bh)
+product-interval None ah bl bh = IsInterval-All
+product-interval (Some al) None bl bh = IsInterval-All
+product-interval (Some al) (Some ah) None bh = IsInterval-All
+product-interval (Some al) (Some ah) (Some bl) None = IsInterval-All
+product-interval (Some al) (Some ah) (Some bl) (Some bh) =
+    by_size (least_product al ah bl bh) (greatest_product al ah bl bh)
+    (least_of-le-greatest_of (al *ℤ bl) (al *ℤ bh) (ah *ℤ bl) (ah *ℤ bh)) (cases_lt (unsigned_abs (least_product al ah bl bh)) (2 ^ 126)) (cases_lt (unsigned_abs (greatest_product al ah bl bh)) (2 ^ 126))
+  where
+    by_size : (least greatest : ℤ) → least ≤ℤ greatest → (unsigned_abs least < 2 ^ 126) ⊎ (2 ^ 126 ≤ unsigned_abs least) → (unsigned_abs greatest < 2 ^ 126) ⊎ (2 ^ 126 ≤ unsigned_abs greatest)
+        → IsInterval (rounded_outward (end_of least) (end_of greatest))
+    by_size least greatest o (inr h) k = rw (end_of-large least h) IsInterval-All
+    by_size least greatest o (inl h) (inr k) = rw (end_of-small least h, end_of-large greatest k) IsInterval-All
+    by_size least greatest o (inl h) (inl k) = rw (end_of-small least h, end_of-small greatest k) (IsInterval-outward least greatest h k o)
+
+times-interval : (a b : Interval) → IsInterval (mul_of a b)
+unfolding mul_of
+times-interval a b = product-interval a.lo a.hi b.lo b.hi
+
+number-interval : (band : Band) (apart : Apart) (z k : Interval) → IsInterval (pair_number band apart z k)
+number-interval band apart z k =
+    IsInterval-add_of (ratio_of (pos 3) 1) (mul_of (two_edges band apart z) k) (IsInterval-Const (pos 3) 1 (omega arith)) (times-interval (two_edges band apart z) k)
+
+-- ---- what it is at most
+
+one-is : enc (whole 1) ≡ record { lo = Some (pos (2 ^ 32)); hi = Some (pos (2 ^ 32)) }
+unfolding ratio_of unit
+one-is = refl
+
+greater-one : (end : Option ℤ) (most : ℤ) → pos (3 * 2 ^ 32) ≤ℤ most → IsSomeAnd end (λ z. z ≤ℤ most) → IsSomeAnd (greater_high end (Some (pos (2 ^ 32)))) (λ z. z ≤ℤ most)
+greater-one None most h k = absurd k
+greater-one (Some z) most h k = omega (arith, ints, clamps, h, k)
+
+picked-most : (t : Truth) (i : Interval) (most : ℤ) → pos (3 * 2 ^ 32) ≤ℤ most → IsSomeAnd i.hi (λ z. z ≤ℤ most)
+    → IsSomeAnd (pick_of t i (enc (whole 1))).hi (λ z. z ≤ℤ most)
+unfolding pick_of hull_of
+picked-most Sure i most h k = k
+picked-most Never i most h k = rw one-is (omega (arith, ints, h))
+picked-most Unsure i most h k = rw one-is (greater-one i.hi most h k)
+
+-- what isn't above the low end of an interval raises neither end of it
+not-raised : (bl bh nl nh : Option ℤ) (most : ℤ) → IsOrdered bl bh → IsOrdered nl nh → pos 0 ≤ℤ most → IsSomeAnd nh (λ z. z ≤ℤ most)
+    → most ≤ℤ unwrap_or bl open_low
+    → (greater_low bl nl ≡ bl) × (greater_high bh nh ≡ bh)
+not-raised None bh nl nh most o p h k below = absurd (omega (arith, ints, h, below))
+not-raised (Some b) bh nl None most o p h k below = absurd k
+not-raised (Some b) None None (Some n) most o p h k below = (refl, refl)
+not-raised (Some b) None (Some m) (Some n) most o p h k below = (ap Some (omega (arith, ints, clamps, p, k, below)), refl)
+not-raised (Some b) (Some c) None (Some n) most o p h k below = (refl, ap Some (omega (arith, ints, clamps, o, k, below)))
+not-raised (Some b) (Some c) (Some m) (Some n) most o p h k below =
+    (ap Some (omega (arith, ints, clamps, p, k, below)), ap Some (omega (arith, ints, clamps, o, k, below)))
+
+lesser-is : (best number : Interval) (most : ℤ) → IsInterval best → IsInterval number → pos 0 ≤ℤ most → IsSomeAnd number.hi (λ z. z ≤ℤ most)
+    → most ≤ℤ unwrap_or best.lo open_low → max_of best number ≡ best
+unfolding max_of
+lesser-is best number most i k h n below =
+    let ends = not-raised best.lo best.hi number.lo number.hi most i.ordered k.ordered h n below in
+    rw (ends.0, ends.1) refl
+
+pub passes : (best : Interval) (band : Band) (pair : Pair) (reach : ℕ) → IsInterval best
+    → IsReach pair.apart pair.z pair.k reach → pos (most_number (growth_of band) reach) ≤ℤ unwrap_or best.lo open_low
+    → Passes best band pair
+passes best band pair reach i reached below =
+    let number = pair_number band pair.apart pair.z pair.k in
+    let interval = number-interval band pair.apart pair.z pair.k in
+    let picked = IsInterval-pick_of pair.convex number (enc (whole 1)) interval (IsInterval-Const (pos 1) 1 (omega arith)) in
+    let most = pos (most_number (growth_of band) reach) in
+    record {
+      number = pick_of pair.convex number (enc (whole 1));
+      interval = picked;
+      decides = argument-decides pair band number refl interval;
+      lesser =
+          lesser-is best (pick_of pair.convex number (enc (whole 1))) most i picked (omega (arith, ints))
+          (picked-most pair.convex number most (omega (arith, ints)) (reached band)) below;
+    }
