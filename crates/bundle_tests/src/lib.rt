@@ -8,4 +8,6 @@ mod paths;
 #[cfg(test)]
 mod refreshes;
 #[cfg(test)]
+mod row_sums;
+#[cfg(test)]
 mod scenes;

@@ -1,2 +1,6 @@
 pub mod Refreshed
 pub mod OfOneSource
+pub mod Sums
+pub mod TakingOff
+pub mod Origins
+pub mod Renewals

@@ -1,43 +1,41 @@
 //! The bundles that were kept for a receiver.
-ghost use Rattle.std.specs.Prelude.{◌≡◌, bytes_eq, length};
-ghost use Rattle.std.specs.Option.{option_copied};
+ghost use Rattle.std.specs.Prelude.{◌≡◌, ◌<◌, None, IfNone, IfSome, bytes_eq, length, slice_get};
 ghost use Rattle.path_cache.specs.Refreshed.{CanRefresh, unmarked};
 
 use path_calc::Bundle;
 use scene_parts::Name;
 
-/// The unmarked bundle of the source of a name. The one at a place is looked at first: there it stands, where the sources
-/// are those for which the bundles were kept.
-pub(crate) fn find_unmarked<'a>(
-    kept: &'a [Bundle],
+/// The place of the unmarked bundle of the source of a name. This one is looked at first: there it stands, where the
+/// bundles were kept in the order of the sources and the last that was found stands before it.
+pub(crate) fn find_unmarked(
+    kept: &[Bundle],
     marks: &[bool],
     name: &Name,
-    place: usize,
-) -> Option<&'a Bundle>
+    first: usize,
+) -> Option<usize>
     requires { CanRefresh kept.now marks.now }
-    ensures { option_copied result ≡ unmarked name.now kept.now marks.now }
+    ensures none { IfNone result (unmarked name.now kept.now marks.now ≡ None) }
+    ensures some { IfSome result (λ place. (place < length kept.now)
+        × (slice_get kept.now place ≡ unmarked name.now kept.now marks.now)) }
 {
-    if place < kept.len() {
-        let bundle = &kept[place];
-        if is_of(bundle, name) {
-            return if marks[place] { None } else { Some(bundle) };
+    if first < kept.len() {
+        if is_of(&kept[first], name) {
+            return if marks[first] { None } else { Some(first) };
         }
     }
     search_unmarked(kept, marks, name)
 }
 
 /// The same, looked for among all.
-pub(crate) fn search_unmarked<'a>(
-    kept: &'a [Bundle],
-    marks: &[bool],
-    name: &Name,
-) -> Option<&'a Bundle>
+pub(crate) fn search_unmarked(kept: &[Bundle], marks: &[bool], name: &Name) -> Option<usize>
     requires { length marks.now ≡ length kept.now }
-    ensures { option_copied result ≡ unmarked name.now kept.now marks.now }
+    ensures none { IfNone result (unmarked name.now kept.now marks.now ≡ None) }
+    ensures some { IfSome result (λ place. (place < length kept.now)
+        × (slice_get kept.now place ≡ unmarked name.now kept.now marks.now)) }
 {
     for (place, bundle) in kept.iter().enumerate() {
         if !marks[place] && is_of(bundle, name) {
-            return Some(bundle);
+            return Some(place);
         }
     }
     None

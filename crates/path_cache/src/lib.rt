@@ -4,9 +4,14 @@
 
 mod keeping;
 pub mod laws;
+mod origins;
 mod preparing;
 mod refreshing;
+mod renewing;
+mod sums;
 
 pub use path_calc::{Bundle, NoMemory, PreparedSource, Steps};
 pub use preparing::prepare;
 pub use refreshing::{refresh, refresh_prepared};
+pub use renewing::{Renewed, WithSums, refresh_sums, refresh_sums_prepared, renew};
+pub use sums::RowSums;

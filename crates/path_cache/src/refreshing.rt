@@ -1,11 +1,13 @@
 //! A refresh of the bundles of one receiver.
 ghost use Rattle.std.specs.List.{list_any};
-ghost use Rattle.std.specs.Prelude.{◌≡◌, ◌≤◌, ◌+◌, ◌++◌, IfOk, OnOk, length, map, if◌then◌else◌};
+ghost use Rattle.std.specs.Prelude.{◌≡◌, ◌≤◌, ◌+◌, [], ◌∷◌, ◌++◌, IfOk, OnOk, length, map, if◌then◌else◌};
 ghost use Rattle.path_calc.specs.Prepared.{prepared_of};
 ghost use Rattle.path_cache.specs.Refreshed.{CanRefresh, refreshed, refreshed_bundle, is_wanted, count_wanted};
+ghost use Rattle.path_cache.specs.Origins.{Ascend, IsBetween, bundle_from, bundles_from};
 ghost use Rattle.path_cache.specs.OfOneSource.{refreshed_of_one, steps_of_one, needs_path};
 
 use crate::keeping::{find_unmarked, search_unmarked};
+use crate::origins::{Origin, Origins, copied};
 use crate::preparing::prepare;
 use path_calc::{
     Bundle, Found, IndexedScene, PreparedReceiver, PreparedSource, Steps, bundle_between, within,
@@ -47,7 +49,12 @@ pub fn refresh<L: Ledger>(
 }
 
 /// Whether the bundle of a source within reach is marked or missing.
-fn needs_a_path(scene: &Scene, receiver: &Receiver, kept: &[Bundle], marks: &[bool]) -> bool
+pub(crate) fn needs_a_path(
+    scene: &Scene,
+    receiver: &Receiver,
+    kept: &[Bundle],
+    marks: &[bool],
+) -> bool
     requires { CanRefresh kept.now marks.now }
     ensures { result ≡ list_any (needs_path scene.now receiver.now kept.now marks.now) scene.now.sources }
 {
@@ -94,6 +101,31 @@ pub fn refresh_prepared<L: Ledger>(
         ≡ steps.old + count_wanted scene.now receiver.now kept.now marks.now) }
     ensures most { steps.new ≤ steps.old + count_wanted scene.now receiver.now kept.now marks.now }
 {
+    let origins = origins_of(alloc, scene, prepared, receiver, kept, marks, steps)?;
+    Ok(copied(alloc, kept, origins)?)
+}
+
+/// Where each bundle of a refreshed receiver comes from: for each source within reach, in the order of sources, the
+/// unmarked kept bundle of that source, where there is one, and else the scene's, which is calculated.
+pub(crate) fn origins_of<L: Ledger>(
+    alloc: Global,
+    scene: &IndexedScene<'_>,
+    prepared: &[PreparedSource],
+    receiver: &Receiver,
+    kept: &[Bundle],
+    marks: &[bool],
+    steps: &mut Steps<L>,
+) -> Result<Vec<Origin>, NoMemory>
+    requires prepared { prepared.now ≡ map prepared_of scene.now.sources }
+    requires kept { CanRefresh kept.now marks.now }
+    ensures value { IfOk result (λ origins. bundles_from kept.now origins.items
+        ≡ refreshed scene.now receiver.now kept.now marks.now) }
+    ensures ascend { IfOk result (λ origins. Ascend 0 origins.items (length kept.now)) }
+    ensures few { IfOk result (λ origins. length origins.items ≤ 128) }
+    ensures steps { OnOk result (steps.new
+        ≡ steps.old + count_wanted scene.now receiver.now kept.now marks.now) }
+    ensures most { steps.new ≤ steps.old + count_wanted scene.now receiver.now kept.now marks.now }
+{
     let renewal = Renewal {
         scene,
         receiver,
@@ -102,7 +134,10 @@ pub fn refresh_prepared<L: Ledger>(
         marks,
     };
     let mut found = Found::new(alloc);
-    let mut bundles = Vec::with_capacity(alloc, kept.len())?;
+    let mut origins = Origins {
+        list: Vec::with_capacity(alloc, kept.len())?,
+        next: 0,
+    };
     for (place, source) in scene.sources().iter().enumerate() {
         renewal.add(
             alloc,
@@ -110,10 +145,10 @@ pub fn refresh_prepared<L: Ledger>(
             &prepared[place],
             &mut found,
             steps,
-            &mut bundles,
+            &mut origins,
         )?;
     }
-    Ok(bundles)
+    Ok(origins.list)
 }
 
 /// A receiver in a scene, and what was kept for it.
@@ -128,7 +163,7 @@ struct Renewal<'a> {
 }
 
 impl<'a> Renewal<'a> {
-    /// Adds the bundle of a source, if it is within reach.
+    /// Adds the origin of a source's bundle, if the source is within reach.
     fn add<L: Ledger>(
         &self,
         alloc: Global,
@@ -136,13 +171,19 @@ impl<'a> Renewal<'a> {
         from: &PreparedSource,
         found: &mut Found,
         steps: &mut Steps<L>,
-        bundles: &mut Vec<Bundle>,
+        origins: &mut Origins,
     ) -> Result<(), NoMemory>
         requires kept { CanRefresh self.now.kept.now self.now.marks.now }
         requires prepared { from.now ≡ prepared_of source.now }
-        ensures bundles { OnOk result (bundles.new.items ≡ bundles.old.items
+        ensures bundles { OnOk result (bundles_from self.now.kept.now origins.new.list.items
+            ≡ bundles_from self.now.kept.now origins.old.list.items
             ++ refreshed_of_one self.now.scene.now self.now.receiver.now
             self.now.kept.now self.now.marks.now source.now) }
+        ensures ascend { OnOk result (Ascend 0 origins.old.list.items origins.old.next
+            → Ascend 0 origins.new.list.items origins.new.next) }
+        ensures next { OnOk result (origins.old.next ≤ length self.now.kept.now
+            → origins.new.next ≤ length self.now.kept.now) }
+        ensures one { OnOk result (length origins.new.list.items ≤ length origins.old.list.items + 1) }
         ensures steps { steps.new ≡ steps.old
             + steps_of_one self.now.scene.now self.now.receiver.now
             self.now.kept.now self.now.marks.now source.now }
@@ -151,31 +192,36 @@ impl<'a> Renewal<'a> {
         if !within(self.scene.globals().reach, source.at, receiver.at) {
             return Ok(());
         }
-        let bundle = self.bundle(alloc, source, from, bundles.len(), found, steps)?;
-        Ok(bundles.push(bundle)?)
+        let origin = self.origin(alloc, source, from, origins.next, found, steps)?;
+        origins.push(origin)?;
+        Ok(())
     }
 
-    /// The unmarked kept bundle of a source, which may stand at a place, and else the scene's.
+    /// The unmarked kept bundle of a source, which may stand at a place or behind it, and else the scene's. Where it stands
+    /// before that place, as the sources had another order when it was kept, a copy stands for it.
     #[tactic(auto, unfolding(crate::specs::Refreshed::refreshed_bundle))]
-    fn bundle<L: Ledger>(
+    fn origin<L: Ledger>(
         &self,
         alloc: Global,
         source: &PointSource,
         from: &PreparedSource,
-        place: usize,
+        next: usize,
         found: &mut Found,
         steps: &mut Steps<L>,
-    ) -> Result<Bundle, NoMemory>
+    ) -> Result<Origin, NoMemory>
         requires kept { CanRefresh self.now.kept.now self.now.marks.now }
         requires prepared { from.now ≡ prepared_of source.now }
-        ensures bundle { IfOk result (λ bundle. bundle ≡ refreshed_bundle self.now.scene.now
-            self.now.receiver.now self.now.kept.now self.now.marks.now source.now) }
+        ensures bundle { IfOk result (λ origin. bundle_from self.now.kept.now origin
+            ≡ refreshed_bundle self.now.scene.now self.now.receiver.now self.now.kept.now
+            self.now.marks.now source.now ∷ []) }
+        ensures place { IfOk result (λ origin. IsBetween next (length self.now.kept.now) origin) }
         ensures steps { steps.new ≡ steps.old
             + (if is_wanted self.now.kept.now self.now.marks.now source.now then 1 else 0) }
     {
-        match find_unmarked(self.kept, self.marks, &source.name, place) {
-            Some(unmarked) => Ok(unmarked.clone()?),
-            None => bundle_between(
+        match find_unmarked(self.kept, self.marks, &source.name, next) {
+            Some(place) if next <= place => Ok(Origin::Kept(place)),
+            Some(place) => Ok(Origin::New(self.kept[place].clone()?)),
+            None => Ok(Origin::New(bundle_between(
                 alloc,
                 self.scene,
                 source,
@@ -184,7 +230,7 @@ impl<'a> Renewal<'a> {
                 &self.to,
                 found,
                 steps,
-            ),
+            )?)),
         }
     }
 }

@@ -1,0 +1,121 @@
+//! A row whose sums are refreshed as sources come and go. The levels were calculated by an independent program.
+ghost use Rattle.std.specs.Prelude.{◌≡◌, ◌<◌};
+
+use crate::scenes::take;
+use path_cache::{RowSums, Steps, WithSums, refresh_sums};
+use scene_book::{Edit, Scene};
+use scene_geom::Pt;
+use scene_parts::{Kind, Name, Part, PointSource, Receiver};
+use std::alloc::Global;
+use std::marker::Brand;
+use std::sync::ledger::{Blank, Ledger};
+
+/// The ends of a level, in units of 2^-32 dB.
+type Ends = (Option<i128>, Option<i128>);
+
+fn source(name: Name, at: Pt) -> Edit {
+    Edit::Put(Part::Source(PointSource {
+        name,
+        kind: Kind::Industry,
+        at,
+        h: 2000,
+        lw: [Some(9500), None, None, None, Some(9000), None, None, None],
+        dc: 0,
+    }))
+}
+
+fn far(alloc: Global) -> Option<Edit> {
+    let name = Name::from_vec(b"s".to_vec(alloc).ok()?);
+    Some(source(name, Pt::new(0, 0)))
+}
+
+fn near(alloc: Global) -> Option<Edit> {
+    let name = Name::from_vec(b"t".to_vec(alloc).ok()?);
+    Some(source(name, Pt::new(40_000, 30_000)))
+}
+
+/// A scene with the source `s`, or with `t`, or with both.
+fn scene(alloc: Global, s: bool, t: bool) -> Option<Scene> {
+    let mut scene = Scene::empty(alloc).ok()?;
+    if s {
+        take(alloc, &mut scene, far(alloc))?;
+    }
+    if t {
+        take(alloc, &mut scene, near(alloc))?;
+    }
+    Some(scene)
+}
+
+fn receiver(alloc: Global) -> Option<Receiver> {
+    Some(Receiver {
+        name: Name::from_vec(b"r".to_vec(alloc).ok()?),
+        at: Pt::new(100_000, 0),
+        h: 2000,
+    })
+}
+
+/// A row of one bundle at most in a scene, of what was kept.
+fn refreshed_counted<L: Ledger>(
+    alloc: Global,
+    scene: &Scene,
+    kept: &WithSums,
+    blank: Blank,
+) -> Option<WithSums>
+    requires name { blank.name ≡ L.name }
+    requires parts { blank.parts ≡ L.parts }
+    requires some { 0 < blank.parts }
+{
+    let bundles = kept.bundles.as_slice();
+    if bundles.len() > 1 {
+        return None;
+    }
+    let marks = &[false][..bundles.len()];
+    let receiver = receiver(alloc)?;
+    let mut steps = Steps::<L>::of(blank);
+    refresh_sums(
+        alloc, scene, &receiver, bundles, marks, &kept.sums, &mut steps,
+    )
+    .ok()
+}
+
+/// The same, with steps that nobody counts.
+fn refreshed(alloc: Global, scene: &Scene, kept: &WithSums) -> Option<WithSums> {
+    refreshed_counted::<Brand>(alloc, scene, kept, Blank::new(1))
+}
+
+/// The row of a receiver in the scene of some sources.
+fn next(alloc: Global, s: bool, t: bool, kept: &WithSums) -> Option<WithSums> {
+    let scene = scene(alloc, s, t)?;
+    refreshed(alloc, &scene, kept)
+}
+
+fn total(row: &WithSums) -> Ends {
+    let total = row.sums.levels().total;
+    (total.low(), total.high())
+}
+
+/// The row of nothing.
+fn nothing(alloc: Global) -> WithSums {
+    WithSums {
+        bundles: Vec::new(alloc),
+        sums: RowSums::zero(),
+    }
+}
+
+/// The total with `t`, then with `s` in its place, and then with both.
+fn totals(alloc: Global) -> Option<[Ends; 3]> {
+    let one = next(alloc, false, true, &nothing(alloc))?;
+    let other = next(alloc, true, false, &one)?;
+    let both = next(alloc, true, true, &other)?;
+    Some([total(&one), total(&other), total(&both)])
+}
+
+#[test]
+fn sums_follow_the_sources(rt: HostRuntime) {
+    let expected = [
+        (Some(194_365_999_740), Some(194_365_999_800)),
+        (Some(178_952_583_410), Some(178_952_583_430)),
+        (Some(201_137_171_430), Some(201_137_171_470)),
+    ];
+    assert_eq!(rt; totals(rt.alloc()), Some(expected));
+}

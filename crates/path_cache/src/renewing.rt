@@ -1,0 +1,259 @@
+//! Refreshes of rows that keep the sums of their bundles' energies.
+ghost use Rattle.std.specs.Bool.{OnTrue};
+ghost use Rattle.std.specs.Vec.Iter.{into_iter_items, into_iter_len};
+ghost use Rattle.std.specs.Prelude.{◌≡◌, ◌≤◌, ◌<◌, ◌+◌, ◌∷◌, List, [], IfOk, OnOk, length, map, drop, vec_capacity};
+ghost use Rattle.path_calc.specs.Bundles.{Bundle as BundleSeen};
+ghost use Rattle.path_calc.specs.Prepared.{prepared_of};
+ghost use Rattle.path_cache.specs.Refreshed.{CanRefresh, refreshed, count_wanted};
+ghost use Rattle.path_cache.specs.Sums.{Fits};
+ghost use Rattle.path_cache.specs.Origins.{Ascend, StandInPlace, StandsAt, bundles_from, placed_at};
+ghost use Rattle.path_cache.specs.Renewals.{Gives};
+
+use crate::origins::{Origin, copied, sums_after};
+use crate::preparing::prepare;
+use crate::refreshing::{needs_a_path, origins_of};
+use crate::sums::RowSums;
+use path_calc::{Bundle, IndexedScene, PreparedSource, Steps};
+use scene_book::Scene;
+use scene_parts::{NoMemory, Receiver};
+use sight_cut::grid_of;
+use std::alloc::Global;
+use std::sync::ledger::Ledger;
+use std::vec::IntoIter;
+
+/// The bundles of a receiver, and the sums of their energies.
+#[derive(Drop)]
+pub struct WithSums {
+    pub bundles: Vec<Bundle>,
+    pub sums: RowSums,
+    pub ghost fit: { Fits sums bundles.items },
+}
+
+/// A refresh of a receiver's bundles for which all was calculated and all memory taken: where each bundle comes from,
+/// the sums of them all, and room for them.
+#[derive(Drop)]
+pub struct Renewed {
+    pub(crate) origins: Vec<Origin>,
+    pub(crate) sums: RowSums,
+    pub(crate) room: Vec<Bundle>,
+}
+
+/// The bundles of a receiver in a scene as `refresh` gives them, of kept ones that are marked or not, and their sums,
+/// where the sums of the kept ones are known: what was calculated again or is gone is taken off, what is new is added.
+pub fn refresh_sums<L: Ledger>(
+    alloc: Global,
+    scene: &Scene,
+    receiver: &Receiver,
+    kept: &[Bundle],
+    marks: &[bool],
+    sums: &RowSums,
+    steps: &mut Steps<L>,
+) -> Result<WithSums, NoMemory>
+    requires kept { CanRefresh kept.now marks.now }
+    requires fit { Fits sums.now kept.now }
+    ensures value { IfOk result (λ row. row.bundles.items
+        ≡ refreshed scene.now receiver.now kept.now marks.now) }
+    ensures fit { IfOk result (λ row. Fits row.sums row.bundles.items) }
+    ensures few { IfOk result (λ row. length row.bundles.items ≤ 128) }
+    ensures steps { OnOk result (steps.new
+        ≡ steps.old + count_wanted scene.now receiver.now kept.now marks.now) }
+    ensures most { steps.new ≤ steps.old + count_wanted scene.now receiver.now kept.now marks.now }
+{
+    let prepared = prepare(alloc, scene)?;
+    if !needs_a_path(scene, receiver, kept, marks) {
+        let scene = IndexedScene::plain(scene);
+        return refresh_sums_prepared(alloc, &scene, &prepared, receiver, kept, marks, sums, steps);
+    }
+    let grid = grid_of(alloc, scene.obstacles())?;
+    let scene = IndexedScene::by(scene, &grid);
+    refresh_sums_prepared(alloc, &scene, &prepared, receiver, kept, marks, sums, steps)
+}
+
+/// The same, of a scene that may have an index of its obstacles, and whose sources are prepared: once, and not for each
+/// receiver.
+pub fn refresh_sums_prepared<L: Ledger>(
+    alloc: Global,
+    scene: &IndexedScene<'_>,
+    prepared: &[PreparedSource],
+    receiver: &Receiver,
+    kept: &[Bundle],
+    marks: &[bool],
+    sums: &RowSums,
+    steps: &mut Steps<L>,
+) -> Result<WithSums, NoMemory>
+    requires prepared { prepared.now ≡ map prepared_of scene.now.sources }
+    requires kept { CanRefresh kept.now marks.now }
+    requires fit { Fits sums.now kept.now }
+    ensures value { IfOk result (λ row. row.bundles.items
+        ≡ refreshed scene.now receiver.now kept.now marks.now) }
+    ensures fit { IfOk result (λ row. Fits row.sums row.bundles.items) }
+    ensures few { IfOk result (λ row. length row.bundles.items ≤ 128) }
+    ensures steps { OnOk result (steps.new
+        ≡ steps.old + count_wanted scene.now receiver.now kept.now marks.now) }
+    ensures most { steps.new ≤ steps.old + count_wanted scene.now receiver.now kept.now marks.now }
+{
+    let origins = origins_of(alloc, scene, prepared, receiver, kept, marks, steps)?;
+    let sums = sums_after(kept, origins.as_slice(), sums);
+    let bundles = copied(alloc, kept, origins)?;
+    Ok(WithSums { bundles, sums })
+}
+
+/// The same for a row that gives its kept bundles away: here all is done that may fail, and then `Renewed::with_kept`
+/// moves the kept bundles that stand to where they stay.
+pub fn renew<L: Ledger>(
+    alloc: Global,
+    scene: &IndexedScene<'_>,
+    prepared: &[PreparedSource],
+    receiver: &Receiver,
+    kept: &[Bundle],
+    marks: &[bool],
+    sums: &RowSums,
+    steps: &mut Steps<L>,
+) -> Result<Renewed, NoMemory>
+    requires prepared { prepared.now ≡ map prepared_of scene.now.sources }
+    requires kept { CanRefresh kept.now marks.now }
+    requires fit { Fits sums.now kept.now }
+    ensures value { IfOk result (λ renewed. Gives renewed kept.now
+        (refreshed scene.now receiver.now kept.now marks.now)) }
+    ensures few { IfOk result (λ renewed.
+        length (refreshed scene.now receiver.now kept.now marks.now) ≤ 128) }
+    ensures steps { OnOk result (steps.new
+        ≡ steps.old + count_wanted scene.now receiver.now kept.now marks.now) }
+    ensures most { steps.new ≤ steps.old + count_wanted scene.now receiver.now kept.now marks.now }
+{
+    let origins = origins_of(alloc, scene, prepared, receiver, kept, marks, steps)?;
+    let sums = sums_after(kept, origins.as_slice(), sums);
+    let room = Vec::with_capacity(alloc, origins.len())?;
+    Ok(Renewed {
+        origins,
+        sums,
+        room,
+    })
+}
+
+impl Renewed {
+    /// How many bundles it gives.
+    pub fn len(&self) -> usize
+        ensures { (kept : List BundleSeen) (bundles : List BundleSeen) → Gives self.now kept bundles
+            → result ≡ length bundles }
+    {
+        self.origins.len()
+    }
+
+    /// The refreshed bundles and their sums: kept bundles that stand stay in their places or are moved, the others are dropped.
+    /// No memory is taken.
+    pub fn with_kept(self, kept: Vec<Bundle>) -> WithSums
+        requires { (bundles : _) × Gives self kept.items bundles }
+        ensures { (bundles : _) → Gives self kept.items bundles → result.bundles.items ≡ bundles }
+    {
+        let Renewed {
+            origins,
+            sums,
+            room,
+        } = self;
+        WithSums {
+            bundles: gathered(origins, kept, room),
+            sums,
+        }
+    }
+}
+
+/// The bundles of some origins: where each kept one that goes over stays in its place, new ones take the places of the
+/// others, and else there is room for all.
+fn gathered(origins: Vec<Origin>, kept: Vec<Bundle>, room: Vec<Bundle>) -> Vec<Bundle>
+    requires ascend { Ascend 0 origins.items (length kept.items) }
+    requires empty { room.items ≡ [] }
+    requires room { length origins.items ≤ vec_capacity room }
+    ensures { result.items ≡ bundles_from kept.items origins.items }
+{
+    if origins.len() == kept.len() && stand_in_place(origins.as_slice()) {
+        replaced(origins, kept)
+    } else {
+        moved(origins, kept, room)
+    }
+}
+
+/// Whether each kept bundle among some origins goes over to its own place.
+fn stand_in_place(origins: &[Origin]) -> bool
+    ensures { OnTrue result (StandInPlace origins.now) }
+{
+    for (place, origin) in origins.iter().enumerate() {
+        if !stands_at(origin, place) {
+            return false;
+        }
+    }
+    true
+}
+
+/// Whether an origin is new, or that of the kept bundle at a place.
+fn stands_at(origin: &Origin, place: usize) -> bool
+    ensures { OnTrue result (StandsAt place origin.now) }
+{
+    match origin {
+        Origin::Kept(kept) => *kept == place,
+        Origin::New(_) => true,
+    }
+}
+
+/// The bundles of some origins, where each kept one that goes over stands in its place already.
+fn replaced(origins: Vec<Origin>, kept: Vec<Bundle>) -> Vec<Bundle>
+    requires places { StandInPlace origins.items }
+    requires count { length origins.items ≡ length kept.items }
+    ensures { result.items ≡ bundles_from kept.items origins.items }
+{
+    let mut bundles = kept;
+    let mut place = 0;
+    for origin in origins {
+        put_new(&mut bundles, place, origin);
+        place += 1;
+    }
+    bundles
+}
+
+/// Puts a new bundle at a place. A kept one stands there already.
+fn put_new(bundles: &mut Vec<Bundle>, place: usize, origin: Origin)
+    requires { place < length bundles.old.items }
+    ensures { bundles.new.items ≡ placed_at place origin bundles.old.items }
+{
+    if let Origin::New(bundle) = origin {
+        bundles[place] = bundle;
+    }
+}
+
+/// The bundles of some origins, where those that were kept are moved. There is room for them.
+fn moved(origins: Vec<Origin>, kept: Vec<Bundle>, room: Vec<Bundle>) -> Vec<Bundle>
+    requires ascend { Ascend 0 origins.items (length kept.items) }
+    requires empty { room.items ≡ [] }
+    requires room { length origins.items ≤ vec_capacity room }
+    ensures { result.items ≡ bundles_from kept.items origins.items }
+{
+    let mut bundles = room;
+    let mut rest = kept.into_iter();
+    let mut next = 0;
+    for origin in origins {
+        let bundle = match origin {
+            Origin::Kept(place) => {
+                let bundle = item_behind(&mut rest, place - next);
+                next = place + 1;
+                bundle
+            }
+            Origin::New(bundle) => bundle,
+        };
+        bundles.push_reserved(bundle);
+    }
+    bundles
+}
+
+/// The item behind so many others, which are dropped.
+fn item_behind(rest: &mut IntoIter<Bundle>, count: usize) -> Bundle
+    requires { count < into_iter_len rest.old }
+    ensures { drop count (into_iter_items rest.old) ≡ result ∷ into_iter_items rest.new }
+{
+    for _ in 0..count {
+        drop(rest.next());
+    }
+    match rest.next() {
+        Some(bundle) => bundle,
+        None => unreachable!(),
+    }
+}
