@@ -10,9 +10,10 @@ use scene_parts::Name;
 use std::alloc::Global;
 use std::sync::Wait;
 use std::test::Fail;
+use std::thread::Threads;
 
 // A board of one receiver, whose job was taken and given back.
-fn given_back<R: Wait>(rt: &R, alloc: Global) -> Option<Board> {
+fn given_back<R: Threads + Wait + Sync>(rt: &R, alloc: Global) -> Option<Board> {
     let (lock, mut editor) = MapLock::start(alloc).ok()?;
     let mut worker = lock.worker(rt, &mut editor);
     edit_both(rt, alloc, &lock, &mut editor)?;
@@ -35,7 +36,7 @@ fn without_receiver(alloc: Global) -> Option<Edit> {
 }
 
 // Takes a job, which is given back after its receiver was removed, and what the editor sees in between.
-fn give_back_late<R: Wait>(
+fn give_back_late<R: Threads + Wait + Sync>(
     rt: &R,
     alloc: Global,
     lock: &MapLock,
@@ -58,7 +59,7 @@ fn give_back_late<R: Wait>(
 }
 
 // A board whose receiver was removed while its job was out, and a look before the job was given back.
-fn removed_meanwhile<R: Wait>(rt: &R, alloc: Global) -> Option<(Board, LookAll)> {
+fn removed_meanwhile<R: Threads + Wait + Sync>(rt: &R, alloc: Global) -> Option<(Board, LookAll)> {
     let (lock, mut editor) = MapLock::start(alloc).ok()?;
     let mut worker = lock.worker(rt, &mut editor);
     edit_both(rt, alloc, &lock, &mut editor)?;

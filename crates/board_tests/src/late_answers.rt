@@ -13,6 +13,7 @@ use scene_parts::{Name, Part, PlainName, RawPart, RawPoints, RawPt, Receiver, ch
 use std::alloc::Global;
 use std::sync::Wait;
 use std::test::Fail;
+use std::thread::Threads;
 
 fn receiver(alloc: Global, x: i64) -> Option<Edit> {
     Some(Edit::Put(Part::Receiver(Receiver {
@@ -22,7 +23,7 @@ fn receiver(alloc: Global, x: i64) -> Option<Edit> {
     })))
 }
 
-fn corners(alloc: Global, places: &[(i64, i64)]) -> Option<RawPoints> {
+pub(crate) fn corners(alloc: Global, places: &[(i64, i64)]) -> Option<RawPoints> {
     let mut points = Vec::new(alloc);
     for (x, y) in places {
         points.push(RawPt { x: *x, y: *y }).ok()?;
@@ -30,7 +31,7 @@ fn corners(alloc: Global, places: &[(i64, i64)]) -> Option<RawPoints> {
     Some(RawPoints::from_vec(points))
 }
 
-fn put(alloc: Global, raw: RawPart) -> Option<Edit> {
+pub(crate) fn put(alloc: Global, raw: RawPart) -> Option<Edit> {
     match check(alloc, raw) {
         Ok(checked) => Some(Edit::from(checked)),
         Err(_) => None,
@@ -96,7 +97,7 @@ fn without_house(alloc: Global) -> Option<Edit> {
 }
 
 // An edit that is accepted.
-fn edit<R: Wait>(
+fn edit<R: Threads + Wait + Sync>(
     rt: &R,
     alloc: Global,
     lock: &MapLock,
@@ -116,7 +117,12 @@ fn edit<R: Wait>(
 }
 
 // A source, a receiver and a house.
-fn put_three<R: Wait>(rt: &R, alloc: Global, lock: &MapLock, editor: &mut EditorSeat) -> Option<()>
+fn put_three<R: Threads + Wait + Sync>(
+    rt: &R,
+    alloc: Global,
+    lock: &MapLock,
+    editor: &mut EditorSeat,
+) -> Option<()>
     requires own { editor.old.table ≡ lock.now }
     ensures own { editor.new.table ≡ lock.now }
     ensures parts { editor.new.parts ≡ editor.old.parts }
@@ -127,7 +133,7 @@ fn put_three<R: Wait>(rt: &R, alloc: Global, lock: &MapLock, editor: &mut Editor
 }
 
 // The house moved, and the barrier put.
-fn put_barrier<R: Wait>(
+fn put_barrier<R: Threads + Wait + Sync>(
     rt: &R,
     alloc: Global,
     lock: &MapLock,
@@ -142,7 +148,12 @@ fn put_barrier<R: Wait>(
 }
 
 // The shed put, and the house removed.
-fn put_shed<R: Wait>(rt: &R, alloc: Global, lock: &MapLock, editor: &mut EditorSeat) -> Option<()>
+fn put_shed<R: Threads + Wait + Sync>(
+    rt: &R,
+    alloc: Global,
+    lock: &MapLock,
+    editor: &mut EditorSeat,
+) -> Option<()>
     requires own { editor.old.table ≡ lock.now }
     ensures own { editor.new.table ≡ lock.now }
     ensures parts { editor.new.parts ≡ editor.old.parts }
@@ -152,7 +163,7 @@ fn put_shed<R: Wait>(rt: &R, alloc: Global, lock: &MapLock, editor: &mut EditorS
 }
 
 // Takes a job, which is solved and offered after the shed was put and the house removed.
-fn work_late<R: Wait>(
+fn work_late<R: Threads + Wait + Sync>(
     rt: &R,
     alloc: Global,
     lock: &MapLock,
@@ -176,7 +187,7 @@ fn work_late<R: Wait>(
 }
 
 // A board on which an answer for version 5 landed at version 7, and what became of its two answers.
-fn landed_late<R: Wait>(rt: &R, alloc: Global) -> Option<(Board, Landed, Landed)> {
+fn landed_late<R: Threads + Wait + Sync>(rt: &R, alloc: Global) -> Option<(Board, Landed, Landed)> {
     let (lock, mut editor) = MapLock::start(alloc).ok()?;
     let mut first = lock.worker(rt, &mut editor);
     let mut second = lock.worker(rt, &mut editor);
@@ -234,7 +245,7 @@ fn an_answer_that_lands_late_is_stale_by_the_first_later_edit(rt: HostRuntime) -
 
 // Takes a job, which is solved and offered after its receiver was put at another place. Whether the other worker finds one
 // row out meanwhile, and what becomes of the answer.
-fn work_moved<R: Wait>(
+fn work_moved<R: Threads + Wait + Sync>(
     rt: &R,
     alloc: Global,
     lock: &MapLock,
@@ -263,7 +274,10 @@ fn work_moved<R: Wait>(
 }
 
 // A board whose receiver was put at another place while its job was out.
-fn moved_meanwhile<R: Wait>(rt: &R, alloc: Global) -> Option<(Board, bool, Landed)> {
+fn moved_meanwhile<R: Threads + Wait + Sync>(
+    rt: &R,
+    alloc: Global,
+) -> Option<(Board, bool, Landed)> {
     let (lock, mut editor) = MapLock::start(alloc).ok()?;
     let mut first = lock.worker(rt, &mut editor);
     let mut second = lock.worker(rt, &mut editor);

@@ -11,6 +11,7 @@ use scene_parts::{Kind, Name, Part, PointSource, Receiver};
 use std::alloc::Global;
 use std::sync::Wait;
 use std::test::Fail;
+use std::thread::Threads;
 
 pub(crate) fn source(alloc: Global) -> Option<Edit> {
     Some(Edit::Put(Part::Source(PointSource {
@@ -93,7 +94,7 @@ fn sees_one_current<R: Wait>(rt: &R, alloc: Global, lock: &MapLock, looker: &mut
 }
 
 // The two edits.
-pub(crate) fn edit_both<R: Wait>(
+pub(crate) fn edit_both<R: Threads + Wait + Sync>(
     rt: &R,
     alloc: Global,
     lock: &MapLock,
@@ -109,7 +110,7 @@ pub(crate) fn edit_both<R: Wait>(
 }
 
 // What became of the answer, whether the look shows the receiver as current, and the version of the board that is closed.
-fn course<R: Wait>(rt: &R, alloc: Global) -> Option<(Landed, bool, u64)> {
+fn course<R: Threads + Wait + Sync>(rt: &R, alloc: Global) -> Option<(Landed, bool, u64)> {
     let (lock, mut editor) = MapLock::start(alloc).ok()?;
     let mut worker = lock.worker(rt, &mut editor);
     edit_both(rt, alloc, &lock, &mut editor)?;

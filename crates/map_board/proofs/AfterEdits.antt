@@ -9,7 +9,7 @@ use Rattle.path_calc.specs.Show.{bundles_of}
 use Rattle.path_cache.specs.Refreshed.{CanRefresh, Stand, is_wanted}
 use Rattle.touch_test.specs.Touches.{names_receiver, touches_receiver}
 use Rattle.touch_test.proofs.Edits.{answers-old}
-use Rattle.map_board.specs.declared.rows.Cache.{Cache}
+use Rattle.map_board.specs.declared.caches.Cache.{Cache}
 use Rattle.map_board.specs.declared.rows.KeptLevels.{KeptLevels}
 use Rattle.map_board.specs.declared.rows.HeldRow.{HeldRow}
 use Rattle.map_board.specs.declared.renewing.Change.{Change}

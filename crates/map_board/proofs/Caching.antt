@@ -19,7 +19,7 @@ use Rattle.touch_test.specs.Laws.{PathStays, UntouchedPathsStay, UntouchedReceiv
 use Rattle.touch_test.proofs.Untouched.{untouched-paths-stay, untouched-receivers-stay}
 use Rattle.touch_test.proofs.Edits.{answers-old}
 use Rattle.touch_test.proofs.Lists.{In, neither, fails-at, in-map, map-agrees, contains, found-in}
-use Rattle.map_board.specs.declared.rows.Cache.{Cache}
+use Rattle.map_board.specs.declared.caches.Cache.{Cache}
 use Rattle.map_board.specs.Journal.{scene_left, book_after, book_after_all, scene_at, newest_scene, first_from, first_after, first_touching, touches}
 use Rattle.map_board.specs.Rows.{Kept}
 use Rattle.map_board.specs.Due.{source_within, touches_source, is_due}

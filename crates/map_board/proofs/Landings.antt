@@ -15,7 +15,7 @@ use Rattle.path_cache.specs.Refreshed.{CanRefresh, Stand, is_wanted}
 use Rattle.map_board.specs.declared.log.LogEntry.{LogEntry}
 use Rattle.map_board.specs.declared.state.Board.TheInside.{Inside}
 use Rattle.map_board.specs.declared.rows.Back.{Back}
-use Rattle.map_board.specs.declared.rows.Cache.{Cache}
+use Rattle.map_board.specs.declared.caches.Cache.{Cache}
 use Rattle.map_board.specs.declared.rows.KeptLevels.{KeptLevels}
 use Rattle.map_board.specs.declared.rows.HeldRow.{HeldRow}
 use Rattle.map_board.specs.Views.{Job, Answer}

@@ -9,7 +9,9 @@ pub mod Scanning
 pub mod Needy
 pub mod Places
 pub mod Taking
+pub mod InTurn
 pub mod Unmarked
+pub mod PathTests
 pub mod Apart
 pub mod Caching
 pub mod SeenRows
@@ -28,3 +30,6 @@ pub mod Showing
 pub mod Touched
 pub mod Untouched
 pub mod OnePut
+pub mod First
+pub mod AnyCalls
+pub mod FarMarks

@@ -16,7 +16,7 @@ use Rattle.touch_test.proofs.Edits.{answers-old}
 use Rattle.map_board.specs.declared.rows.HeldRow.{HeldRow}
 use Rattle.map_board.specs.declared.renewing.Change.{Change}
 use Rattle.map_board.specs.Boards.{row_of, RowHolds, EachHolds}
-use Rattle.map_board.specs.Changes.{scene_before, scene_after, is_unnamed, changes_receivers_alone, removed_place, gone_from, named_place, without_place, put_place, placed, IsChange, IsFresh, IsRowAfter}
+use Rattle.map_board.specs.Changes.{scene_before, scene_after, is_unnamed, changes_receivers_alone, gone_from, named_place, without_place, put_place, placed, IsChange, IsFresh, IsRowAfter}
 use Rattle.map_board.proofs.Naming.{named-is, same-name, turned}
 use Rattle.map_board.proofs.Places.{none-here}
 use Rattle.map_board.proofs.Receivers.{put-apart}

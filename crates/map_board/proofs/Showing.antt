@@ -151,7 +151,7 @@ module _ (s t : State) (fair : IsFair s) (right : All (RowIsRight t.journal) t.r
   still : t.journal ≡ s.journal → t.rows ≡ s.rows → IsFair t
   still same rows = same-fair s s.journal t fair same (ap (map (λ (row : Row). row.receiver)) rows) right
 
-  step-fair : (call : BoardCall) (reply : BoardReply) → Step s call reply t → IsFair t
+  pub step-fair : (call : BoardCall) (reply : BoardReply) → Step s call reply t → IsFair t
   step-fair (calls.Edit edit) (replies.Edited (Ok v)) step =
       let a = accepted-of v (suc (length s.journal)) (apply_of edit (newest_scene s.journal)) step.0 in
       let now = step.1 in
@@ -179,7 +179,7 @@ module _ (s t : State) (fair : IsFair s) (right : All (RowIsRight t.journal) t.r
   step-fair calls.Look (replies.Looked (Err want)) step = subst IsFair (sym step) fair
   step-fair call reply step = absurd step
 
-start-fair : IsFair start
+pub start-fair : IsFair start
 start-fair = record { accepted = refl; fine = none-fine; order = refl; right = All-nil (RowIsRight []) }
 
 run-fair : (front back : Entries) (mid to : State) → IsRun start Step May front mid → IsFair mid → EachAllowed May front back → Leads Step mid back to → IsFair to
@@ -231,7 +231,7 @@ module _ (stays : UntouchedReceiversStayInTurn) (journal : List Edit) (accepted 
     held None none = right.since
     held (Some k) some = landed_since k (right.kept k some) (first_touching journal k.version row.receiver) refl
 
-  rows-right : (rows : List Row) → All (RowIsRight journal) rows → AreRowsOf journal (map (λ (row : Row). row.receiver) rows) (map (look_row journal) rows)
+  pub rows-right : (rows : List Row) → All (RowIsRight journal) rows → AreRowsOf journal (map (λ (row : Row). row.receiver) rows) (map (look_row journal) rows)
   rows-right [] all = tt
   rows-right (row ∷ rows) all =
       (record { name = refl; shown = shown-right row (All-head (RowIsRight journal) row rows all) }, rows-right rows (All-tail (RowIsRight journal) row rows all))
@@ -250,7 +250,7 @@ module _ (stays : UntouchedReceiversStayInTurn) (journal : List Edit) (accepted 
   both true b h = cc
   both false b h = (refl, h)
 
-  rows-settled : (rows : List Row) → All (RowIsRight journal) rows → list_any (is_unsettled journal) rows ≡ false
+  pub rows-settled : (rows : List Row) → All (RowIsRight journal) rows → list_any (is_unsettled journal) rows ≡ false
       → map (look_row journal) rows ≡ map (settled_row (newest_scene journal)) (map (λ (row : Row). row.receiver) rows)
   rows-settled [] all none = refl
   rows-settled (row ∷ rows) all none =
@@ -307,7 +307,7 @@ editors-all before (e ∷ es) allowed = go (eqb e.number editor) refl (editors-a
 
 -- ---- the law
 
-length-rows : (journal : List Edit) (rows : List Row) (rs : List Receiver) → map (λ (row : Row). row.receiver) rows ≡ rs → length (map (look_row journal) rows) ≡ length rs
+pub length-rows : (journal : List Edit) (rows : List Row) (rs : List Receiver) → map (λ (row : Row). row.receiver) rows ≡ rs → length (map (look_row journal) rows) ≡ length rs
 length-rows journal [] rs e = ap length e
 length-rows journal (row ∷ rows) [] e = cc
 length-rows journal (row ∷ rows) (r ∷ rs) e = let tails : map (λ (x : Row). x.receiver) rows ≡ rs = cc in let n = length-rows journal rows rs tails in omega (arith, n)

@@ -10,7 +10,7 @@ use Rattle.scene_book.specs.declared.edits.Edit.TheVariants as edits
 use Rattle.path_calc.specs.Bundles.{Bundle}
 use Rattle.path_calc.specs.Show.{bundles_of}
 use Rattle.touch_test.specs.Touches.{TracedPath, bundled, edit_touches, is_set, names_receiver, is_source_within, changed_parts, touches_receiver}
-use Rattle.map_board.specs.declared.rows.Cache.{Cache}
+use Rattle.map_board.specs.declared.caches.Cache.{Cache}
 use Rattle.map_board.specs.declared.rows.KeptLevels.{KeptLevels}
 use Rattle.map_board.specs.declared.rows.HeldRow.{HeldRow}
 use Rattle.map_board.specs.declared.renewing.Change.{Change}

@@ -14,7 +14,7 @@ use Rattle.map_board.specs.declared.answers.Shown.TheVariants.{New}
 use Rattle.map_board.specs.declared.log.Log.{Log}
 use Rattle.map_board.specs.declared.looks.LookRow.{LookRow}
 use Rattle.map_board.specs.declared.namings.Naming.{Naming}
-use Rattle.map_board.specs.declared.rows.Cache.{Cache}
+use Rattle.map_board.specs.declared.caches.Cache.{Cache}
 use Rattle.map_board.specs.declared.rows.KeptLevels.{KeptLevels}
 use Rattle.map_board.specs.declared.rows.HeldRow.{HeldRow}
 use Rattle.map_board.specs.declared.rows.Tally.{Tally}

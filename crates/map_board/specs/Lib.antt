@@ -10,13 +10,17 @@ pub mod Machine
 pub mod Facts
 pub mod Past
 pub mod Marks
+pub mod Paths
 pub mod Log
 pub mod Namings
 pub mod Later
 pub mod FirstNaming
 pub mod Boards
 pub mod Back
+pub mod Calculated
 pub mod Changes
 pub mod Seats
 pub mod Laws
 pub mod Showing
+pub mod First
+pub mod Runs

@@ -1,4 +1,4 @@
--- What looks at a board show, after any calls: the headline's facts.
+-- What looks at a board show, after a run of seats: the headline's facts.
 use Rattle.std.specs.Prelude.{◌≡◌, ◌≤◌, false, List, [], ◌∷◌, map, length, flat_map, Some, Ok}
 use Rattle.std.specs.List.{list_any}
 use Rattle.scene_parts.specs.Views.{Receiver}

@@ -9,6 +9,7 @@ ghost use Rattle.map_board.specs.Machine.{rows_after};
 
 use crate::renewing::{Change, carry_over};
 use crate::rows::{Back, Cache, HeldRow, next_needy, put_back, take_row};
+use crate::testing::PathTest;
 use scene_book::Scene;
 use scene_parts::NoMemory;
 use std::alloc::Global;
@@ -98,13 +99,15 @@ impl HeldRows {
     }
 
     /// Carries the rows over to the scene after an edit, as `carry_over` says. Any of them may be needy from now on.
-    pub(crate) fn carry_over(
+    pub(crate) fn carry_over<T: PathTest>(
         &mut self,
         alloc: Global,
         gone: Option<usize>,
         scene: &Scene,
         change: &Change,
+        test: &T,
     )
+        requires ready { T.ready test.now }
         requires change { IsChange change.now }
         requires news { scene.now.receivers ≡ (scene_after change.now).receivers }
         requires apart { AreApart (λ r. r.name) (scene_before change.now).receivers }
@@ -117,7 +120,7 @@ impl HeldRows {
             ≡ rows_after change.now.logged.edit change.now.past.value
             (rows_of (scene_before change.now).receivers self.old.items) }
     {
-        carry_over(alloc, &mut self.rows, gone, scene, change);
+        carry_over(alloc, &mut self.rows, gone, scene, change, test);
         self.passed = 0;
     }
 }

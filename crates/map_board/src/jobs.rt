@@ -1,22 +1,25 @@
 //! Jobs that are taken from a board, and the answers that solving them gives.
-ghost use Rattle.std.specs.Prelude.{◌≡◌, ◌+◌, ◌≤◌, ◌<◌, length, slice_get, Some, IfOk, IfErr, OnOk};
-ghost use Rattle.path_calc.specs.Levels.{levels_of};
-ghost use Rattle.path_cache.specs.Refreshed.{CanRefresh, refreshed};
-ghost use Rattle.map_board.specs.Held.{AreWithin, IsJobOf, no_marks};
+ghost use Rattle.std.specs.Prelude.{◌≡◌, ◌+◌, ◌<◌, length, slice_get, Some, IfOk, IfErr, OnOk};
+ghost use Rattle.path_cache.specs.Refreshed.{CanRefresh};
+ghost use Rattle.touch_test.specs.Envelopes.{TellsOf};
+ghost use Rattle.map_board.specs.Calculated.{IsCalculated};
+ghost use Rattle.map_board.specs.Held.{AreWithin, IsJobOf};
 ghost use Rattle.map_board.specs.Jobs.{Answers};
 
 use crate::name_copies::NameCopy;
 use crate::rows::Cache;
 use crate::scenes::PreparedScene;
-use path_cache::{Bundle, Steps, refresh_prepared};
-use path_calc::{Levels, levels};
+use path_cache::{Bundle, Renewed, RowSums, Steps, WithSums, renew};
+use path_calc::Levels;
 use scene_book::Scene;
+use scene_geom::Pt;
 use scene_parts::{NoMemory, Receiver};
 use std::alloc::Global;
 use std::marker::Model;
 use std::snapshot::Snapshot;
 use std::sync::Arc;
 use std::sync::ledger::Ledger;
+use touch_test::Envelope;
 
 /// What is to be calculated of a receiver: its bundles in the scene of a version, of those that its row had kept and of
 /// which some are marked. Contracts see it as a record of the version, the receiver, the scene, the kept bundles with their
@@ -33,6 +36,9 @@ pub struct Job {
     pub(crate) hold: Option<Arc<PreparedScene>>,
     pub(crate) kept: Vec<Bundle>,
     pub(crate) marks: Vec<bool>,
+    pub(crate) sums: RowSums,
+    pub(crate) envelope: Envelope,
+    ghost tells: { TellsOf envelope kept.items },
 }
 
 impl Model for Job {
@@ -45,7 +51,7 @@ impl Model for Job {
 
     ghost view = { job_seen };
 
-    ghost invariant = { λ j. IsJob j.place (job_seen j) × IsAtHand j.name j.hold (job_seen j) };
+    ghost invariant = { λ j. IsJob j.place (job_seen j) × IsAtHand j.name j.hold j.sums (job_seen j) };
 }
 
 /// What was calculated for a job. Contracts see it as a record of the version, the receiver, the scene, the bundles and
@@ -59,6 +65,9 @@ pub struct Answer {
     pub(crate) bundles: Vec<Bundle>,
     pub(crate) marks: Vec<bool>,
     pub(crate) levels: Levels,
+    pub(crate) sums: RowSums,
+    pub(crate) envelope: Envelope,
+    ghost tells: { TellsOf envelope bundles.items },
 }
 
 impl Model for Answer {
@@ -71,17 +80,15 @@ impl Model for Answer {
 
     ghost view = { answer_seen };
 
-    ghost invariant = { λ a. IsAnswer a.name a.marks.items (answer_seen a) };
+    ghost invariant = { λ a. IsAnswer a.name a.marks.items a.sums (answer_seen a) };
 }
 
-/// The bundles that a job asks for, with room for a mark of each, and their levels.
+/// The refreshed bundles that a job asks for, as far as they are calculated before its kept ones move, a mark of each, and
+/// the place of their receiver.
 struct Calculation {
-    bundles: Vec<Bundle>,
+    renewed: Renewed,
     marks: Vec<bool>,
-    levels: Levels,
-    ghost few: { length bundles.items ≤ 128 },
-    ghost plain: { marks.items ≡ no_marks bundles.items },
-    ghost theirs: { levels ≡ levels_of bundles.items },
+    to: Pt,
 }
 
 impl Job {
@@ -103,6 +110,8 @@ impl Job {
             hold: hold.clone().ok(),
             kept: cache.bundles,
             marks: cache.marks,
+            sums: cache.sums,
+            envelope: cache.envelope,
         }
     }
 
@@ -133,34 +142,34 @@ impl Job {
         }
     }
 
+    /// Does all that may fail, while the job keeps what it has.
     fn calculate<L: Ledger>(
         &self,
         alloc: Global,
         steps: &mut Steps<L>,
     ) -> Result<Calculation, NoMemory>
-        ensures bundles { IfOk result (λ made. made.bundles.items
-            ≡ refreshed self.now.scene self.now.receiver self.now.kept self.now.marks) }
+        ensures made { IfOk result (λ made. IsCalculated self.now made) }
         ensures steps { OnOk result (steps.new ≡ steps.old + self.now.due) }
     {
         let Some(hold) = &self.hold else {
             return Err(NoMemory);
         };
         let hold: &PreparedScene = hold;
-        let bundles = refresh_prepared(
+        let renewed = renew(
             alloc,
             &hold.indexed(),
             &hold.prepared,
             self.receiver_in(&hold.scene),
             &self.kept,
             &self.marks,
+            &self.sums,
             steps,
         )?;
-        let marks = vec![in alloc; false; bundles.len()]?;
-        let levels = levels(&bundles);
+        let marks = vec![in alloc; false; renewed.len()]?;
         Ok(Calculation {
-            bundles,
+            renewed,
             marks,
-            levels,
+            to: self.receiver_in(&hold.scene).at,
         })
     }
 
@@ -179,8 +188,9 @@ impl Job {
         &scene.receivers()[self.place as usize]
     }
 
+    /// The answer to the job, into which its kept bundles move where they stand.
     fn answered_by(self, calculation: Calculation) -> Answer
-        requires { calculation.bundles.items ≡ refreshed self.scene self.receiver self.kept self.marks }
+        requires { IsCalculated self calculation }
         ensures { Answers self result }
     {
         let Job {
@@ -190,22 +200,24 @@ impl Job {
             receiver,
             scene,
             hold: _,
-            kept: _,
+            kept,
             marks: _,
+            sums: _,
+            envelope: _,
         } = self;
-        let Calculation {
-            bundles,
-            marks,
-            levels,
-        } = calculation;
+        let Calculation { renewed, marks, to } = calculation;
+        let WithSums { bundles, sums } = renewed.with_kept(kept);
+        let envelope = Envelope::of(to, &bundles);
         Answer {
             version,
             name,
             receiver,
             scene,
+            levels: sums.levels(),
             bundles,
             marks,
-            levels,
+            sums,
+            envelope,
         }
     }
 }

@@ -78,9 +78,16 @@ impl Answer {
             bundles,
             marks,
             levels,
+            sums,
+            envelope,
         } = self;
         let by = first_touching(later, version, bundles.as_slice(), receiver);
-        let mut cache = Cache { bundles, marks };
+        let mut cache = Cache {
+            bundles,
+            marks,
+            sums,
+            envelope,
+        };
         mark_by_all(&mut cache, later, receiver);
         let kept = KeptLevels {
             version,

@@ -1,6 +1,8 @@
 //! Laws of the board. Each function does nothing: its contract is the law.
 ghost use Rattle.map_board.specs.Facts.{EachStepKeepsRowsRight};
+ghost use Rattle.map_board.specs.First.{FirstIsLeast, NoFirstPassesNone};
 ghost use Rattle.map_board.specs.Laws.{BoardIsLawful};
+ghost use Rattle.map_board.specs.Runs.{AnyCallsShowRight, FinishedByAnEntry, FinishedByTheEditor};
 ghost use Rattle.map_board.specs.Showing.{RunsShowRight};
 
 use touch_test::laws::untouched_receivers_stay;
@@ -26,3 +28,24 @@ pub fn runs_show_right()
 {
     untouched_receivers_stay();
 }
+
+/// After any calls whose conditions hold, whoever asks them, a look shows each receiver right, as after a run of seats. So it
+/// is of a board under a lock of another kind.
+pub fn any_calls_show_right()
+    ensures { AnyCallsShowRight }
+{
+    untouched_receivers_stay();
+}
+
+/// The first edit after a version that passes a test is the one of the least number that does; where none is named, none does.
+/// So it is of the edit that a stale row names, which touches the receiver, and of the one by which an answer is gone.
+pub fn first_is_least()
+    ensures some { FirstIsLeast }
+    ensures none { NoFirstPassesNone }
+{}
+
+/// A board is finished just where an entry has finished it. A take is answered Finished only where the editor has.
+pub fn finished_by_the_editor()
+    ensures entry { FinishedByAnEntry }
+    ensures editor { FinishedByTheEditor }
+{}

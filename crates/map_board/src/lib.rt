@@ -4,6 +4,7 @@
 
 mod answers;
 mod back;
+mod caches;
 mod calls;
 mod editing;
 mod held_rows;
@@ -23,6 +24,7 @@ mod returning;
 mod rows;
 mod scenes;
 mod state;
+mod testing;
 
 pub use answers::{Landed, Shown};
 pub use calls::{BoardCall, BoardReply, Took};

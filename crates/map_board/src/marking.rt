@@ -1,12 +1,14 @@
 //! Marks on the kept bundles that edits touch.
-ghost use Rattle.std.specs.Prelude.{◌≡◌, length};
+ghost use Rattle.std.specs.Prelude.{◌≡◌, ◌||◌, false, IfSome, length, map};
+ghost use Rattle.std.specs.List.{zip, list_any};
 ghost use Rattle.map_board.specs.Marks.{marks_after, touches_one};
+ghost use Rattle.map_board.specs.Paths.{counted, tests_to};
 
 use crate::rows::Cache;
 use path_cache::Bundle;
 use scene_book::Logged;
 use scene_parts::{Globals, Receiver};
-use touch_test::touches;
+use touch_test::{may_touch, touches};
 
 /// Marks each bundle whose path an edit touches, and gives whether there is one. The globals are those before the edit.
 pub(crate) fn mark(
@@ -22,6 +24,9 @@ pub(crate) fn mark(
     ensures one { result
         ≡ touches_one logged.now.edit logged.now.old receiver.now cache.old.bundles.items }
 {
+    if !may_touch(logged, &cache.envelope, receiver) {
+        return false;
+    }
     mark_each(
         cache.bundles.as_slice(),
         cache.marks.as_mut_slice(),
@@ -47,6 +52,47 @@ fn mark_each(
     let mut one = false;
     for (place, bundle) in bundles.iter().enumerate() {
         if touches(logged, globals, bundle, receiver) {
+            marks[place] = true;
+            one = true;
+        }
+    }
+    one
+}
+
+/// Marks as `mark` does, where it may be known already which of the bundles' paths the edit touches, beside those that are
+/// marked where the marks count. Only where they don't, it is known whether it touches one.
+pub(crate) fn mark_known(
+    cache: &mut Cache,
+    counts: bool,
+    tests: Option<&[bool]>,
+    logged: &Logged,
+    globals: &Globals,
+    receiver: &Receiver,
+) -> bool
+    requires count { length cache.old.marks.items ≡ length cache.old.bundles.items }
+    requires tests { IfSome tests (λ tests. tests.now
+        ≡ tests_to logged.now receiver.now (counted counts cache.old)) }
+    ensures bundles { cache.new.bundles ≡ cache.old.bundles }
+    ensures marks { cache.new.marks.items ≡ marks_after logged.now.edit logged.now.old receiver.now
+        cache.old.bundles.items cache.old.marks.items }
+    ensures one { counts ≡ false → result
+        ≡ touches_one logged.now.edit logged.now.old receiver.now cache.old.bundles.items }
+{
+    match tests {
+        Some(tests) => mark_tested(cache.marks.as_mut_slice(), tests),
+        None => mark(cache, logged, globals, receiver),
+    }
+}
+
+/// Sets the mark at each place where a test says so, and gives whether there is one.
+fn mark_tested(marks: &mut [bool], tests: &[bool]) -> bool
+    requires { length marks.old ≡ length tests.now }
+    ensures marks { marks.new ≡ map (λ pair. pair.1 || pair.0) (zip tests.now marks.old) }
+    ensures one { result ≡ list_any (λ test. test) tests.now }
+{
+    let mut one = false;
+    for (place, test) in tests.iter().enumerate() {
+        if *test {
             marks[place] = true;
             one = true;
         }

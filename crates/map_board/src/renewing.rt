@@ -6,17 +6,20 @@ ghost use Rattle.touch_test.specs.Touches.{touches_receiver};
 ghost use Rattle.map_board.specs.declared.rows.KeptLevels.{KeptLevels};
 ghost use Rattle.map_board.specs.Machine.{rows_after};
 ghost use Rattle.map_board.specs.Boards.{kept_of, row_of, rows_of, ByIsRight, RowHolds, EachHolds, IsOutSince};
+ghost use Rattle.map_board.specs.Paths.{kept_at, kept_of_row, tests_of, tests_to};
 ghost use Rattle.map_board.specs.Changes.{scene_before, scene_after, journal_after, touches_a_path, most_more, named_place, gone_from, removed_place, put_place, placed, without_place, changes_receivers_alone as receivers_alone, is_receiver_if_any as receiver_if_any, is_receiver_part, IsChange, IsFresh, HasRow, IsRowAfter};
 
-use crate::marking::mark;
+use crate::marking::mark_known;
 use crate::past::Past;
 use crate::rows::{Cache, HeldRow, KeptLevels};
+use crate::testing::{PathTest, count_at, cut, slice_if_any};
+use path_cache::RowSums;
 use scene_book::limits::MOST_RECEIVERS;
 use scene_book::{Edit, Logged, Scene};
 use scene_parts::{Globals, Part, Receiver};
 use std::alloc::Global;
 use std::snapshot::Snapshot;
-use touch_test::{names_receiver, touches_row};
+use touch_test::{Envelope, names_receiver, touches_row};
 
 /// An edit that the newest scene accepts, what held of that whole scene, the edit's version, and the journal before it,
 /// which contracts alone see.
@@ -63,13 +66,15 @@ pub(crate) fn place_removed(logged: &Logged, place: Option<usize>) -> Option<usi
 
 /// The rows go over to the scene after an edit: that of a receiver that it removes is dropped, those that it puts are
 /// made anew, and the others stay, each at its receiver's place.
-pub(crate) fn carry_over(
+pub(crate) fn carry_over<T: PathTest>(
     alloc: Global,
     rows: &mut Vec<HeldRow>,
     gone: Option<usize>,
     scene: &Scene,
     change: &Change,
+    test: &T,
 )
+    requires ready { T.ready test.now }
     requires change { IsChange change.now }
     requires news { scene.now.receivers ≡ (scene_after change.now).receivers }
     requires apart { AreApart (λ r. r.name) (scene_before change.now).receivers }
@@ -84,7 +89,7 @@ pub(crate) fn carry_over(
     drop_at(rows, gone);
     match place_alone(&change.logged, scene) {
         Some(place) => put_at(rows, place, fresh_row(alloc, change.version)),
-        None => renew_each(alloc, rows, scene.receivers(), change),
+        None => renew_each(alloc, rows, scene.receivers(), change, test),
     }
 }
 
@@ -114,8 +119,16 @@ fn drop_at(rows: &mut Vec<HeldRow>, place: Option<usize>)
     }
 }
 
-/// The row of each receiver after an edit, at its place: anew where the edit names the receiver, else renewed.
-fn renew_each(alloc: Global, rows: &mut Vec<HeldRow>, news: &[Receiver], change: &Change)
+/// The row of each receiver after an edit, at its place: anew where the edit names the receiver, else renewed. All paths
+/// are tested first, where the way of testing does so and the edit may touch any.
+fn renew_each<T: PathTest>(
+    alloc: Global,
+    rows: &mut Vec<HeldRow>,
+    news: &[Receiver],
+    change: &Change,
+    test: &T,
+)
+    requires ready { T.ready test.now }
     requires change { IsChange change.now }
     requires few { length rows.old.items ≤ length news.now }
     requires room { length news.now ≤ vec_capacity rows.old }
@@ -125,8 +138,44 @@ fn renew_each(alloc: Global, rows: &mut Vec<HeldRow>, news: &[Receiver], change:
     ensures each { (k : ℕ) (r : _) → slice_get news.now k ≡ Some r
         → IsSomeAnd (slice_get rows.new.items k) (IsRowAfter change.now r (slice_get rows.old.items k)) }
 {
+    let tests = if changes_receivers_alone(&change.logged) {
+        None
+    } else {
+        test.tests(
+            alloc,
+            news,
+            rows.as_slice(),
+            &change.logged,
+            &change.globals,
+        )
+    };
+    renew_in_turn(alloc, rows, news, change, &tests);
+}
+
+/// The same, one row after another, where it may be known which paths the edit touches.
+fn renew_in_turn(
+    alloc: Global,
+    rows: &mut Vec<HeldRow>,
+    news: &[Receiver],
+    change: &Change,
+    tests: &Option<Vec<bool>>,
+)
+    requires change { IsChange change.now }
+    requires few { length rows.old.items ≤ length news.now }
+    requires room { length news.now ≤ vec_capacity rows.old }
+    requires there { (k : ℕ) (r : _) → slice_get news.now k ≡ Some r
+        → HasRow change.now r (slice_get rows.old.items k) }
+    requires tests { IfSome tests.now (λ tests. tests.items
+        ≡ tests_of change.now.logged news.now rows.old.items) }
+    ensures count { length rows.new.items ≡ length news.now }
+    ensures each { (k : ℕ) (r : _) → slice_get news.now k ≡ Some r
+        → IsSomeAnd (slice_get rows.new.items k) (IsRowAfter change.now r (slice_get rows.old.items k)) }
+{
+    let mut left = slice_if_any(tests);
     for (place, receiver) in news.iter().enumerate() {
-        renew_at(alloc, rows, place, receiver, change);
+        let (own, rest) = cut(left, count_at(rows.as_slice(), place));
+        left = rest;
+        renew_at(alloc, rows, place, receiver, change, own);
     }
 }
 
@@ -137,11 +186,14 @@ fn renew_at(
     place: usize,
     receiver: &Receiver,
     change: &Change,
+    tests: Option<&[bool]>,
 )
     requires change { IsChange change.now }
     requires place { place ≤ length rows.old.items }
     requires room { place < vec_capacity rows.old }
     requires there { HasRow change.now receiver.now (slice_get rows.old.items place) }
+    requires tests { IfSome tests (λ tests. tests.now ≡ tests_to change.now.logged receiver.now
+        (kept_at (slice_get rows.old.items place))) }
     ensures room { vec_capacity rows.new ≡ vec_capacity rows.old }
     ensures made { (made : _) × (rows.new.items ≡ placed place made rows.old.items)
         × IsRowAfter change.now receiver.now (slice_get rows.old.items place) made }
@@ -149,7 +201,7 @@ fn renew_at(
     if names_receiver(&change.logged, receiver.name.items()) {
         put_at(rows, place, fresh_row(alloc, change.version));
     } else if !changes_receivers_alone(&change.logged) {
-        renew(&mut rows[place], receiver, change);
+        renew(&mut rows[place], receiver, change, tests);
     }
 }
 
@@ -206,6 +258,8 @@ fn fresh_row(alloc: Global, version: u64) -> HeldRow
     let cache = Cache {
         bundles: Vec::new(alloc),
         marks: Vec::new(alloc),
+        sums: RowSums::zero(),
+        envelope: Envelope::empty(),
     };
     HeldRow {
         since: version,
@@ -216,15 +270,25 @@ fn fresh_row(alloc: Global, version: u64) -> HeldRow
 }
 
 /// The row of a receiver after the edit: bundles that the edit touches are marked, and kept levels are stale by it where
-/// it is the first that touches them.
-fn renew(row: &mut HeldRow, receiver: &Receiver, change: &Change)
+/// it is the first that touches them. It may be known which of the row's paths the edit touches.
+fn renew(row: &mut HeldRow, receiver: &Receiver, change: &Change, tests: Option<&[bool]>)
     requires change { IsChange change.now }
     requires holds { RowHolds change.now.past.value receiver.now row.old }
+    requires tests { IfSome tests (λ tests. tests.now
+        ≡ tests_to change.now.logged receiver.now (kept_of_row row.old)) }
     ensures row { row_of receiver.now row.new ≡ row_of receiver.now row.old }
     ensures holds { RowHolds (journal_after change.now) receiver.now row.new }
 {
+    let counts = !row.is_current();
     if let Some(cache) = &mut row.cache {
-        let one = mark(cache, &change.logged, &change.globals, receiver);
+        let one = mark_known(
+            cache,
+            counts,
+            tests,
+            &change.logged,
+            &change.globals,
+            receiver,
+        );
         touch(&mut row.kept, one, receiver, change);
     }
 }

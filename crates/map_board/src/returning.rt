@@ -58,6 +58,8 @@ impl Job {
         let mut cache = Cache {
             bundles: self.kept,
             marks: self.marks,
+            sums: self.sums,
+            envelope: self.envelope,
         };
         mark_by_all(&mut cache, later, receiver);
         Back { kept: None, cache }

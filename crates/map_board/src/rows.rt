@@ -5,15 +5,8 @@ ghost use Rattle.map_board.specs.Back.{held_with};
 ghost use Rattle.map_board.specs.Boards.{held_shown, is_held_current, is_held_needy, is_held_out, is_held_unsettled, row_out, IsNeedyAt, NoneNeedyBefore};
 
 use crate::answers::Shown;
-use path_cache::Bundle;
+pub(crate) use crate::caches::Cache;
 use path_calc::Levels;
-
-/// The bundles of a receiver, and beside each whether an edit touched it since.
-#[derive(Drop)]
-pub(crate) struct Cache {
-    pub bundles: Vec<Bundle>,
-    pub marks: Vec<bool>,
-}
 
 /// Levels that were kept: the version whose scene gave them, and the first edit after it that touches the receiver.
 #[derive(Drop)]
@@ -77,7 +70,7 @@ impl HeldRow {
     }
 
     /// Whether the row holds the levels of the newest scene.
-    fn is_current(&self) -> bool
+    pub(crate) fn is_current(&self) -> bool
         ensures { result ≡ is_held_current self.now }
     {
         match &self.kept {

@@ -67,7 +67,7 @@ pub record IsCrossing (n k d w f e : ℕ) (start v a b : ℤ) : Type 0 where
   pub some : 0 < d
   pub point : pos n *ℤ v ≡ pos d *ℤ (a -ℤ start) +ℤ pos k *ℤ (b -ℤ a)
 
-above-none : (n k d w f e : ℕ) (start v a b high : ℤ) → IsCrossing n k d w f e start v a b → start ≤ℤ high
+pub above-none : (n k d w f e : ℕ) (start v a b high : ℤ) → IsCrossing n k d w f e start v a b → start ≤ℤ high
     → (start *ℤ pos (f * w) +ℤ pos e *ℤ v) ≤ℤ (high *ℤ pos (f * w)) → high <ℤ a → high <ℤ b → ⊥
 above-none n k d w f e start v a b high is from to ha hb =
     let h = unsigned_abs (high -ℤ start) in
@@ -86,7 +86,7 @@ above-none n k d w f e start v a b high is from to ha hb =
 pub mul-neg : (x y : ℤ) → x *ℤ neg_ℤ y ≡ neg_ℤ (x *ℤ y)
 mul-neg x y = *ℤ_comm x (neg_ℤ y) ∙ neg-mul y x ∙ ap neg_ℤ (*ℤ_comm y x)
 
-below-none : (n k d w f e : ℕ) (start v a b low : ℤ) → IsCrossing n k d w f e start v a b → low ≤ℤ start
+pub below-none : (n k d w f e : ℕ) (start v a b low : ℤ) → IsCrossing n k d w f e start v a b → low ≤ℤ start
     → (low *ℤ pos (f * w)) ≤ℤ (start *ℤ pos (f * w) +ℤ pos e *ℤ v) → a <ℤ low → b <ℤ low → ⊥
 below-none n k d w f e start v a b low is from to ha hb =
     let h = unsigned_abs (start -ℤ low) in

@@ -24,7 +24,7 @@ outer a b c = swapped a b c ∙ ap (λ (z : ℤ). z *ℤ b) (*ℤ_comm a c) ∙ 
 turned : (a b c : ℤ) → (a *ℤ b) *ℤ c ≡ (c *ℤ a) *ℤ b
 turned a b c = swapped a b c ∙ ap (λ (z : ℤ). z *ℤ b) (*ℤ_comm a c)
 
-cross-x : (u v w : Vector) → cross w u *ℤ v.x ≡ cross v u *ℤ w.x -ℤ cross v w *ℤ u.x
+pub cross-x : (u v w : Vector) → cross w u *ℤ v.x ≡ cross v u *ℤ w.x -ℤ cross v w *ℤ u.x
 cross-x u v w =
     joined _ _ _ _ _ _ _ _ _ (sub_mul (w.x *ℤ u.y) (w.y *ℤ u.x) v.x) (sub_mul (v.x *ℤ u.y) (v.y *ℤ u.x) w.x) (sub_mul (v.x *ℤ w.y) (v.y *ℤ w.x) u.x)
     (outer w.x u.y v.x) (turned w.y u.x v.x) (swapped v.y u.x w.x)
@@ -32,7 +32,7 @@ cross-x u v w =
     joined : (l r s a b c d e f : ℤ) → l ≡ a -ℤ b → r ≡ c -ℤ d → s ≡ e -ℤ f → a ≡ c → b ≡ e → d ≡ f → l ≡ r -ℤ s
     joined l r s a b c d e f x y z p q t = omega (arith, ints)
 
-cross-y : (u v w : Vector) → cross w u *ℤ v.y ≡ cross v u *ℤ w.y -ℤ cross v w *ℤ u.y
+pub cross-y : (u v w : Vector) → cross w u *ℤ v.y ≡ cross v u *ℤ w.y -ℤ cross v w *ℤ u.y
 cross-y u v w =
     joined _ _ _ _ _ _ _ _ _ (sub_mul (w.x *ℤ u.y) (w.y *ℤ u.x) v.y) (sub_mul (v.x *ℤ u.y) (v.y *ℤ u.x) w.y) (sub_mul (v.x *ℤ w.y) (v.y *ℤ w.x) u.y)
     (turned w.x u.y v.y) (outer w.y u.x v.y) (swapped v.x u.y w.y)

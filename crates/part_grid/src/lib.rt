@@ -25,3 +25,4 @@ pub use found::Found;
 pub use grid::Grid;
 pub use owned::{Owned, Place};
 pub use walk::cells_meet;
+pub use way::end_at;

@@ -72,8 +72,9 @@ fn northing_at(from: Pt, dir: Dir, x: i64) -> i128
     i128::from(from.y) + floor(ahead * dir.y, dir.x)
 }
 
-/// One coordinate of the end of a way, rounded down.
-fn end_at(start: i32, component: i128, divisor: i128, end: Frac) -> i128
+/// One coordinate, in mm, of the end of a way, rounded down: from that of its start, the same component of its direction
+/// and the direction's divisor.
+pub fn end_at(start: i32, component: i128, divisor: i128, end: Frac) -> i128
     requires start { InPlan start }
     requires component { unsigned_abs component ≤ 2110000000000000000 }
     requires some { pos 0 <ℤ divisor }

@@ -6,3 +6,6 @@ pub mod Untouched
 mod Pieces
 pub mod Edits
 mod Receivers
+mod Beyond
+mod Widening
+mod Far

@@ -2,3 +2,4 @@ pub mod Crossings
 pub mod Numbers
 pub mod Touches
 pub mod Laws
+pub mod Envelopes

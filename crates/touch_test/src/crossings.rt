@@ -9,6 +9,7 @@ ghost use Rattle.image_source.specs.LegCuts.{place_up_to};
 ghost use Rattle.path_calc.specs.Segments.{FitsSegment};
 ghost use Rattle.touch_test.specs.Crossings as form;
 
+use crate::envelopes::Envelope;
 use path_calc::Seg;
 use scene_geom::{
     Dir, Frac, Pt, Reflection, Side, crosses, dir_of, hits, lies_inside, meets, rest_after, unfold,
@@ -45,6 +46,10 @@ fn crosses_segment(obstacle: &Obstacle, segment: Seg) -> bool
 fn crosses_line(obstacle: &Obstacle, p: Pt, q: Pt) -> bool
     ensures { result ≡ list_any (λ side. form.crosses_line side p q) (sides_of obstacle.now) }
 {
+    // most obstacles lie beyond an edge of the segment's box, which a few comparisons tell
+    if Envelope::between(p, q).is_passed_by(obstacle.points.items()) {
+        return false;
+    }
     for i in 0..sides(obstacle) {
         if crosses_way(side_of(obstacle, i), p, q) {
             return true;

@@ -1,4 +1,5 @@
 //! The law of edits that touch nothing. Each function does nothing: its contract is the law.
+ghost use Rattle.touch_test.specs.Envelopes.{FarEditsTouchNoPath};
 ghost use Rattle.touch_test.specs.Laws.{UntouchedPathsStay, UntouchedPathsStayInTurn};
 ghost use Rattle.touch_test.specs.Laws.{UntouchedReceiversStay, UntouchedReceiversStayInTurn};
 
@@ -25,3 +26,8 @@ pub fn untouched_receivers_stay()
     uncrossed_is_unblocked();
     accepted_edits_change_pieces();
 }
+
+/// An edit that may not touch a path in a box touches none of the paths that the box holds.
+pub fn far_edits_touch_no_path()
+    ensures { FarEditsTouchNoPath }
+{}

@@ -2,10 +2,12 @@
 #![tactic(auto)]
 
 mod crossings;
+mod envelopes;
 mod grids;
 pub mod laws;
 mod parts;
 mod touching;
 
+pub use envelopes::Envelope;
 pub use grids::puts;
-pub use touching::{names_receiver, touches, touches_row};
+pub use touching::{may_touch, names_receiver, touches, touches_row};

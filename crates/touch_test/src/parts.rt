@@ -4,10 +4,12 @@ ghost use Rattle.std.specs.List.{list_any};
 ghost use Rattle.scene_parts.specs.Sides.{sides_of};
 ghost use Rattle.image_source.specs.Mirrors.{has_mirror, winding as winding_of};
 ghost use Rattle.path_calc.specs.Segments.{FitsSegment};
+ghost use Rattle.touch_test.specs.Envelopes as far;
 ghost use Rattle.touch_test.specs.Touches as form;
 ghost use Rattle.touch_test.specs.Touches.{bundled};
 
 use crate::crossings::{crosses_any, meets_any_leg, meets_line};
+use crate::envelopes::Envelope;
 use image_source::{mirror_by, winding};
 use path_calc::{Bundle, Seg, within};
 use scene_geom::{Pt, Side};
@@ -37,6 +39,21 @@ pub(crate) fn part_touches(part: &Part, bundle: &Bundle, receiver: &Receiver) ->
             bundle.segs.items(),
         ),
         Part::Receiver(other) => other.name.items() == receiver.name.items(),
+    }
+}
+
+/// Whether a part may touch a path in a box to the receiver of a name.
+pub(crate) fn part_may_touch(part: &Part, envelope: &Envelope, name: &[u8]) -> bool
+    ensures { result ≡ far.part_may_touch envelope.now name.now part.now }
+{
+    match part {
+        Part::Source(_) => true,
+        Part::Obstacle(obstacle) => {
+            obstacle.rho != 0 || !envelope.is_passed_by(obstacle.points.items())
+        }
+        Part::Zone(zone) => !envelope.is_passed_by(zone.points.items()),
+        Part::Foliage(foliage) => !envelope.is_passed_by(foliage.points.items()),
+        Part::Receiver(other) => other.name.items() == name,
     }
 }
 

@@ -6,11 +6,14 @@ ghost use Rattle.scene_book.specs.Book.{Book};
 ghost use Rattle.scene_book.specs.Applying.{apply_of};
 ghost use Rattle.path_calc.specs.Bundles.{bundle_of};
 ghost use Rattle.path_calc.specs.Show.{bundles_of};
+ghost use Rattle.touch_test.specs.Envelopes as far;
+ghost use Rattle.touch_test.specs.Envelopes.{edit_may_touch};
 ghost use Rattle.touch_test.specs.Touches as form;
 ghost use Rattle.touch_test.specs.Touches.{bundled, changed_parts, edit_touches, edit_touches_any, touches_path, touches_receiver};
 
+use crate::envelopes::Envelope;
 use crate::grids::puts;
-use crate::parts::{is_receiver, is_source_within, part_touches};
+use crate::parts::{is_receiver, is_source_within, part_may_touch, part_touches};
 use path_calc::Bundle;
 use scene_book::{Edit, Logged};
 use scene_parts::{Globals, Part, Receiver};
@@ -35,6 +38,33 @@ pub fn touches_row(l: &Logged, globals: &Globals, bundles: &[Bundle], receiver: 
         → result ≡ touches_receiver l.now.edit book receiver.now }
 {
     edit_touches_row(l, globals, bundles, receiver)
+}
+
+/// Whether an accepted edit may touch one of the paths in a box to a receiver, as far as the box tells. Where it may not,
+/// it touches none, whichever these are, and none of them needs be looked at. No memory is taken.
+pub fn may_touch(l: &Logged, envelope: &Envelope, receiver: &Receiver) -> bool
+    ensures { result ≡ edit_may_touch envelope.now receiver.now l.now.edit l.now.old }
+{
+    is_elsewhere(envelope, receiver) || edit_may_reach(l, envelope, receiver.name.items())
+}
+
+/// Whether a box isn't of a receiver, but of one at another place.
+fn is_elsewhere(envelope: &Envelope, receiver: &Receiver) -> bool
+    ensures { result ≡ far.is_elsewhere envelope.now receiver.now }
+{
+    envelope.to.x != receiver.at.x || envelope.to.y != receiver.at.y
+}
+
+/// Whether an edit may touch a path in a box to the receiver of a name.
+fn edit_may_reach(l: &Logged, envelope: &Envelope, name: &[u8]) -> bool
+    ensures { result ≡ far.edit_may_reach envelope.now name.now l.now.edit l.now.old }
+{
+    is_set(&l.edit)
+        || puts_by_grid(&l.edit, name)
+        || new_part(&l.edit).is_some_and(|part| part_may_touch(part, envelope, name))
+        || l.old
+            .as_ref()
+            .is_some_and(|part| part_may_touch(part, envelope, name))
 }
 
 /// Whether an edit touches a receiver that has the paths of these bundles.

@@ -2,7 +2,7 @@ use Rattle.std.proofs.Common.{◌≡◌, ◌∙◌, ◌++◌, ◌+◌, List, Boo
 use Rattle.path_calc.specs.Bundles.{Bundle}
 use Rattle.touch_test.specs.Touches.{bundled, edit_touches}
 use Rattle.map_board.specs.Marks.{marks_after}
-use Rattle.map_board.proofs.Unmarked.{past-touched, past-plain, one-touched, one-plain}
+use Rattle.map_board.proofs.InTurn.{past-touched, past-plain, one-touched, one-plain}
 use Rattle.map_board.proofs.marking.mark_each.Goals as goal
 use Rattle.map_board.proofs.marking.mark_each.Goals.{then-touches, else-touches}
 

@@ -1,11 +1,29 @@
-use Rattle.std.proofs.Common.{ap, ◌∙◌}
+use Rattle.std.proofs.Common.{◌≡◌, ℕ, Bool, true, Some, None, ap, sym, ◌∙◌, subst}
+use Rattle.std.specs.Prelude.{Option, IfSome, not}
+use Rattle.map_board.specs.declared.caches.Cache.{Cache}
+use Rattle.map_board.specs.declared.rows.HeldRow.{HeldRow}
+use Rattle.map_board.specs.declared.rows.KeptLevels.{KeptLevels}
+use Rattle.map_board.specs.Rows.{is_current, shown_since}
+use Rattle.map_board.specs.Boards.{is_held_current, kept_of, shown_by}
 use Rattle.map_board.specs.Marks.{touches_one}
+use Rattle.map_board.specs.Paths.{kept_in, tests_to}
 use Rattle.map_board.proofs.AfterEdits.{kept-past, kept-fresh, out-holds, marked-holds}
 use Rattle.map_board.proofs.renewing.renew.Goals as goal
 
 pub returns-in_default-clause-holds : goal.returns-in_default-clause-holds
 returns-in_default-clause-holds c =
     rw c.in_default.is (out-holds c.args.change.now c.requires.change c.args.receiver.now c.args.row.now c.requires.holds c.in_default.is)
+
+-- levels that no edit touches yet make a row current
+current : (row : HeldRow) (levels : KeptLevels) → row.kept ≡ Some levels → levels.by ≡ None → is_held_current row ≡ true
+current row levels some none =
+    ap (λ (k : Option KeptLevels). is_current (shown_by row.since k)) some
+    ∙ ap (λ (by : Option ℕ). is_current (shown_since (kept_of levels) by)) none
+
+pub mark_known-one-requires-clause-tests : goal.mark_known-one-requires-clause-tests
+mark_known-one-requires-clause-tests c =
+    subst (λ (x : Bool × Option Cache). IfSome c.args.tests (λ t. t.now ≡ tests_to c.args.change.now.logged c.args.receiver.now (kept_in x.0 x.1)))
+    (λ i. (not (sym c.is_current-counts.ensures i), c.in-Some.is i)) c.requires.tests
 
 pub touch-requires-clause-past : goal.touch-requires-clause-past
 touch-requires-clause-past c =
@@ -15,11 +33,11 @@ pub touch-requires-clause-one : goal.touch-requires-clause-one
 touch-requires-clause-one c levels some none =
     let change = c.args.change.now in
     let r = c.args.receiver.now in
-    c.mark-one.ensures.one
+    c.mark_known-one.ensures.one (ap not (c.is_current-counts.ensures ∙ current c.args.row.now levels some none))
     ∙ ap (touches_one change.logged.edit change.logged.old r)
     (kept-fresh change c.requires.change r c.args.row.now c.requires.holds c.in-Some.cache c.in-Some.is levels some none)
 
 pub returns-in-Some-clause-holds : goal.returns-in-Some-clause-holds
 returns-in-Some-clause-holds c =
-    marked-holds c.args.change.now c.requires.change c.args.receiver.now c.args.row.now c.requires.holds c.touch.new.kept c.in-Some.cache c.mark-one.new.cache
-    c.in-Some.is c.touch.ensures.same c.touch.ensures.by (ap (λ b. b.items) c.mark-one.ensures.bundles) c.mark-one.ensures.marks
+    marked-holds c.args.change.now c.requires.change c.args.receiver.now c.args.row.now c.requires.holds c.touch.new.kept c.in-Some.cache c.mark_known-one.new.cache
+    c.in-Some.is c.touch.ensures.same c.touch.ensures.by (ap (λ b. b.items) c.mark_known-one.ensures.bundles) c.mark_known-one.ensures.marks

@@ -1,9 +1,11 @@
-use Rattle.std.proofs.Common.{◌≡◌, ◌∙◌, ap, sym, subst, refl, arith, true, false}
-use Rattle.std.specs.Prelude.{IsSomeAnd}
+use Rattle.std.proofs.Common.{◌≡◌, ◌∙◌, ap, sym, subst, refl, arith, true, false, length, Some}
+use Rattle.std.specs.Prelude.{Option, IfSome, IsSomeAnd, slice_get}
+use Rattle.std.proofs.lemmas.Option.{slice_get_read}
 use Rattle.scene_parts.specs.Views.{Receiver}
 use Rattle.map_board.specs.declared.rows.HeldRow.{HeldRow}
 use Rattle.map_board.specs.Boards.{row_of, RowHolds}
 use Rattle.map_board.specs.Changes.{is_unnamed}
+use Rattle.map_board.specs.Paths.{kept_at, tests_to}
 use Rattle.map_board.proofs.Carrying.{tested, placed-set, placed-same, item-holds, some-item, some-within, item-there}
 use Rattle.map_board.proofs.Untouched.{stays-right}
 use Rattle.map_board.proofs.renewing.renew_at.Goals as goal
@@ -41,6 +43,17 @@ pub renew-requires-clause-holds : goal.renew-requires-clause-holds
 renew-requires-clause-holds c =
     let unnamed_is = unnamed (goal.at.renew-requires-clause-holds c).After-names_receiver c.if-names_receiver.false in
     item-holds (RowHolds c.args.change.now.past.value c.args.receiver.now) c.args.rows.now.items c.args.place c.index_mut.result.now (c.requires.there unnamed_is) c.index_mut.ensures.value
+
+pub renew-requires-clause-tests : goal.renew-requires-clause-tests
+renew-requires-clause-tests c =
+    let rows = c.args.rows.now.items in
+    let change = c.args.change.now in
+    let r = c.args.receiver.now in
+    let unnamed_is = unnamed (goal.at.renew-requires-clause-tests c).After-names_receiver c.if-names_receiver.false in
+    let below = some-within (RowHolds change.past.value r) rows c.args.place (c.requires.there unnamed_is) in
+    let there : slice_get rows c.args.place ≡ Some c.index_mut.result.now =
+    slice_get_read rows (length rows) c.args.place c.index_mut.result.now refl below c.index_mut.ensures.value in
+    subst (λ (o : Option HeldRow). IfSome c.args.tests (λ t. t.now ≡ tests_to change.logged r (kept_at o))) there c.requires.tests
 
 pub returns-then-not-changes_receivers_alone-clause-made : goal.returns-then-not-changes_receivers_alone-clause-made
 returns-then-not-changes_receivers_alone-clause-made c =

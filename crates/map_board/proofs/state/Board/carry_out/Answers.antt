@@ -14,12 +14,13 @@ use Rattle.map_board.proofs.Places.{each-lengths}
 use Rattle.map_board.proofs.Receivers.{accepted-fine}
 use Rattle.map_board.proofs.Staying.{receivers_after, accepted-receivers, added-few}
 use Rattle.map_board.proofs.BoardAfter.{outs-stay, log-count, board-after}
+use Rattle.map_board.proofs.state.Board.carry_out.Given.{Over}
 use Rattle.map_board.proofs.state.Board.carry_out.Goals as goal
 use Rattle.map_board.proofs.state.Board.carry_out.Goals.{After-least_out}
 
 -- the log begins no later than the least version that is out
-least : (c : After-least_out) → c.self.inside.log.start ≤ c.least_out.result
-least c =
+least : (g : Over) (c : After-least_out g) → c.self.inside.log.start ≤ c.least_out.result
+least g c =
     let b = c.self.inside in
     let e = c.args.edit in
     let journal = c.of.result.value in
@@ -30,7 +31,7 @@ least c =
     (subst (All (IsOutSince b.log.start)) (sym c.as_slice-2.ensures) outs)
 
 pub carry_over-requires-clause-room : goal.carry_over-requires-clause-room
-carry_over-requires-clause-room c =
+carry_over-requires-clause-room g c =
     let b = c.self.inside in
     let e = c.args.edit in
     let old = c.in_ok-old.old in
@@ -45,11 +46,11 @@ carry_over-requires-clause-room c =
     omega (arith, ap length receivers, ap length are, count, added, more, c.in_ok-reserve-2.ensures.room, c.reserve-2.new.self.ok.0, ap length c.reserve-2.ensures.same)
 
 pub trim-requires-clause-from : goal.trim-requires-clause-from
-trim-requires-clause-from c =
-    omega (arith, least (goal.at.trim-requires-clause-from c).After-least_out, c.add.ensures.start, c.reserve.ensures.start)
+trim-requires-clause-from g c =
+    omega (arith, least g (goal.at.trim-requires-clause-from g c).After-least_out, c.add.ensures.start, c.reserve.ensures.start)
 
 pub trim-requires-clause-to : goal.trim-requires-clause-to
-trim-requires-clause-to c =
+trim-requires-clause-to g c =
     let b = c.self.inside in
     let count = log-count b.version b.past b.hold.value.scene b.rows.items b.log b.namings.items c.self.invariant in
     let more = ap length c.add.ensures.entries ∙ length_push c.reserve.new.self.entries.items (record { logged = record { edit = c.and-past.result.1; old = c.in_ok-old.old }; globals = c.globals-globals.result.now }) in
@@ -57,7 +58,7 @@ trim-requires-clause-to c =
     omega (arith, count, more, same, c.add.ensures.start, c.reserve.ensures.start, c.least_out.ensures.newest, c.self.invariant.newest)
 
 pub invariant_of-self-2 : goal.invariant_of-self-2
-invariant_of-self-2 c =
+invariant_of-self-2 g c =
     let b = c.self.inside in
     let e = c.args.edit in
     let old = c.in_ok-old.old in
@@ -76,7 +77,7 @@ invariant_of-self-2 c =
     (λ i. (sym (add-one b.version) i, past i))
     (board-after b.version b.past b.hold.value.scene b.rows.items b.log b.namings.items c.self.invariant e old after accepted c.globals-globals.result.now globals
     c.carry_over.new.self.items c.trim.new.self c.note.new.namings.items c.least_out.result
-    fine.few fine.apart each (subst (All (IsOutSince c.least_out.result)) c.as_slice-2.ensures c.least_out.ensures.reaches) (least (goal.at.invariant_of-self-2 c).After-least_out)
+    fine.few fine.apart each (subst (All (IsOutSince c.least_out.result)) c.as_slice-2.ensures c.least_out.ensures.reaches) (least g (goal.at.invariant_of-self-2 g c).After-least_out)
     (omega (arith, c.least_out.ensures.newest)) c.trim.ensures.start
     (c.trim.ensures.entries ∙ (λ i. drop (c.least_out.result - start i) (entries i)))
     (c.note.ensures ∙ (λ i. c.room_for_naming.ensures.same i ++ noted (add-one b.version i) (c.named_receivers-named.ensures i))))

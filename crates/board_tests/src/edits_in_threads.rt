@@ -1,0 +1,182 @@
+//! Edits whose marks come from several threads, beside the same edits in one thread, with ample memory. Which rows an edit
+//! touches is told from the plan: a barrier stands in the way of those receivers alone that lie behind it.
+use crate::late_answers::{corners, put};
+use crate::solving::solve;
+use map_board::{Board, Shown, Took};
+use scene_book::Edit;
+use scene_parts::{PlainName, RawPart, Word};
+use std::alloc::Global;
+use std::test::Fail;
+use std::thread::Threads;
+
+/// The name of a source of 64: two letters.
+fn source_name(alloc: Global, number: u8) -> Option<PlainName> {
+    let first = b'a' + number / 8 % 8;
+    let second = b'a' + number % 8;
+    if !first.is_ascii_alphanumeric() || !second.is_ascii_alphanumeric() {
+        return None;
+    }
+    match vec![in alloc; first, second] {
+        Ok(bytes) => Some(PlainName::from_vec(bytes)),
+        Err(_) => None,
+    }
+}
+
+/// A source in the west. They stand 1 cm from each other.
+fn source(alloc: Global, number: u8) -> Option<Edit> {
+    let name = source_name(alloc, number)?;
+    put(
+        alloc,
+        RawPart::Source {
+            name,
+            kind: Word::from_vec(b"industry".to_vec(alloc).ok()?),
+            x: 0,
+            y: i64::from(number) * 10,
+            h: 2000,
+            lw: [None, None, None, None, Some(10_000), None, None, None],
+            dc: 0,
+        },
+    )
+}
+
+/// Receivers from 100 m in the east on, 50 m from each other, in so many columns and rows. The first row lies due east of
+/// the sources.
+fn receivers(alloc: Global, columns: i64, rows: i64) -> Option<Edit> {
+    let name = PlainName::from_vec(b"r".to_vec(alloc).ok()?);
+    put(
+        alloc,
+        RawPart::Grid {
+            name,
+            x: 100_000,
+            y: 0,
+            step: 50_000,
+            columns,
+            rows,
+            h: 2000,
+        },
+    )
+}
+
+/// A low barrier 50 m in the east of the sources, in the way of the first row of receivers alone.
+fn barrier(alloc: Global) -> Option<Edit> {
+    let points = corners(alloc, &[(50_000, -2000), (50_000, 2000)])?;
+    let name = PlainName::from_vec(b"barrier".to_vec(alloc).ok()?);
+    put(
+        alloc,
+        RawPart::Barrier {
+            name,
+            points,
+            h: 3000,
+            density: 20,
+            rho: 0,
+        },
+    )
+}
+
+/// Takes a job, solves it and lands the answer, where there is a job; whether there was one.
+fn answer_next(alloc: Global, board: &mut Board) -> Option<bool> {
+    let Took::Job(job) = board.take() else {
+        return Some(false);
+    };
+    match solve(alloc, job) {
+        Ok(answer) => {
+            board.offer(answer);
+            Some(true)
+        }
+        Err(_) => None,
+    }
+}
+
+/// Answers all jobs.
+fn settle(alloc: Global, board: &mut Board) -> Option<()> {
+    for _ in 0..board.rows() {
+        answer_next(alloc, board)?;
+    }
+    if board.settled() { Some(()) } else { None }
+}
+
+/// A settled board of so many sources, and receivers in so many columns and rows.
+fn settled(alloc: Global, sources: u8, columns: i64, rows: i64) -> Option<Board> {
+    let mut board = Board::new(alloc).ok()?;
+    for number in 0..sources {
+        board.edit(alloc, source(alloc, number)?).ok()?;
+    }
+    board.edit(alloc, receivers(alloc, columns, rows)?).ok()?;
+    settle(alloc, &mut board)?;
+    Some(board)
+}
+
+/// Whether two rows show the same: the version that they are of, and the edit by which they are stale.
+fn is_same(one: &Shown, other: &Shown) -> bool {
+    match (one, other) {
+        (Shown::Current(_), Shown::Current(_)) => true,
+        (
+            Shown::Stale {
+                version,
+                by,
+                levels: _,
+            },
+            Shown::Stale {
+                version: other_version,
+                by: other_by,
+                levels: _,
+            },
+        ) => version == other_version && by == other_by,
+        (Shown::New { since }, Shown::New { since: other_since }) => since == other_since,
+        _ => false,
+    }
+}
+
+/// How many rows are stale, where the boards show the same in each.
+fn stale_in_both(one: &Board, other: &Board) -> Option<u32> {
+    let mut count: u32 = 0;
+    for row in 0..one.rows() {
+        if row >= other.rows() || !is_same(&one.shown(row), &other.shown(row)) {
+            return None;
+        }
+        if matches!(one.shown(row), Shown::Stale { .. }) {
+            count = count.saturating_add(1);
+        }
+    }
+    Some(count)
+}
+
+/// Whether both boards take jobs for the same rows, one after another, until all are current.
+fn take_the_same(alloc: Global, one: &mut Board, other: &mut Board) -> Option<bool> {
+    settle(alloc, one)?;
+    settle(alloc, other)?;
+    Some(one.counts() == other.counts())
+}
+
+// The barrier put on two like boards, once by the caller alone and once with threads: how many rows are stale by it, and
+// whether the same is taken after it.
+fn put_twice<R: Threads + Sync>(
+    rt: &R,
+    alloc: Global,
+    sources: u8,
+    columns: i64,
+    rows: i64,
+) -> Option<(u32, bool)> {
+    let mut one = settled(alloc, sources, columns, rows)?;
+    let mut other = settled(alloc, sources, columns, rows)?;
+    one.edit(alloc, barrier(alloc)?).ok()?;
+    other.edit_with(rt, alloc, barrier(alloc)?).ok()?;
+    let stale = stale_in_both(&one, &other)?;
+    let same = take_the_same(alloc, &mut one, &mut other)?;
+    Some((stale, same))
+}
+
+#[test]
+fn an_edit_with_threads_marks_what_one_alone_marks(rt: HostRuntime) -> Result<(), Fail> {
+    let marked = put_twice(&rt, rt.alloc(), 3, 2, 3).ok_or("there is memory")?;
+    assert_eq!(rt; marked, (2, true));
+    Ok(())
+}
+
+// 64 sources and 130 receivers have 8,320 paths, of which two threads at the least have their part.
+#[test]
+fn threads_share_the_paths_of_many_rows(rt: HostRuntime) -> Result<(), Fail> {
+    let marked = put_twice(&rt, rt.alloc(), 64, 13, 10).ok_or("there is memory")?;
+    assert_eq!(rt; marked, (13, true));
+    Ok(())
+}

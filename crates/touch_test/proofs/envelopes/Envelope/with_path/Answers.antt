@@ -1,0 +1,33 @@
+use Rattle.std.proofs.Common.{◌≡◌, ◌<◌, ◌≤◌, ap, ◌∙◌, subst, List, length}
+use Rattle.std.specs.Prelude.{slice_index_or}
+use Rattle.path_calc.specs.Bundles.{Bundle}
+use Rattle.path_calc.specs.declared.segments.Seg.{Seg}
+use Rattle.touch_test.specs.Envelopes.{HoldsSegment}
+use Rattle.touch_test.proofs.Widening.{grown, line-wider, whole-list, wider-both, wider-segment}
+use Rattle.touch_test.proofs.envelopes.Envelope.with_path.Goals as goal
+
+pub loop-segment-preserved : goal.loop-segment-preserved
+loop-segment-preserved c =
+    let e = c.loop-segment.envelope in
+    let f = c.with_segment-envelope.result in
+    let wider = c.with_segment-envelope.ensures.wider in
+    let so = c.loop-segment.invariant in
+    let i = c.loop-segment.segment-index in
+    let x = c.segment-item.result in
+    let segs_is : c.items-segment-items.result.now ≡ c.args.bundle.now.segs = c.items-segment-items.ensures.value ∙ ap (λ (b : Bundle). b.segs) c.bundle.view_is in (
+      wider-both c.args.self e f so.0 wider,
+      line-wider e f c.args.bundle.now.at wider so.1,
+      grown (HoldsSegment e) (HoldsSegment f) c.args.bundle.now.segs i x
+          (subst (λ (l : List Seg). i < length l) segs_is c.loop-segment-test.true) (subst (λ (l : List Seg). x ≡ slice_index_or l i x) segs_is c.segment-item.is)
+          (λ segment is. wider-segment e f segment wider is) so.2 c.with_segment-envelope.ensures.segment,
+    )
+
+pub returns-clause-path : goal.returns-clause-path
+returns-clause-path c =
+    let so = c.loop-segment.invariant in
+    let i = c.loop-segment.segment-index in
+    let segs_is : c.items-segment-items.result.now ≡ c.args.bundle.now.segs = c.items-segment-items.ensures.value ∙ ap (λ (b : Bundle). b.segs) c.bundle.view_is in
+    record {
+      line = so.1;
+      trace = whole-list (HoldsSegment c.loop-segment.envelope) c.args.bundle.now.segs i (subst (λ (l : List Seg). length l ≤ i) segs_is c.loop-segment-test.false) so.2;
+    }
