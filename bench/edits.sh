@@ -57,18 +57,30 @@ printf '%19d  %23d  %22d\n' "$first" $((moved - first)) $((all - first))
 # (a receiver less, so that there is room for another)
 { free 64; echo '{"do":"remove","name":"r/63/63"}'; } > "$work/free"
 before=$(once "$work/free")
-echo 'edit that touches nothing     us  ns a path of 262,080'
+echo 'edit that touches nothing             us  ns a path of 262,080'
 one() {
     { cat "$work/free"; lines 100 "$2"; } > "$work/edited"
     spent=$(($(once "$work/edited") - before))
-    printf '%-24s  %6d  %20d\n' "$1" $((spent * 10)) $((spent * 10000 / 262080))
+    printf '%-32s  %6d  %20d\n' "$1" $((spent * 10)) $((spent * 10000 / 262080))
 }
 one barrier '{"do":"barrier","name":"w","points":[[900000,900000],[900000,910000]],"h":4000,"density":20}'
 one building '{"do":"building","name":"b","points":[[900000,900000],[910000,900000],[910000,910000]],"h":4000}'
+one 'barrier of 1 mm amid the paths' '{"do":"barrier","name":"w","points":[[50001,70003],[50002,70003]],"h":4000,"density":20}'
 one zone '{"do":"zone","name":"z","points":[[900000,900000],[910000,900000],[910000,910000]],"g":50}'
 one source '{"do":"source","name":"far","kind":"road","x":3900000,"y":3900000,"h":1000,"lw":[9000,9500,9800,10000,10000,9700,9200,8500]}'
 one receiver '{"do":"receiver","name":"extra","x":900000,"y":900000,"h":4000}'
 one grid '{"do":"grid","name":"g","x":900000,"y":900000,"step":1,"columns":1,"rows":1,"h":4000}'
+
+# One of 128 sources moved 20 times, with a settle behind each, beside the first settle of them all.
+{ sources 128; receivers 4096; } > "$work/scene"
+{ cat "$work/scene"; echo '{"do":"settle"}'; } > "$work/first"
+{ cat "$work/first"; for i in $(seq 20); do sources 1 | sed "s/\"x\":0,/\"x\":$i,/"; echo '{"do":"settle"}'; done; } > "$work/often"
+{ cat "$work/first"; for i in $(seq 20); do echo '{"do":"settle"}'; done; } > "$work/again"
+bare=$(once "$work/scene")
+once_settled=$(once "$work/first")
+moves=$(($(once "$work/often") - $(once "$work/again")))
+echo 'first settle of 524,288 paths ms  ns a path  one of 128 sources moved and a settle ms  ns a path of its own'
+printf '%32d  %9d  %40d  %20d\n' $((once_settled - bare)) $(((once_settled - bare) * 1000000 / 524288)) $((moves / 20)) $((moves * 1000000 / 81920))
 
 # put KIND: 4,096 parts of a kind, a line each.
 put() {

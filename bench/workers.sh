@@ -1,6 +1,6 @@
 #!/bin/sh
 # Prints what workers bring by the proved program: the time of `--make 7`, and of a site with 16 sources, 1,024 receivers and
-# 500 buildings, with 0 to 15 workers on as many processors as there are; the time of an edit and of a look at that site
+# 500 buildings, with 0 to 15 workers on as many processors as there are, and beside as many busy loops; the time of an edit and of a look at that site
 # while 4 workers calculate it; and what 0 to 16 workers cost: processor time without a job, and beside a slow editor; the time
 # of 20,000 edits, and of a look behind an edit.
 set -e
@@ -25,6 +25,19 @@ echo "workers  --make 7 ms  the site ms  (on $(nproc) processors)"
 for workers in 0 1 2 3 7 15; do
     printf '%7d  %11d  %11d\n' "$workers" "$(run_time --make 7 --workers "$workers")" "$(run_time --workers "$workers")"
 done
+
+# The same beside as many busy loops as there are processors.
+loops=
+for _ in $(seq "$(nproc)"); do
+    (while :; do :; done) &
+    loops="$loops $!"
+done
+echo "workers  the site ms  (beside $(nproc) busy loops)"
+for workers in 0 3 15; do
+    printf '%7d  %11d\n' "$workers" "$(run_time --workers "$workers")"
+done
+# shellcheck disable=SC2086
+kill $loops
 
 # Looks, and edits with looks, one after the other as the rows come, while the workers have the whole site before them.
 grep -v settle "$work/site" > "$work/unsettled"

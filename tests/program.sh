@@ -180,6 +180,19 @@ try_ends() {
     expect "67,108,865 bytes" 6 "$room/nothing" "input limit" "$program" < "$room/over"
 }
 
+# The longest line that is read, one byte more, and a last line without its line feed.
+try_lengths() {
+    look='{"do":"look"}'
+    echo "look,0,0,,,," > "$room/look"
+    echo "refused,0,1,LongLine,,," > "$room/long"
+    printf '%s%65523s\n' "$look" '' > "$room/line"
+    expect "a line of 65,536 bytes" 0 "$room/look" "" "$program" < "$room/line"
+    printf '%s%65524s\n' "$look" '' > "$room/line"
+    expect "a line of 65,537 bytes" 1 "$room/long" "" "$program" < "$room/line"
+    printf '%s' "$look" > "$room/line"
+    expect "a line without a line feed" 0 "$room/look" "" "$program" < "$room/line"
+}
+
 # Workers change no row of a settle, also where no thread can be started: there its stack finds no room.
 try_workers() {
     for workers in 0 1 4 16; do
@@ -253,6 +266,7 @@ for program in "$@"; do
     try_script
     try_words
     try_ends
+    try_lengths
     try_workers
     try_screens
     try_memory
