@@ -96,7 +96,7 @@ echo 'what                                            by so many  instructions'
 settle='{"do":"settle"}'
 { sources 128; receivers 1024; } > "$work/before"
 { cat "$work/before"; echo "$settle"; } > "$work/after"
-beside 'a path in the open' 131072 --bands
+beside 'a path in the open, on hard ground' 131072
 {
     cat "$work/before"
     awk 'BEGIN {
@@ -106,7 +106,7 @@ beside 'a path in the open' 131072 --bands
 } > "$work/zones"
 { cat "$work/zones"; echo "$settle"; } > "$work/after"
 mv "$work/zones" "$work/before"
-beside 'a path among 16 zones' 131072 --bands
+beside 'a path among 16 zones' 131072
 { sources 128; receivers 1024; echo "$settle"; } > "$work/before"
 { cat "$work/before"; sources 1 | sed 's/"x":0,/"x":1000,/'; echo "$settle"; } > "$work/after"
 beside 'a row whose one of 128 sources moved' 1024
