@@ -1,7 +1,8 @@
 -- Places that ascend, and the bundles at them.
 use Rattle.std.proofs.Common.{◌≡◌, ℕ, zero, suc, true, ◌+◌, ◌-◌, ◌<◌, ◌≤◌, List, [], ◌∷◌, ◌++◌, length, get_or, drop, take, refl, sym, ap, ◌∙◌, subst, add-one, arith}
 use Rattle.std.proofs.Math.Seq.{drop-cons}
-use Rattle.std.specs.Prelude.{Option, Some, None, is_some, slice_get}
+use Rattle.std.specs.Prelude.{Option, Some, None, is_some, slice_get, Box}
+use Rattle.std.specs.declared.alloc.Global.{Global}
 use Rattle.std.specs.Option.{option_to_list}
 use Rattle.std.proofs.lemmas.Grind.{flat_map-append}
 use Rattle.std.proofs.lemmas.Bool.{false≢true}
@@ -82,7 +83,7 @@ here-kept origins i origin place from to below is kept h =
     let there : Ascend from (Kept place ∷ drop (i + 1) origins) to = subst (λ os. Ascend from os to) (drop-here origins i origin below is ∙ ap (λ o. o ∷ drop (i + 1) origins) kept) h in
     (there.0, subst (λ k. Ascend k (drop (i + 1) origins) to) (sym (add-one place)) there.1)
 
-pub here-new : (origins : List Origin) (i : ℕ) (origin : Origin) (bundle : Bundle) (from to : ℕ) → i < length origins → origin ≡ get_or origins i origin → origin ≡ New bundle
+pub here-new : (origins : List Origin) (i : ℕ) (origin : Origin) (bundle : Box Bundle Global) (from to : ℕ) → i < length origins → origin ≡ get_or origins i origin → origin ≡ New bundle
     → Ascend from (drop i origins) to → Ascend from (drop (i + 1) origins) to
 here-new origins i origin bundle from to below is new h =
     subst (λ os. Ascend from os to) (drop-here origins i origin below is ∙ ap (λ o. o ∷ drop (i + 1) origins) new) h
@@ -101,7 +102,7 @@ first-kept origins origin rest place from to is kept h =
     let there : Ascend from (Kept place ∷ rest) to = subst (λ os. Ascend from os to) (is ∙ ap (λ o. o ∷ rest) kept) h in
     (there.0, subst (λ k. Ascend k rest to) (sym (add-one place)) there.1)
 
-pub first-new : (origins : List Origin) (origin : Origin) (rest : List Origin) (bundle : Bundle) (from to : ℕ) → origins ≡ origin ∷ rest → origin ≡ New bundle → Ascend from origins to
+pub first-new : (origins : List Origin) (origin : Origin) (rest : List Origin) (bundle : Box Bundle Global) (from to : ℕ) → origins ≡ origin ∷ rest → origin ≡ New bundle → Ascend from origins to
     → Ascend from rest to
 first-new origins origin rest bundle from to is new h = subst (λ os. Ascend from os to) (is ∙ ap (λ o. o ∷ rest) new) h
 

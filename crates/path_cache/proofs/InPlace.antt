@@ -26,8 +26,8 @@ placed kept bundles place (Kept k) stands below left =
 placed kept bundles place (New b) stands below left =
     let some = some-at bundles place below in
     let here : drop place kept ≡ some.0 ∷ drop (place + 1) bundles = sym left ∙ drop-here bundles place some.0 below some.1 in
-    (take_more_set bundles place b below, drop-set-lt (place + 1) bundles place b (omega arith) ∙ sym (behind-it kept place some.0 (drop (place + 1) bundles) here))
+    (take_more_set bundles place b.value below, drop-set-lt (place + 1) bundles place b.value (omega arith) ∙ sym (behind-it kept place some.0 (drop (place + 1) bundles) here))
 
 pub as-many : (place : ℕ) (origin : Origin) (bundles : List Bundle) → length (placed_at place origin bundles) ≡ length bundles
 as-many place (Kept k) bundles = refl
-as-many place (New b) bundles = length-set bundles place b
+as-many place (New b) bundles = length-set bundles place b.value

@@ -8,7 +8,7 @@ use Rattle.path_cache.specs.declared.origins.Origin.TheVariants.{Kept, New}
 -- the bundle of an origin: the kept one at a place, or one that was calculated, or copied of a kept one out of order
 abbrev pub bundle_from : List Bundle → Origin → List Bundle
 bundle_from kept (Kept place) = option_to_list (slice_get kept place)
-bundle_from kept (New bundle) = bundle ∷ []
+bundle_from kept (New bundle) = bundle.value ∷ []
 
 abbrev pub bundles_from : List Bundle → List Origin → List Bundle
 bundles_from kept origins = flat_map (bundle_from kept) origins
@@ -41,4 +41,4 @@ StandInPlace origins = (place : ℕ) (origin : Origin) → slice_get origins pla
 -- the bundles with that of an origin at a place, where a kept one stands already
 abbrev pub placed_at : ℕ → Origin → List Bundle → List Bundle
 placed_at place (Kept kept) bundles = bundles
-placed_at place (New bundle) bundles = slice_set bundles place bundle
+placed_at place (New bundle) bundles = slice_set bundles place bundle.value

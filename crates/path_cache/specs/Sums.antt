@@ -42,8 +42,8 @@ pub record HasEnergies (bundle : Bundle) : Type 0 where
   pub long : CanBeSummed bundle.long
   pub bands : (place : ℕ) → place < 8 → CanBeSummed (energy_at place bundle)
 
--- sums fit some bundles: they are those of their A-weighted long-term energies, and of their energies in each band; each
--- energy can be added and taken off
+-- sums fit some bundles: they are those of their A-weighted long-term energies, and of their energies in each band;
+-- each energy can be added and taken off
 pub record Fits (sums : RowSums) (bundles : List Bundle) : Type 0 where
   pub each : All HasEnergies bundles
   pub total : IsSumOver (λ bundle. bundle.long) bundles sums.total

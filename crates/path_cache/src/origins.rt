@@ -13,8 +13,9 @@ use std::alloc::Global;
 pub(crate) enum Origin {
     /// The kept bundle at this place goes over.
     Kept(usize),
-    /// This one was calculated, or copied of a kept one that stands out of the order of sources.
-    New(Bundle),
+    /// This one was calculated, or copied of a kept one that stands out of the order of sources. It stands behind a box, so
+    /// that the origins of a row of which one source moved are short.
+    New(Box<Bundle>),
 }
 
 /// Origins in the order of sources, and the first place behind those of the kept bundles among them.
@@ -52,7 +53,7 @@ pub(crate) fn copied(
     for origin in origins {
         let bundle = match origin {
             Origin::Kept(place) => copy_at(kept, place)?,
-            Origin::New(bundle) => bundle,
+            Origin::New(bundle) => Box::into_inner(bundle),
         };
         bundles.push(bundle)?;
     }

@@ -220,17 +220,20 @@ impl<'a> Renewal<'a> {
     {
         match find_unmarked(self.kept, self.marks, &source.name, next) {
             Some(place) if next <= place => Ok(Origin::Kept(place)),
-            Some(place) => Ok(Origin::New(self.kept[place].clone()?)),
-            None => Ok(Origin::New(bundle_between(
-                alloc,
-                self.scene,
-                source,
-                from,
-                self.receiver,
-                &self.to,
-                found,
-                steps,
-            )?)),
+            Some(place) => Ok(Origin::New(Box::new(alloc, self.kept[place].clone()?)?)),
+            None => {
+                let bundle = bundle_between(
+                    alloc,
+                    self.scene,
+                    source,
+                    from,
+                    self.receiver,
+                    &self.to,
+                    found,
+                    steps,
+                )?;
+                Ok(Origin::New(Box::new(alloc, bundle)?))
+            }
         }
     }
 }

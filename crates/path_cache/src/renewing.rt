@@ -216,7 +216,7 @@ fn put_new(bundles: &mut Vec<Bundle>, place: usize, origin: Origin)
     ensures { bundles.new.items ≡ placed_at place origin bundles.old.items }
 {
     if let Origin::New(bundle) = origin {
-        bundles[place] = bundle;
+        bundles[place] = Box::into_inner(bundle);
     }
 }
 
@@ -237,7 +237,7 @@ fn moved(origins: Vec<Origin>, kept: Vec<Bundle>, room: Vec<Bundle>) -> Vec<Bund
                 next = place + 1;
                 bundle
             }
-            Origin::New(bundle) => bundle,
+            Origin::New(bundle) => Box::into_inner(bundle),
         };
         bundles.push_reserved(bundle);
     }

@@ -3,7 +3,7 @@ use Rattle.std.proofs.Common.{◌≡◌, ℕ, refl, sym, ap, subst, ◌∙◌, a
 use Rattle.std.specs.Prelude.{ℤ, int_lt, not, ◌&&◌, ◌==◌, Option, is_some, All, Contains}
 use Rattle.std.specs.List.{list_any, list_all}
 use Rattle.std.specs.Ordering.{int_eq}
-use Rattle.std.proofs.lemmas.Bool.{eqb-true}
+use Rattle.std.proofs.lemmas.Bool.{eqb-true, and_parts}
 use Rattle.std.proofs.lemmas.Bool.Decides.{Decides-int_eq}
 use Rattle.scene_geom.specs.declared.plan.Pt.{Pt}
 use Rattle.scene_geom.specs.declared.plan.Side.{Side}
@@ -158,3 +158,9 @@ far-edits-touch-no-path e bundles holds r edit old far =
     one bundle path =
         rw (set.0, set.1)
         (none-passes (part_touches (bundled r bundle)) (changed_parts edit old) (λ part i. far-part e r bundle part to path (fails-at (part_may_touch e r.name) part (changed_parts edit old) i last.1)))
+
+-- points whose coordinates are told to be equal
+pub same-points : (p q : Pt) → (int_eq p.x q.x && int_eq p.y q.y) ≡ true → p ≡ q
+same-points p q h =
+    let both = and_parts (int_eq p.x q.x) (int_eq p.y q.y) h in
+    Pt_eq p q ((Decides-int_eq p.x q.x).0 both.0) ((Decides-int_eq p.y q.y).0 both.1)

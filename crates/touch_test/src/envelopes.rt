@@ -1,5 +1,5 @@
 //! Boxes in plan round the paths of a receiver.
-ghost use Rattle.std.specs.Prelude.{◌≡◌, ◌≤◌, ◌≤ℤ◌, ◌<ℤ◌, [], pos, unsigned_abs, int_lt};
+ghost use Rattle.std.specs.Prelude.{◌≡◌, true, ◌≤◌, ◌≤ℤ◌, ◌<ℤ◌, [], pos, unsigned_abs, int_lt};
 ghost use Rattle.std.specs.List.{list_all};
 ghost use Rattle.scene_geom.specs.Direction.{direct, FitsDirection};
 ghost use Rattle.scene_geom.specs.Fraction.{FitsEnd};
@@ -7,6 +7,7 @@ ghost use Rattle.scene_geom.specs.Plan.{InPlan};
 ghost use Rattle.part_grid.specs.Laws.{LiesBetween};
 ghost use Rattle.path_shape.specs.Outlines.{whole};
 ghost use Rattle.path_calc.specs.Segments.{FitsSegment};
+ghost use Rattle.path_calc.specs.declared.segments.Seg.TheVariants.{Straight};
 ghost use Rattle.touch_test.specs.Envelopes as form;
 ghost use Rattle.touch_test.specs.Envelopes.{HoldsPath, HoldsPaths, HoldsSegment, HoldsWay, IsWider, TellsOf};
 
@@ -73,9 +74,24 @@ impl Envelope {
     {
         let mut envelope = self.with_line(bundle.at, self.to);
         for segment in bundle.segs.items() {
-            envelope = envelope.with_segment(*segment);
+            envelope = envelope.with_segment_beside(bundle.at, *segment);
         }
         envelope
+    }
+
+    /// The box with a segment in it besides, where it holds the way from a point to the receiver already: in the open, this
+    /// is all of a path's trace.
+    fn with_segment_beside(self, from: Pt, segment: Seg) -> Envelope
+        requires line { HoldsWay self from (direct from self.to) whole }
+        requires fits { FitsSegment segment }
+        ensures wider { IsWider self result }
+        ensures segment { HoldsSegment result segment }
+    {
+        if is_straight(segment, from, self.to) {
+            self
+        } else {
+            self.with_segment(segment)
+        }
     }
 
     /// The box with a segment in it besides.
@@ -193,6 +209,16 @@ impl Envelope {
         corners
             .iter()
             .all(|corner| self.north < i128::from(corner.y))
+    }
+}
+
+/// Whether a segment is the straight one from a point to another.
+fn is_straight(segment: Seg, from: Pt, to: Pt) -> bool
+    ensures { result ≡ true → segment ≡ Straight from to }
+{
+    match segment {
+        Seg::Straight(p, q) => p == from && q == to,
+        Seg::Legs(..) => false,
     }
 }
 

@@ -34,7 +34,7 @@ loop-origin-preserved c =
                 ∙ one-moved kept c.loop-origin.bundles.items origins c.in-Some.origin rest c.match-origin.bundle all is one inv.all;
           }
       | in-New w ↦
-          let one : bundle_from kept c.in-Some.origin ≡ c.match-origin.bundle ∷ [] = ap (bundle_from kept) w.in-New.is ∙ ap (λ x. x ∷ []) (sym w.bundle-is) in
+          let one : bundle_from kept c.in-Some.origin ≡ c.match-origin.bundle ∷ [] = ap (bundle_from kept) w.in-New.is ∙ ap (λ x. x ∷ []) (sym (w.bundle-is ∙ w.into_inner-bundle.ensures)) in
           record {
             ascend = (inv.ascend.0, first-new origins c.in-Some.origin rest w.in-New.bundle inv.ascend.0 (length kept) is w.in-New.is inv.ascend.1);
             all = ap (λ bs. bs ++ bundles_from kept rest) pushed

@@ -57,12 +57,13 @@ loop-origin-preserved c =
                 (subst (λ k. Fits w.take_off_between.new.self (bundles_from kept (take (i + 1) origins) ++ drop k kept)) (sym w.next-is) after);
           }
       | in-New w ↦
-          let b = w.in-New.bundle in
-          let one : bundle_from kept origin ≡ b ∷ [] = ap (bundle_from kept) w.in-New.is in
+          let boxed = w.in-New.bundle in
+          let b = w.deref.result.now in
+          let one : bundle_from kept origin ≡ b ∷ [] = ap (bundle_from kept) w.in-New.is ∙ ap (λ x. x ∷ []) (sym w.deref.ensures) in
           let after : Fits w.add.new.self (bundles_from kept (take (i + 1) origins) ++ drop next kept) =
           subst (Fits w.add.new.self) (and-then kept origins i origin b (drop next kept) below is one) (w.add.ensures so_far (drop next kept) inv.fit) in
           record {
-            ascend = subst (λ k. Ascend k (drop (i + 1) origins) (length kept)) (sym w.next-is) (here-new origins i origin b next (length kept) below is w.in-New.is inv.ascend);
+            ascend = subst (λ k. Ascend k (drop (i + 1) origins) (length kept)) (sym w.next-is) (here-new origins i origin boxed next (length kept) below is w.in-New.is inv.ascend);
             fit = subst (λ s. Fits s (bundles_from kept (take (i + 1) origins) ++ drop c.match-origin.next kept)) (sym w.after-is)
                 (subst (λ k. Fits w.add.new.self (bundles_from kept (take (i + 1) origins) ++ drop k kept)) (sym w.next-is) after);
           }

@@ -43,11 +43,12 @@ loop-origin-preserved c =
             room = room;
           }
       | in-New w ↦
-          let b = w.in-New.bundle in
+          let boxed = w.in-New.bundle in
+          let b = boxed.value in
           let one : bundle_from kept c.in-Some.origin ≡ b ∷ [] = ap (bundle_from kept) w.in-New.is in
-          let bundles : c.push_reserved.new.self.items ≡ c.loop-origin.bundles.items ++ b ∷ [] = pushed ∙ ap (λ x. c.loop-origin.bundles.items ++ x ∷ []) w.bundle-is in
+          let bundles : c.push_reserved.new.self.items ≡ c.loop-origin.bundles.items ++ b ∷ [] = pushed ∙ ap (λ x. c.loop-origin.bundles.items ++ x ∷ []) (w.bundle-is ∙ w.into_inner-bundle.ensures) in
           record {
-            ascend = subst (λ k. Ascend k rest (length kept)) (sym w.next-is) (first-new origins c.in-Some.origin rest b next (length kept) is w.in-New.is inv.ascend);
+            ascend = subst (λ k. Ascend k rest (length kept)) (sym w.next-is) (first-new origins c.in-Some.origin rest boxed next (length kept) is w.in-New.is inv.ascend);
             rest = ap into_iter_items w.rest-is ∙ inv.rest ∙ ap (λ k. drop k kept) (sym w.next-is);
             all = ap (λ bs. bs ++ bundles_from kept rest) bundles
                 ∙ one-moved kept c.loop-origin.bundles.items origins c.in-Some.origin rest b (bundles_from kept c.args.origins.items) is one inv.all;

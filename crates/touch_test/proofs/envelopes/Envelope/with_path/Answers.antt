@@ -9,8 +9,8 @@ use Rattle.touch_test.proofs.envelopes.Envelope.with_path.Goals as goal
 pub loop-segment-preserved : goal.loop-segment-preserved
 loop-segment-preserved c =
     let e = c.loop-segment.envelope in
-    let f = c.with_segment-envelope.result in
-    let wider = c.with_segment-envelope.ensures.wider in
+    let f = c.with_segment_beside-envelope.result in
+    let wider = c.with_segment_beside-envelope.ensures.wider in
     let so = c.loop-segment.invariant in
     let i = c.loop-segment.segment-index in
     let x = c.segment-item.result in
@@ -19,7 +19,7 @@ loop-segment-preserved c =
       line-wider e f c.args.bundle.now.at wider so.1,
       grown (HoldsSegment e) (HoldsSegment f) c.args.bundle.now.segs i x
           (subst (λ (l : List Seg). i < length l) segs_is c.loop-segment-test.true) (subst (λ (l : List Seg). x ≡ slice_index_or l i x) segs_is c.segment-item.is)
-          (λ segment is. wider-segment e f segment wider is) so.2 c.with_segment-envelope.ensures.segment,
+          (λ segment is. wider-segment e f segment wider is) so.2 c.with_segment_beside-envelope.ensures.segment,
     )
 
 pub returns-clause-path : goal.returns-clause-path
