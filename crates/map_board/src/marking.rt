@@ -1,13 +1,14 @@
 //! Marks on the kept bundles that edits touch.
 ghost use Rattle.std.specs.Prelude.{◌≡◌, ◌||◌, false, IfSome, length, map};
 ghost use Rattle.std.specs.List.{zip, list_any};
-ghost use Rattle.map_board.specs.Marks.{marks_after, touches_one};
+ghost use Rattle.map_board.specs.Marks as form;
+ghost use Rattle.map_board.specs.Marks.{marks_after, marks_from, touches_one, TouchesFrom};
 ghost use Rattle.map_board.specs.Paths.{counted, tests_to};
 
 use crate::rows::Cache;
 use path_cache::Bundle;
-use scene_book::Logged;
-use scene_parts::{Globals, Receiver};
+use scene_book::{Edit, Logged};
+use scene_parts::{Globals, Name, Part, Receiver};
 use touch_test::{may_touch, touches};
 
 /// Marks each bundle whose path an edit touches, and gives whether there is one. The globals are those before the edit.
@@ -36,8 +37,64 @@ pub(crate) fn mark(
     )
 }
 
-/// Marks those of some bundles, and gives whether there is one.
+/// Marks those of some bundles, and gives whether there is one. Where the edit changes a source alone, only the names of
+/// sources are looked at.
 fn mark_each(
+    bundles: &[Bundle],
+    marks: &mut [bool],
+    logged: &Logged,
+    globals: &Globals,
+    receiver: &Receiver,
+) -> bool
+    requires { length marks.old ≡ length bundles.now }
+    ensures marks { marks.new
+        ≡ marks_after logged.now.edit logged.now.old receiver.now bundles.now marks.old }
+    ensures one { result ≡ touches_one logged.now.edit logged.now.old receiver.now bundles.now }
+{
+    match source_changed(logged) {
+        Some(name) => mark_by_source(bundles, marks, name.items()),
+        None => mark_by_path(bundles, marks, logged, globals, receiver),
+    }
+}
+
+/// The name of the source that an edit puts, replaces or removes. Such an edit touches the paths from this source alone.
+pub(crate) fn source_changed(logged: &Logged) -> Option<&Name>
+    ensures { IfSome result (λ name. TouchesFrom name.now logged.now.edit logged.now.old) }
+{
+    match (&logged.edit, &logged.old) {
+        (Edit::Put(Part::Source(new)), None) => Some(&new.name),
+        (Edit::Put(Part::Source(new)), Some(Part::Source(old)))
+            if new.name.items() == old.name.items() => { Some(&new.name) }
+        (Edit::Remove(_), Some(Part::Source(old))) => Some(&old.name),
+        _ => None,
+    }
+}
+
+/// Marks the bundles of the source of a name, and gives whether there is one.
+fn mark_by_source(bundles: &[Bundle], marks: &mut [bool], name: &[u8]) -> bool
+    requires { length marks.old ≡ length bundles.now }
+    ensures marks { marks.new ≡ marks_from name.now bundles.now marks.old }
+    ensures one { result ≡ list_any (form.is_from name.now) bundles.now }
+{
+    let mut one = false;
+    for (place, bundle) in bundles.iter().enumerate() {
+        if is_from(bundle, name) {
+            marks[place] = true;
+            one = true;
+        }
+    }
+    one
+}
+
+/// Whether a bundle is that of the source of a name.
+fn is_from(bundle: &Bundle, name: &[u8]) -> bool
+    ensures { result ≡ form.is_from name.now bundle.now }
+{
+    name == bundle.source.items()
+}
+
+/// Marks each bundle whose path the edit touches, and gives whether there is one.
+fn mark_by_path(
     bundles: &[Bundle],
     marks: &mut [bool],
     logged: &Logged,

@@ -4,6 +4,7 @@ ghost use Rattle.std.specs.Option.{option_map};
 ghost use Rattle.std.specs.Thread.{IsSync};
 ghost use Rattle.map_board.specs.Paths.{counted, kept_at, kept_of_row, path_seen, paths_of, paths_to, test_of, tests_of};
 
+use crate::marking::source_changed;
 use crate::rows::{Cache, HeldRow};
 use path_cache::Bundle;
 use rayon::prelude::*;
@@ -81,6 +82,10 @@ impl<'a, R: Threads + Sync> PathTest for InThreads<'a, R> {
         logged: &Logged,
         globals: &Globals,
     ) -> Option<Vec<bool>> {
+        if source_changed(logged).is_some() {
+            // its bundles are found by name, sooner than threads start
+            return None;
+        }
         let count = count_for_threads(receivers, rows, logged)?;
         let paths = kept_paths(alloc, count, receivers, rows).ok()?;
         test_each(self.rt, alloc, paths.as_slice(), logged, globals).ok()
