@@ -18,6 +18,7 @@ use scene_parts::NoMemory;
 use std::alloc::Global;
 use std::marker::Model;
 use std::sync::Wait;
+use std::thread::Threads;
 use turn_lock::Turn;
 
 /// A board that is taken in turns. Contracts see it as the identity of its table, which its seats share. Calls that
@@ -159,8 +160,9 @@ impl MapLock {
         board
     }
 
-    /// Edits the board, in the editor's turn. A refusal, or want of memory, leaves the board as it is.
-    pub fn edit<R: Wait>(
+    /// Edits the board, in the editor's turn. A refusal, or want of memory, leaves the board as it is. Where many bundles are
+    /// kept, threads share the search for those that the edit touches; they have ended when the turn ends.
+    pub fn edit<R: Threads + Wait + Sync>(
         &self,
         rt: &R,
         alloc: Global,

@@ -1,6 +1,9 @@
 //! The board as a machine.
+ghost use Rattle.map_board.specs.Machine.{Step, Can};
+
 use map_board::{Board, BoardCall, BoardReply};
 use std::alloc::Global;
+use std::thread::Threads;
 use turn_lock::Machine;
 
 /// The board that is shared.
@@ -50,4 +53,20 @@ impl Machine for SharedBoard {
     }
 
     ghost lawful = { board-is-lawful };
+}
+
+/// Answers a call as the machine's step does. Threads share the search for what an edit touches.
+pub(crate) fn step_with<R: Threads + Sync>(
+    rt: &R,
+    alloc: Global,
+    machine: &mut SharedBoard,
+    call: BoardCall,
+) -> BoardReply
+    requires { Can machine.old.board call }
+    ensures { Step machine.old.board call result machine.new.board }
+{
+    match call {
+        BoardCall::Edit(edit) => BoardReply::Edited(machine.board.edit_with(rt, alloc, edit)),
+        call => machine.step(alloc, call),
+    }
 }

@@ -1,16 +1,19 @@
 //! One turn of the board's machine through a bare seat, with a reply of its call's kind.
 ghost use Rattle.std.specs.Prelude.{◌≡◌};
+ghost use Rattle.std.specs.Thread.{IsSync};
+ghost use Rattle.map_board.specs.Machine.{Step, Can};
 ghost use Rattle.map_board.specs.Seats.{May, editor};
 ghost use Rattle.map_lock.specs.Seats.{IsSeat};
 ghost use Rattle.map_lock.specs.Turns.{HasTurned, IsReplyTo};
 
 use crate::lock::MapLock;
-use crate::machine::SharedBoard;
+use crate::machine::{SharedBoard, step_with};
 use map_board::{Answer, BoardCall, BoardReply, Job, Landed, LookAll, Took};
 use scene_book::{Edit, EditFault};
 use scene_parts::NoMemory;
 use std::alloc::Global;
 use std::sync::Wait;
+use std::thread::Threads;
 use turn_lock::Seat;
 
 impl MapLock {
@@ -31,7 +34,33 @@ impl MapLock {
         self.turn.turn(rt, alloc, seat, call)
     }
 
-    pub(crate) fn ask_edit<R: Wait>(
+    /// The same, where threads may share the work of an edit. All of them have ended when the turn ends.
+    fn ask_with<R: Threads + Wait + Sync>(
+        &self,
+        rt: &R,
+        alloc: Global,
+        seat: &mut Seat<SharedBoard>,
+        call: BoardCall,
+    ) -> BoardReply
+        requires own { seat.old.table ≡ self.now }
+        requires allowed { May seat.old.number seat.old.mine call }
+        ensures turn { HasTurned seat.old call result seat.new }
+        ensures kind { IsReplyTo call result }
+        ensures sound_before { IsSeat seat.old }
+        ensures sound { IsSeat seat.new }
+    {
+        self.turn.turn_by(
+            rt,
+            seat,
+            call,
+            |machine: &mut SharedBoard, call: BoardCall| -> BoardReply
+                requires { IsSync R.row × Can machine.old.board call }
+                ensures { Step machine.old.board call result machine.new.board }
+            { step_with(rt, alloc, machine, call) },
+        )
+    }
+
+    pub(crate) fn ask_edit<R: Threads + Wait + Sync>(
         &self,
         rt: &R,
         alloc: Global,
@@ -43,7 +72,7 @@ impl MapLock {
         ensures turn { HasTurned seat.old (BoardCall.Edit edit) (BoardReply.Edited result) seat.new }
         ensures sound { IsSeat seat.new }
     {
-        match self.ask(rt, alloc, seat, BoardCall::Edit(edit)) {
+        match self.ask_with(rt, alloc, seat, BoardCall::Edit(edit)) {
             BoardReply::Edited(result) => {
                 self.jobs.ring_where(result.is_ok());
                 result

@@ -21,6 +21,7 @@ use map_text::Head;
 use scene_parts::NoMemory;
 use std::alloc::Global;
 use std::sync::Wait;
+use std::thread::Threads;
 
 /// The status with which an answer of the reader ends a run, if it is no line.
 fn ending(next: Next, refused: bool) -> Option<Status>
@@ -74,7 +75,7 @@ fn show<K: Sink>(
 }
 
 /// Does the line that the reader has handed out, or refuses the long one that it has passed over.
-fn do_next<R: Wait, G: Gate>(
+fn do_next<R: Threads + Wait + Sync, G: Gate>(
     shared: &Shared<R, G>,
     editor: &mut Editor,
     next: Next,
@@ -96,7 +97,7 @@ fn do_next<R: Wait, G: Gate>(
 }
 
 /// Does that line, of this number, writes its rows, and tells whether it was refused.
-fn do_and_show<R: Wait, G: Gate, K: Sink>(
+fn do_and_show<R: Threads + Wait + Sync, G: Gate, K: Sink>(
     shared: &Shared<R, G>,
     words: CommandLine,
     editor: &mut Editor,
@@ -120,7 +121,7 @@ fn do_and_show<R: Wait, G: Gate, K: Sink>(
 }
 
 /// Reads line after line of the input and does each, until the input ends or something stops it.
-pub fn do_lines<R: Wait, G: Gate, S: Source, K: Sink>(
+pub fn do_lines<R: Threads + Wait + Sync, G: Gate, S: Source, K: Sink>(
     shared: &Shared<R, G>,
     words: CommandLine,
     editor: &mut Editor,

@@ -18,6 +18,7 @@ use map_io::{Gate, Sink, put_all};
 use scene_parts::NoMemory;
 use site_maker::site;
 use std::sync::Wait;
+use std::thread::Threads;
 
 // Where the first line feed stands.
 fn line_feed(bytes: &[u8]) -> Option<usize>
@@ -51,7 +52,7 @@ fn status_at_end(refused: bool) -> Status
 }
 
 /// Does one line of a site, and adds what it has done.
-fn make_line<R: Wait, G: Gate>(
+fn make_line<R: Threads + Wait + Sync, G: Gate>(
     shared: &Shared<R, G>,
     editor: &mut Editor,
     line: &[u8],
@@ -71,7 +72,7 @@ fn make_line<R: Wait, G: Gate>(
 }
 
 /// Does the lines of the generated site of this number, and writes the one row that tells what they come to.
-pub fn do_site<R: Wait, G: Gate, K: Sink>(
+pub fn do_site<R: Threads + Wait + Sync, G: Gate, K: Sink>(
     shared: &Shared<R, G>,
     number: u32,
     editor: &mut Editor,

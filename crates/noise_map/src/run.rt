@@ -34,7 +34,7 @@ fn not_begun(status: Status) -> Report
 }
 
 /// Does the lines of the input, or those of the generated site that is asked for in its place.
-fn do_asked<R: Wait, G: Gate, S: Source, K: Sink>(
+fn do_asked<R: Threads + Wait + Sync, G: Gate, S: Source, K: Sink>(
     shared: &Shared<R, G>,
     words: CommandLine,
     editor: &mut Editor,

@@ -30,6 +30,7 @@ use scene_parts::{Name, NoMemory};
 use scene_undo::inverse;
 use std::alloc::Global;
 use std::sync::Wait;
+use std::thread::Threads;
 
 /// How many bytes a line has at most.
 const LONGEST: usize = 65_536;
@@ -68,7 +69,7 @@ fn line_lacks_memory(fault: &LineFault) -> bool
     matches!(fault, LineFault::NoMemory)
 }
 
-impl<'a, R: Wait, G: Gate> Shared<'a, R, G> {
+impl<'a, R: Threads + Wait + Sync, G: Gate> Shared<'a, R, G> {
     /// Has an edit made, at the board and in the scene that the editor knows. Its version is kept or not.
     fn make(&self, editor: &mut Editor, edit: Edit, keeps: bool) -> Result<(), EditFault>
         requires own { editor.old.seat.table ≡ self.now.lock.now }

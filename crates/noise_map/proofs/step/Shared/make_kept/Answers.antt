@@ -1,6 +1,16 @@
 use Rattle.std.proofs.Common.{refl}
+use Rattle.std.proofs.lemmas.Result.{err_from_is_err_and}
+use Rattle.noise_map.specs.declared.editor.Editor.{Editor}
+use Rattle.noise_map.proofs.Meeting.{edit-untried}
 use Rattle.noise_map.proofs.KeptVersions.{made-kept}
 use Rattle.noise_map.proofs.step.Shared.make_kept.Goals as goal
+
+pub returns-in_err-make_room : goal.returns-in_err-make_room
+returns-in_err-make_room g c =
+    let p = err_from_is_err_and c.from_residual-in_err-make_room.result c.from_residual-in_err-make_room.ensures.1 in
+    let before = c.args.editor.now in
+    let after : Editor = record { seat = before.seat; scene = before.scene; version = before.version; kept = c.make_room.new.kept } in
+    rw (p.1, p.2) (edit-untried before after c.args.edit refl)
 
 pub returns : goal.returns
 returns g c =

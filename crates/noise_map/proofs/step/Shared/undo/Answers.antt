@@ -21,7 +21,7 @@ returns-in_err-edits g c =
     rw p.1 (never-tried c.args.editor.now.seat _)
 
 pub make_all-requires-clause-knows : goal.make_all-requires-clause-knows
-make_all-requires-clause-knows g c =
+make_all-requires-clause-knows g c κs within =
     (was-cut c.args.editor.now c.args.version c.take_later.new.kept c.in_ok-edits.edits.items c.requires.knows c.in_ok-edits.ensures).knows
 
 pub returns-in_err-make_all : goal.returns-in_err-make_all
