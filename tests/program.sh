@@ -193,7 +193,8 @@ try_lengths() {
     expect "a line without a line feed" 0 "$room/look" "" "$program" < "$room/line"
 }
 
-# Workers change no row of a settle, also where no thread can be started: there its stack finds no room.
+# Workers change no row of a settle, nor do the threads of an edit, also where no thread can be started: there its stack
+# finds no room.
 try_workers() {
     for workers in 0 1 4 16; do
         expect "$workers workers" 0 examples/works.csv "" "$program" --workers "$workers" < examples/works.jsonl
@@ -201,6 +202,9 @@ try_workers() {
     done
     expect "workers without threads" 0 examples/works.csv "" \
         prlimit --stack=8589934592 --as=4294967296 "$program" --workers 16 < examples/works.jsonl
+    # Its edits of so many paths start threads of their own, where that can be.
+    expect "edits of many paths without threads" 0 examples/crowd.csv "" \
+        prlimit --stack=8589934592 --as=4294967296 "$program" < examples/crowd.jsonl
 }
 
 # As many obstacles and sides as may be, out to the ends of the map, and one obstacle more: the rows of $room/sides, which
