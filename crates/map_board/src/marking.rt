@@ -25,6 +25,9 @@ pub(crate) fn mark(
     ensures one { result
         ≡ touches_one logged.now.edit logged.now.old receiver.now cache.old.bundles.items }
 {
+    if cache.bundles.is_empty() {
+        return false;
+    }
     if !may_touch(logged, &cache.envelope, receiver) {
         return false;
     }

@@ -120,18 +120,28 @@ fn test_each<R: Threads + Sync>(
 fn count_for_threads(receivers: &[Receiver], rows: &[HeldRow], logged: &Logged) -> Option<usize>
     requires { length rows.now ≤ length receivers.now }
 {
+    let all = count_all(rows);
+    if all < 2 * LEAST_PATHS {
+        return None;
+    }
     let mut near = 0usize;
-    let mut far = 0usize;
     for (place, row) in rows.iter().enumerate() {
         if let Some(cache) = &row.cache {
             if may_touch(logged, &cache.envelope, &receivers[place]) {
                 near = near.saturating_add(cache.bundles.len());
-            } else {
-                far = far.saturating_add(cache.bundles.len());
             }
         }
     }
-    (near >= 2 * LEAST_PATHS && near >= far).then_some(near.saturating_add(far))
+    (near >= 2 * LEAST_PATHS && near >= all / 2).then_some(all)
+}
+
+/// How many paths the rows keep.
+fn count_all(rows: &[HeldRow]) -> usize {
+    let mut count = 0usize;
+    for row in rows {
+        count = count.saturating_add(count_in(row));
+    }
+    count
 }
 
 /// The kept paths of rows in their order, each to the receiver at its row's place. There is room for so many from the start.
