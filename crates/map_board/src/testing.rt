@@ -83,7 +83,7 @@ impl<'a, R: Threads + Sync> PathTest for InThreads<'a, R> {
         globals: &Globals,
     ) -> Option<Vec<bool>> {
         if source_changed(logged).is_some() {
-            // its bundles are found by name, sooner than threads start
+            // its bundles are found by name, without a list of all paths
             return None;
         }
         let count = count_for_threads(receivers, rows, logged)?;
