@@ -12,6 +12,6 @@ mod sums;
 
 pub use path_calc::{Bundle, NoMemory, PreparedSource, Steps};
 pub use preparing::prepare;
-pub use refreshing::{refresh, refresh_prepared};
-pub use renewing::{Renewed, WithSums, refresh_sums, refresh_sums_prepared, renew};
+pub use refreshing::refresh;
+pub use renewing::{Renewed, WithSums, refresh_sums, renew};
 pub use sums::RowSums;

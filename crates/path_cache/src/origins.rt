@@ -60,6 +60,19 @@ pub(crate) fn copied(
     Ok(bundles)
 }
 
+/// A copy of the bundle at a place, behind a box. Like a calculation, it isn't put into its callers.
+#[inline(never)]
+pub(crate) fn boxed_copy(
+    alloc: Global,
+    kept: &[Bundle],
+    place: usize,
+) -> Result<Box<Bundle>, NoMemory>
+    requires { place < length kept.now }
+    ensures { IfOk result (λ bundle. slice_get kept.now place ≡ Some bundle.value) }
+{
+    Ok(Box::new(alloc, copy_at(kept, place)?)?)
+}
+
 /// A copy of the bundle at a place.
 fn copy_at(kept: &[Bundle], place: usize) -> Result<Bundle, NoMemory>
     requires { place < length kept.now }

@@ -1,13 +1,14 @@
 //! A refresh of the bundles of one receiver.
 ghost use Rattle.std.specs.List.{list_any};
 ghost use Rattle.std.specs.Prelude.{◌≡◌, ◌≤◌, ◌+◌, [], ◌∷◌, ◌++◌, IfOk, OnOk, length, map, if◌then◌else◌};
+ghost use Rattle.path_calc.specs.Bundles.{bundle_of};
 ghost use Rattle.path_calc.specs.Prepared.{prepared_of};
 ghost use Rattle.path_cache.specs.Refreshed.{CanRefresh, refreshed, refreshed_bundle, is_wanted, count_wanted};
 ghost use Rattle.path_cache.specs.Origins.{Ascend, IsBetween, bundle_from, bundles_from};
 ghost use Rattle.path_cache.specs.OfOneSource.{refreshed_of_one, steps_of_one, needs_path};
 
 use crate::keeping::{find_unmarked, search_unmarked};
-use crate::origins::{Origin, Origins, copied};
+use crate::origins::{Origin, Origins, boxed_copy, copied};
 use crate::preparing::prepare;
 use path_calc::{
     Bundle, Found, IndexedScene, PreparedReceiver, PreparedSource, Steps, bundle_between, within,
@@ -83,7 +84,7 @@ fn needs_path_of(
 
 /// The same, of a scene that may have an index of its obstacles, and whose sources are prepared: once, and not for each
 /// receiver.
-pub fn refresh_prepared<L: Ledger>(
+fn refresh_prepared<L: Ledger>(
     alloc: Global,
     scene: &IndexedScene<'_>,
     prepared: &[PreparedSource],
@@ -220,20 +221,37 @@ impl<'a> Renewal<'a> {
     {
         match find_unmarked(self.kept, self.marks, &source.name, next) {
             Some(place) if next <= place => Ok(Origin::Kept(place)),
-            Some(place) => Ok(Origin::New(Box::new(alloc, self.kept[place].clone()?)?)),
-            None => {
-                let bundle = bundle_between(
-                    alloc,
-                    self.scene,
-                    source,
-                    from,
-                    self.receiver,
-                    &self.to,
-                    found,
-                    steps,
-                )?;
-                Ok(Origin::New(Box::new(alloc, bundle)?))
-            }
+            Some(place) => Ok(Origin::New(boxed_copy(alloc, self.kept, place)?)),
+            None => Ok(Origin::New(self.calculated(alloc, source, from, found, steps)?)),
         }
+    }
+
+    /// The scene's bundle of a source. It isn't put into its callers, since each source whose bundle stands would pay there
+    /// for the locals of a calculation.
+    #[inline(never)]
+    fn calculated<L: Ledger>(
+        &self,
+        alloc: Global,
+        source: &PointSource,
+        from: &PreparedSource,
+        found: &mut Found,
+        steps: &mut Steps<L>,
+    ) -> Result<Box<Bundle>, NoMemory>
+        requires { from.now ≡ prepared_of source.now }
+        ensures value { IfOk result (λ bundle. bundle.value
+            ≡ bundle_of self.now.scene.now source.now self.now.receiver.now) }
+        ensures step { steps.new ≡ steps.old + 1 }
+    {
+        let bundle = bundle_between(
+            alloc,
+            self.scene,
+            source,
+            from,
+            self.receiver,
+            &self.to,
+            found,
+            steps,
+        )?;
+        Ok(Box::new(alloc, bundle)?)
     }
 }

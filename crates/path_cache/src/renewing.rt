@@ -71,7 +71,7 @@ pub fn refresh_sums<L: Ledger>(
 
 /// The same, of a scene that may have an index of its obstacles, and whose sources are prepared: once, and not for each
 /// receiver.
-pub fn refresh_sums_prepared<L: Ledger>(
+fn refresh_sums_prepared<L: Ledger>(
     alloc: Global,
     scene: &IndexedScene<'_>,
     prepared: &[PreparedSource],

@@ -20,7 +20,7 @@ use Rattle.path_calc.specs.Bundles.{Bundle}
 use Rattle.path_calc.specs.declared.segments.Seg.{Seg}
 use Rattle.path_calc.specs.declared.segments.Seg.TheVariants.{Straight, Legs}
 use Rattle.touch_test.specs.declared.envelopes.Envelope.{Envelope}
-use Rattle.touch_test.specs.Envelopes.{HoldsWay, HoldsSegment, HoldsPath, IsWider}
+use Rattle.touch_test.specs.Envelopes.{HoldsWay, HoldsPoint, HoldsSegment, HoldsPath, IsWider}
 
 -- ---- products by a divisor
 
@@ -128,11 +128,16 @@ wider-path e f bundle wider is = record {
   trace = λ k d less. wider-segment e f _ wider (is.trace k d less);
 }
 
+pub wider-point : (e f : Envelope) (p : Pt) → IsWider e f → HoldsPoint e p → HoldsPoint f p
+wider-point e f p wider is = record {
+  x = (below-both f.west e.west p.x wider.west is.x.0, below-both p.x e.east f.east is.x.1 wider.east);
+  y = (below-both f.south e.south p.y wider.south is.y.0, below-both p.y e.north f.north is.y.1 wider.north);
+}
+
 -- the way between two points that a box holds
-pub line-held : (e : Envelope) (p q : Pt) → (e.west ≤ℤ p.x) × (p.x ≤ℤ e.east) → (e.south ≤ℤ p.y) × (p.y ≤ℤ e.north) → (e.west ≤ℤ q.x) × (q.x ≤ℤ e.east) → (e.south ≤ℤ q.y) × (q.y ≤ℤ e.north)
-    → HoldsWay e p (direct p q) whole
-line-held e p q px py qx qy =
-    record { x = between e.west e.east p.x q.x px.0 px.1 qx.0 qx.1; y = between e.south e.north p.y q.y py.0 py.1 qy.0 qy.1 }
+pub line-held : (e : Envelope) (p q : Pt) → HoldsPoint e p → HoldsPoint e q → HoldsWay e p (direct p q) whole
+line-held e p q p_in q_in =
+    record { x = between e.west e.east p.x q.x p_in.x.0 p_in.x.1 q_in.x.0 q_in.x.1; y = between e.south e.north p.y q.y p_in.y.0 p_in.y.1 q_in.y.0 q_in.y.1 }
   where
     between : (low high a b : ℤ) → low ≤ℤ a → a ≤ℤ high → low ≤ℤ b → b ≤ℤ high → LiesBetween low high a (b -ℤ a) (pos 1) whole
     between low high a b la ah lb bh = record { above_at_start = la; below_at_start = ah; above_at_end = omega (arith, ints); below_at_end = omega (arith, ints) }

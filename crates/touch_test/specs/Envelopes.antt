@@ -91,6 +91,11 @@ FarEditsTouchNoPath = (e : Envelope) (bundles : List Bundle) → HoldsPaths e bu
 
 -- ---- between code and definitions
 
+-- a point lies in the box
+pub record HoldsPoint (e : Envelope) (p : Pt) : Type 0 where
+  pub x : (e.west ≤ℤ p.x) × (p.x ≤ℤ e.east)
+  pub y : (e.south ≤ℤ p.y) × (p.y ≤ℤ e.north)
+
 -- a box that was widened: it is of the same receiver, and holds what the other holds
 pub record IsWider (e f : Envelope) : Type 0 where
   pub to : f.to ≡ e.to

@@ -9,7 +9,7 @@ ghost use Rattle.path_shape.specs.Outlines.{whole};
 ghost use Rattle.path_calc.specs.Segments.{FitsSegment};
 ghost use Rattle.path_calc.specs.declared.segments.Seg.TheVariants.{Straight};
 ghost use Rattle.touch_test.specs.Envelopes as form;
-ghost use Rattle.touch_test.specs.Envelopes.{HoldsPath, HoldsPaths, HoldsSegment, HoldsWay, IsWider, TellsOf};
+ghost use Rattle.touch_test.specs.Envelopes.{HoldsPath, HoldsPaths, HoldsPoint, HoldsSegment, HoldsWay, IsWider, TellsOf};
 
 use part_grid::end_at;
 use path_calc::{Bundle, Seg};
@@ -56,7 +56,8 @@ impl Envelope {
 
     /// The box of a single point.
     fn at(to: Pt) -> Envelope
-        ensures { result.to ≡ to }
+        ensures to { result.to ≡ to }
+        ensures point { HoldsPoint result to }
     {
         Envelope {
             to,
@@ -69,14 +70,37 @@ impl Envelope {
 
     /// The box with a path in it besides.
     fn with_path(self, bundle: &Bundle) -> Envelope
+        requires { HoldsPoint self self.to }
         ensures wider { IsWider self result }
         ensures path { HoldsPath result bundle.now }
     {
-        let mut envelope = self.with_line(bundle.at, self.to);
+        let mut envelope = self.with_line_from(bundle.at);
         for segment in bundle.segs.items() {
             envelope = envelope.with_segment_beside(bundle.at, *segment);
         }
         envelope
+    }
+
+    /// The box with the way from a point to the receiver in it besides. Most boxes hold it already, since few sources lie
+    /// farther out than all before them.
+    fn with_line_from(self, from: Pt) -> Envelope
+        requires { HoldsPoint self self.to }
+        ensures wider { IsWider self result }
+        ensures line { HoldsWay result from (direct from result.to) whole }
+    {
+        if self.holds(from) {
+            self
+        } else {
+            self.with_point(from)
+        }
+    }
+
+    /// Whether a point lies in the box.
+    fn holds(&self, p: Pt) -> bool
+        ensures { result ≡ true → HoldsPoint self.now p }
+    {
+        lies_between(p.x.into(), self.west, self.east)
+            && lies_between(p.y.into(), self.south, self.north)
     }
 
     /// The box with a segment in it besides, where it holds the way from a point to the receiver already: in the open, this
@@ -121,8 +145,7 @@ impl Envelope {
     /// The box with a point in it besides.
     fn with_point(self, p: Pt) -> Envelope
         ensures wider { IsWider self result }
-        ensures x { (result.west ≤ℤ p.x) × (p.x ≤ℤ result.east) }
-        ensures y { (result.south ≤ℤ p.y) × (p.y ≤ℤ result.north) }
+        ensures point { HoldsPoint result p }
     {
         self.with_reaches(Reach::at(p.x), Reach::at(p.y))
     }
@@ -210,6 +233,13 @@ impl Envelope {
             .iter()
             .all(|corner| self.north < i128::from(corner.y))
     }
+}
+
+/// Whether a coordinate lies between two others, or is one of them.
+fn lies_between(coordinate: i128, least: i128, most: i128) -> bool
+    ensures { result ≡ true → (least ≤ℤ coordinate) × (coordinate ≤ℤ most) }
+{
+    least <= coordinate && coordinate <= most
 }
 
 /// Whether a segment is the straight one from a point to another.
