@@ -54,10 +54,17 @@ fn mark_each(
         ≡ marks_after logged.now.edit logged.now.old receiver.now bundles.now marks.old }
     ensures one { result ≡ touches_one logged.now.edit logged.now.old receiver.now bundles.now }
 {
-    match source_changed(logged) {
-        Some(name) => mark_by_source(bundles, marks, name.items()),
-        None => mark_by_path(bundles, marks, logged, globals, receiver),
+    if let Some(name) = source_changed(logged) {
+        return mark_by_source(bundles, marks, name.items());
     }
+    let mut one = false;
+    for (place, bundle) in bundles.iter().enumerate() {
+        if touches(logged, globals, bundle, receiver) {
+            marks[place] = true;
+            one = true;
+        }
+    }
+    one
 }
 
 /// The name of the source that an edit puts, replaces or removes. Such an edit touches the paths from this source alone.
@@ -94,29 +101,6 @@ fn is_from(bundle: &Bundle, name: &[u8]) -> bool
     ensures { result ≡ form.is_from name.now bundle.now }
 {
     name == bundle.source.items()
-}
-
-/// Marks each bundle whose path the edit touches, and gives whether there is one.
-fn mark_by_path(
-    bundles: &[Bundle],
-    marks: &mut [bool],
-    logged: &Logged,
-    globals: &Globals,
-    receiver: &Receiver,
-) -> bool
-    requires { length marks.old ≡ length bundles.now }
-    ensures marks { marks.new
-        ≡ marks_after logged.now.edit logged.now.old receiver.now bundles.now marks.old }
-    ensures one { result ≡ touches_one logged.now.edit logged.now.old receiver.now bundles.now }
-{
-    let mut one = false;
-    for (place, bundle) in bundles.iter().enumerate() {
-        if touches(logged, globals, bundle, receiver) {
-            marks[place] = true;
-            one = true;
-        }
-    }
-    one
 }
 
 /// Marks as `mark` does, where it may be known already which of the bundles' paths the edit touches, beside those that are

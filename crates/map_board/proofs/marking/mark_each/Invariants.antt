@@ -1,7 +1,7 @@
 -- The bundles so far have their marks.
 use Rattle.std.proofs.Common.{◌≡◌, ◌++◌, length, take, drop}
 use Rattle.map_board.specs.Marks.{marks_after, touches_one}
-use Rattle.map_board.proofs.marking.mark_by_path.Given as goal
+use Rattle.map_board.proofs.marking.mark_each.Given as goal
 
 abbrev pub invariant-loop-place : goal.invariant-loop-place
 invariant-loop-place l = record {
