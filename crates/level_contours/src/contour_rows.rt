@@ -4,13 +4,12 @@ ghost use Rattle.level_contours.specs.Texts.{family_word, head_row, loop_row, po
 
 use cell_loops::{Corner, Family, Loop, Loops};
 use command_lines::ContourSpec;
-use csv_rows::{RowText, RowTexts, fields_text};
+use csv_rows::{RowText, RowTexts, RowWriter};
 use scene_parts::NoMemory;
-use std::alloc::Global;
 
 /// The text of a contour at a version: all of its rows.
 pub fn contour_text(
-    alloc: Global,
+    writer: &mut RowWriter,
     version: u64,
     spec: &ContourSpec,
     inner: &Loops,
@@ -19,8 +18,8 @@ pub fn contour_text(
     ensures { IfOk result (λ text. text.items
         ≡ text_of (contour_rows version spec.now inner.now outer.now)) }
 {
-    let rows = row_texts(alloc, version, spec, inner, outer)?;
-    let mut text = Vec::new(alloc);
+    let rows = row_texts(writer, version, spec, inner, outer)?;
+    let mut text = Vec::new(writer.alloc());
     for row in rows.items() {
         text.extend_from_slice(row.items())?;
     }
@@ -30,7 +29,7 @@ pub fn contour_text(
 /// The rows of a contour at a version: the head, then the inner loops and the outer ones, numbered over both, each with its
 /// points behind it.
 pub fn row_texts(
-    alloc: Global,
+    writer: &mut RowWriter,
     version: u64,
     spec: &ContourSpec,
     inner: &Loops,
@@ -38,13 +37,13 @@ pub fn row_texts(
 ) -> Result<RowTexts, NoMemory>
     ensures { IfOk result (λ texts. texts ≡ contour_rows version spec.now inner.now outer.now) }
 {
-    let mut rows = Vec::new(alloc);
+    let mut rows = Vec::new(writer.alloc());
     let count = inner.items().len();
     let total = count + outer.items().len();
-    rows.push(RowText::from_vec(head_text(alloc, version, total, spec)?))?;
-    push_loops(alloc, version, Family::Inner, 0, inner.items(), &mut rows)?;
+    rows.push(RowText::from_vec(head_text(writer, version, total, spec)?))?;
+    push_loops(writer, version, Family::Inner, 0, inner.items(), &mut rows)?;
     push_loops(
-        alloc,
+        writer,
         version,
         Family::Outer,
         count,
@@ -56,7 +55,7 @@ pub fn row_texts(
 
 /// Adds the loops of a family, numbered from `first` on.
 fn push_loops(
-    alloc: Global,
+    writer: &mut RowWriter,
     version: u64,
     family: Family,
     first: usize,
@@ -68,14 +67,14 @@ fn push_loops(
         ≡ rows.old.items ++ loops_from version family first loops.now) }
 {
     for (place, line) in loops.iter().enumerate() {
-        push_loop(alloc, version, family, first + place, line.items(), rows)?;
+        push_loop(writer, version, family, first + place, line.items(), rows)?;
     }
     Ok(())
 }
 
 /// Adds a loop and its points.
 fn push_loop(
-    alloc: Global,
+    writer: &mut RowWriter,
     version: u64,
     family: Family,
     number: usize,
@@ -85,10 +84,10 @@ fn push_loop(
     ensures { OnOk result (rows.new.items
         ≡ rows.old.items ++ loop_rows version family number points.now) }
 {
-    let text = loop_text(alloc, version, family, number, points.len())?;
+    let text = loop_text(writer, version, family, number, points.len())?;
     rows.push(RowText::from_vec(text))?;
     for (place, corner) in points.iter().enumerate() {
-        let text = point_text(alloc, version, number, place, *corner)?;
+        let text = point_text(writer, version, number, place, *corner)?;
         rows.push(RowText::from_vec(text))?;
     }
     Ok(())
@@ -97,19 +96,19 @@ fn push_loop(
 /// The row at the head of a contour.
 #[tactic(auto, unfolding(crate::specs::Texts::head_row))]
 fn head_text(
-    alloc: Global,
+    writer: &mut RowWriter,
     version: u64,
     loops: usize,
     spec: &ContourSpec,
 ) -> Result<Vec<u8>, NoMemory>
     ensures { IfOk result (λ text. text.items ≡ head_row version loops spec.now) }
 {
+    let alloc = writer.alloc();
     let version = format!(in alloc; "{version}")?;
     let loops = format!(in alloc; "{loops}")?;
     let level = spec.level;
     let level = format!(in alloc; "{level}")?;
-    fields_text(
-        alloc,
+    writer.fields_text(
         b"contour",
         version.as_bytes(),
         loops.as_bytes(),
@@ -123,7 +122,7 @@ fn head_text(
 /// The row of a loop.
 #[tactic(auto, unfolding(crate::specs::Texts::loop_row))]
 fn loop_text(
-    alloc: Global,
+    writer: &mut RowWriter,
     version: u64,
     family: Family,
     number: usize,
@@ -131,11 +130,11 @@ fn loop_text(
 ) -> Result<Vec<u8>, NoMemory>
     ensures { IfOk result (λ text. text.items ≡ loop_row version number family points) }
 {
+    let alloc = writer.alloc();
     let version = format!(in alloc; "{version}")?;
     let number = format!(in alloc; "{number}")?;
     let points = format!(in alloc; "{points}")?;
-    fields_text(
-        alloc,
+    writer.fields_text(
         b"loop",
         version.as_bytes(),
         number.as_bytes(),
@@ -149,7 +148,7 @@ fn loop_text(
 /// The row of a point of a loop.
 #[tactic(auto, unfolding(crate::specs::Texts::point_row))]
 fn point_text(
-    alloc: Global,
+    writer: &mut RowWriter,
     version: u64,
     number: usize,
     place: usize,
@@ -158,13 +157,13 @@ fn point_text(
     ensures { IfOk result (λ text. text.items ≡ point_row version number place corner) }
 {
     let Corner { x, y } = corner;
+    let alloc = writer.alloc();
     let version = format!(in alloc; "{version}")?;
     let number = format!(in alloc; "{number}")?;
     let place = format!(in alloc; "{place}")?;
     let x = format!(in alloc; "{x}")?;
     let y = format!(in alloc; "{y}")?;
-    fields_text(
-        alloc,
+    writer.fields_text(
         b"point",
         version.as_bytes(),
         number.as_bytes(),

@@ -8,12 +8,11 @@ mod lookup;
 mod missing;
 mod names;
 mod reading;
-#[cfg(test)]
-mod tests;
 
 pub use cell_loops::{Cell, Cells, Corner, Family, Loop, Loops, loops};
 pub use comparing::cell;
 pub use contour_rows::{contour_text, row_texts};
+pub use csv_rows::RowWriter;
 pub use missing::first_missing;
 pub use reading::cells;
 pub use scene_parts::NoMemory;

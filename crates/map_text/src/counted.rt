@@ -2,15 +2,14 @@
 ghost use Rattle.std.specs.Prelude.{◌≡◌, IfOk};
 ghost use Rattle.map_text.specs.Rows.{counts_row};
 
-use csv_rows::fields_text;
+use csv_rows::RowWriter;
 use scene_parts::NoMemory;
-use std::alloc::Global;
 
 /// The row of the counts at a settle: the version, how many receivers there are, and how many jobs were taken, answers kept,
 /// answers gone, and jobs given back in the history so far.
 #[tactic(auto, unfolding(crate::specs::Rows::counts_row))]
 pub fn counts_text(
-    alloc: Global,
+    writer: &mut RowWriter,
     version: u64,
     rows: u32,
     taken: u64,
@@ -20,14 +19,14 @@ pub fn counts_text(
 ) -> Result<Vec<u8>, NoMemory>
     ensures { IfOk result (λ text. text.items ≡ counts_row version rows taken kept gone back) }
 {
+    let alloc = writer.alloc();
     let version = format!(in alloc; "{version}")?;
     let rows = format!(in alloc; "{rows}")?;
     let taken = format!(in alloc; "{taken}")?;
     let kept = format!(in alloc; "{kept}")?;
     let gone = format!(in alloc; "{gone}")?;
     let back = format!(in alloc; "{back}")?;
-    fields_text(
-        alloc,
+    writer.fields_text(
         b"counts",
         version.as_bytes(),
         rows.as_bytes(),

@@ -2,9 +2,8 @@
 ghost use Rattle.std.specs.Prelude.{◌≡◌, IfOk};
 ghost use Rattle.map_text.specs.Rows.{head_word, head_row};
 
-use csv_rows::fields_text;
+use csv_rows::RowWriter;
 use scene_parts::NoMemory;
-use std::alloc::Global;
 
 /// What was asked for.
 #[derive(Clone, Copy, Debug, PartialEq, Eq)]
@@ -26,13 +25,18 @@ fn word(head: Head) -> &'static [u8]
 
 /// The row at the head of a settle or a look: the version, and how many receivers there are.
 #[tactic(auto, unfolding(crate::specs::Rows::head_row))]
-pub fn head_text(alloc: Global, kind: Head, version: u64, rows: u32) -> Result<Vec<u8>, NoMemory>
+pub fn head_text(
+    writer: &mut RowWriter,
+    kind: Head,
+    version: u64,
+    rows: u32,
+) -> Result<Vec<u8>, NoMemory>
     ensures { IfOk result (λ text. text.items ≡ head_row kind version rows) }
 {
+    let alloc = writer.alloc();
     let version = format!(in alloc; "{version}")?;
     let rows = format!(in alloc; "{rows}")?;
-    fields_text(
-        alloc,
+    writer.fields_text(
         word(kind),
         version.as_bytes(),
         rows.as_bytes(),

@@ -5,7 +5,7 @@ ghost use Rattle.map_text.specs.Rounding.{IsPrintable, IsPrintableLevel};
 ghost use Rattle.map_text.specs.Rows.{hundredths_text, low_text, high_text, level_row, current_row, stale_row, new_row, band_row, made_row};
 
 use crate::rounding::{high_hundredths, low_hundredths};
-use csv_rows::fields_text;
+use csv_rows::RowWriter;
 use fix_interval::Iv;
 use scene_geom::Band;
 use scene_parts::{Name, NoMemory};
@@ -49,7 +49,7 @@ fn end_of(end: Option<i128>) -> i128
 // A row that shows a level.
 #[tactic(auto, unfolding(crate::specs::Rows::level_row))]
 fn level_text(
-    alloc: Global,
+    writer: &mut RowWriter,
     kind: &[u8],
     version: u64,
     name: &Name,
@@ -61,11 +61,11 @@ fn level_text(
     ensures { IfOk result (λ text. text.items
         ≡ level_row kind.now version name.now state.now by.now level) }
 {
+    let alloc = writer.alloc();
     let version = format!(in alloc; "{version}")?;
     let low = low_text(alloc, end_of(level.low()))?;
     let high = high_text(alloc, end_of(level.high()))?;
-    fields_text(
-        alloc,
+    writer.fields_text(
         kind,
         version.as_bytes(),
         name.items(),
@@ -78,7 +78,7 @@ fn level_text(
 
 /// The row of a receiver that is current, with its A-weighted long-term level, whose ends are from 0 dB to below 2^32 dB.
 pub fn current_text(
-    alloc: Global,
+    writer: &mut RowWriter,
     version: u64,
     name: &Name,
     total: Iv,
@@ -86,13 +86,13 @@ pub fn current_text(
     requires { IsPrintableLevel total }
     ensures { IfOk result (λ text. text.items ≡ current_row version name.now total) }
 {
-    level_text(alloc, b"row", version, name, b"current", b"", total)
+    level_text(writer, b"row", version, name, b"current", b"", total)
 }
 
 /// The row of a receiver that is stale, with its A-weighted long-term level, whose ends are from 0 dB to below 2^32 dB: the
 /// version whose scene gave the level, and the first edit after that which touches the receiver.
 pub(crate) fn stale_text(
-    alloc: Global,
+    writer: &mut RowWriter,
     version: u64,
     name: &Name,
     by: u64,
@@ -101,18 +101,27 @@ pub(crate) fn stale_text(
     requires { IsPrintableLevel total }
     ensures { IfOk result (λ text. text.items ≡ stale_row version name.now by total) }
 {
+    let alloc = writer.alloc();
     let by = format!(in alloc; "{by}")?;
-    level_text(alloc, b"row", version, name, b"stale", by.as_bytes(), total)
+    level_text(
+        writer,
+        b"row",
+        version,
+        name,
+        b"stale",
+        by.as_bytes(),
+        total,
+    )
 }
 
 /// The row of a receiver that has had no level since this edit put it.
 #[tactic(auto, unfolding(crate::specs::Rows::new_row))]
-pub(crate) fn new_text(alloc: Global, since: u64, name: &Name) -> Result<Vec<u8>, NoMemory>
+pub(crate) fn new_text(writer: &mut RowWriter, since: u64, name: &Name) -> Result<Vec<u8>, NoMemory>
     ensures { IfOk result (λ text. text.items ≡ new_row since name.now) }
 {
+    let alloc = writer.alloc();
     let since = format!(in alloc; "{since}")?;
-    fields_text(
-        alloc,
+    writer.fields_text(
         b"row",
         since.as_bytes(),
         name.items(),
@@ -126,7 +135,7 @@ pub(crate) fn new_text(alloc: Global, since: u64, name: &Name) -> Result<Vec<u8>
 /// The row of a band of a receiver, with its level there, which isn't weighted, and whose ends are from 0 dB to below
 /// 2^32 dB.
 pub fn band_text(
-    alloc: Global,
+    writer: &mut RowWriter,
     version: u64,
     name: &Name,
     band: Band,
@@ -136,9 +145,10 @@ pub fn band_text(
     ensures { IfOk result (λ text. text.items ≡ band_row version name.now band level) }
 {
     let frequency = band.frequency();
+    let alloc = writer.alloc();
     let frequency = format!(in alloc; "{frequency}")?;
     level_text(
-        alloc,
+        writer,
         b"band",
         version,
         name,
@@ -153,7 +163,7 @@ pub fn band_text(
 /// 2^-32 dB.
 #[tactic(auto, unfolding(crate::specs::Rows::made_row))]
 pub fn made_text(
-    alloc: Global,
+    writer: &mut RowWriter,
     version: u64,
     rows: u32,
     n: u32,
@@ -165,14 +175,14 @@ pub fn made_text(
     requires high { IsPrintable high }
     ensures { IfOk result (λ text. text.items ≡ made_row version rows n refused low high) }
 {
+    let alloc = writer.alloc();
     let version = format!(in alloc; "{version}")?;
     let rows = format!(in alloc; "{rows}")?;
     let n = format!(in alloc; "{n}")?;
     let refused = format!(in alloc; "{refused}")?;
     let low = low_text(alloc, low)?;
     let high = high_text(alloc, high)?;
-    fields_text(
-        alloc,
+    writer.fields_text(
         b"made",
         version.as_bytes(),
         rows.as_bytes(),

@@ -11,7 +11,7 @@ mod refused;
 mod rounding;
 
 pub use counted::counts_text;
-pub use csv_rows::{RowText, RowTexts};
+pub use csv_rows::{RowText, RowTexts, RowWriter};
 pub use heads::{Head, head_text};
 pub use laws::printed_is_around;
 pub use levels::made_text;

@@ -4,17 +4,16 @@ ghost use Rattle.map_text.specs.Rows.{current_row, stale_row};
 ghost use Rattle.map_text.specs.Looks.{row_of_band, band_rows, receiver_rows};
 
 use crate::levels::{band_text, current_text, new_text, stale_text};
-use csv_rows::{RowText, RowTexts};
+use csv_rows::{RowText, RowTexts, RowWriter};
 use map_board::{LookRow, Shown};
 use path_calc::Levels;
 use scene_geom::Band;
 use scene_parts::{Name, NoMemory};
-use std::alloc::Global;
 
 /// The rows of a receiver in a look at a version: what is shown of it, and behind that, where bands are asked for, the level in
 /// each band, if it has levels.
 pub fn row_text(
-    alloc: Global,
+    writer: &mut RowWriter,
     version: u64,
     row: &LookRow,
     bands: bool,
@@ -24,38 +23,38 @@ pub fn row_text(
     let name = &row.name;
     match &row.shown {
         Shown::Current(levels) => {
-            let first = text_of_current(alloc, version, name, levels)?;
-            with_bands(alloc, first, bands, version, name, levels)
+            let first = text_of_current(writer, version, name, levels)?;
+            with_bands(writer, first, bands, version, name, levels)
         }
         Shown::Stale {
             version: kept,
             by,
             levels,
         } => {
-            let first = text_of_stale(alloc, *kept, name, *by, levels)?;
-            with_bands(alloc, first, bands, *kept, name, levels)
+            let first = text_of_stale(writer, *kept, name, *by, levels)?;
+            with_bands(writer, first, bands, *kept, name, levels)
         }
         Shown::New { since } => {
-            let mut rows = Vec::new(alloc);
-            rows.push(RowText::from_vec(new_text(alloc, *since, name)?))?;
+            let mut rows = Vec::new(writer.alloc());
+            rows.push(RowText::from_vec(new_text(writer, *since, name)?))?;
             Ok(RowTexts::from_vec(rows))
         }
     }
 }
 
 fn text_of_current(
-    alloc: Global,
+    writer: &mut RowWriter,
     version: u64,
     name: &Name,
     levels: &Levels,
 ) -> Result<Vec<u8>, NoMemory>
     ensures { IfOk result (λ text. text.items ≡ current_row version name.now levels.now.total) }
 {
-    current_text(alloc, version, name, levels.total)
+    current_text(writer, version, name, levels.total)
 }
 
 fn text_of_stale(
-    alloc: Global,
+    writer: &mut RowWriter,
     version: u64,
     name: &Name,
     by: u64,
@@ -63,11 +62,11 @@ fn text_of_stale(
 ) -> Result<Vec<u8>, NoMemory>
     ensures { IfOk result (λ text. text.items ≡ stale_row version name.now by levels.now.total) }
 {
-    stale_text(alloc, version, name, by, levels.total)
+    stale_text(writer, version, name, by, levels.total)
 }
 
 fn text_of_band(
-    alloc: Global,
+    writer: &mut RowWriter,
     version: u64,
     name: &Name,
     levels: &Levels,
@@ -76,12 +75,12 @@ fn text_of_band(
     ensures { IfOk result (λ text. text.items ≡ row_of_band version name.now levels.now band) }
 {
     let level = levels.bands[band.place()];
-    band_text(alloc, version, name, band, level)
+    band_text(writer, version, name, band, level)
 }
 
 /// A receiver's row, and behind it those of its bands, where they are asked for.
 fn with_bands(
-    alloc: Global,
+    writer: &mut RowWriter,
     first: Vec<u8>,
     bands: bool,
     version: u64,
@@ -91,18 +90,18 @@ fn with_bands(
     ensures { IfOk result (λ texts. texts
         ≡ first.items ∷ band_rows bands version name.now levels.now) }
 {
-    let mut rows = Vec::new(alloc);
+    let mut rows = Vec::new(writer.alloc());
     rows.push(RowText::from_vec(first))?;
     if bands {
         let all = Band::all();
-        push_bands(alloc, all.as_slice(), version, name, levels, &mut rows)?;
+        push_bands(writer, all.as_slice(), version, name, levels, &mut rows)?;
     }
     Ok(RowTexts::from_vec(rows))
 }
 
 /// Adds the rows of these bands.
 fn push_bands(
-    alloc: Global,
+    writer: &mut RowWriter,
     bands: &[Band],
     version: u64,
     name: &Name,
@@ -113,7 +112,7 @@ fn push_bands(
         ≡ rows.old.items ++ map (row_of_band version name.now levels.now) bands.now) }
 {
     for band in bands {
-        let text = text_of_band(alloc, version, name, levels, *band)?;
+        let text = text_of_band(writer, version, name, levels, *band)?;
         rows.push(RowText::from_vec(text))?;
     }
     Ok(())

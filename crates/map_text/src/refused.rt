@@ -9,15 +9,13 @@ ghost use Rattle.map_text.specs.Rows.{fault_row, said_row, refused_row};
 
 use crate::refusals::Refusal;
 use command_lines::{LineFault, class_text, field_text};
-use csv_rows::fields_text;
+use csv_rows::RowWriter;
 use scene_book::EditFault;
 use scene_parts::{Class, Field, NoMemory, PartFault};
-use std::alloc::Global;
 
-/// A refused line: its number from 1, the version then, and where its row's memory comes from.
+/// A refused line: its number from 1, and the version then.
 #[derive(Clone, Copy)]
 struct RefusedLine {
-    alloc: Global,
     version: u64,
     number: u64,
 }
@@ -25,16 +23,22 @@ struct RefusedLine {
 impl RefusedLine {
     /// The row of a fault, by its name, and two texts that say more of it.
     #[tactic(auto, unfolding(crate::specs::Rows::fault_row))]
-    fn row(self, fault: &[u8], first: &[u8], second: &[u8]) -> Result<Vec<u8>, NoMemory>
+    fn row(
+        self,
+        writer: &mut RowWriter,
+        fault: &[u8],
+        first: &[u8],
+        second: &[u8],
+    ) -> Result<Vec<u8>, NoMemory>
         ensures { IfOk result (λ text. text.items
             ≡ fault_row self.version self.number fault.now first.now second.now) }
     {
+        let alloc = writer.alloc();
         let version = self.version;
         let number = self.number;
-        let version = format!(in self.alloc; "{version}")?;
-        let number = format!(in self.alloc; "{number}")?;
-        fields_text(
-            self.alloc,
+        let version = format!(in alloc; "{version}")?;
+        let number = format!(in alloc; "{number}")?;
+        writer.fields_text(
             b"refused",
             version.as_bytes(),
             number.as_bytes(),
@@ -45,101 +49,136 @@ impl RefusedLine {
         )
     }
 
-    fn about_number(self, fault: &[u8], value: u32) -> Result<Vec<u8>, NoMemory>
+    fn about_number(
+        self,
+        writer: &mut RowWriter,
+        fault: &[u8],
+        value: u32,
+    ) -> Result<Vec<u8>, NoMemory>
         ensures { IfOk result (λ text. text.items
             ≡ said_row self.version self.number (about fault.now (decimal value))) }
     {
-        let value = format!(in self.alloc; "{value}")?;
-        self.row(fault, value.as_bytes(), b"")
+        let alloc = writer.alloc();
+        let value = format!(in alloc; "{value}")?;
+        self.row(writer, fault, value.as_bytes(), b"")
     }
 
-    fn no_such_version(self, version: u64) -> Result<Vec<u8>, NoMemory>
+    fn no_such_version(self, writer: &mut RowWriter, version: u64) -> Result<Vec<u8>, NoMemory>
         ensures { IfOk result (λ text. text.items
             ≡ said_row self.version self.number (refusal_text (refusals.NoSuchVersion version))) }
     {
-        let version = format!(in self.alloc; "{version}")?;
-        self.row(b"NoSuchVersion", version.as_bytes(), b"")
+        let alloc = writer.alloc();
+        let version = format!(in alloc; "{version}")?;
+        self.row(writer, b"NoSuchVersion", version.as_bytes(), b"")
     }
 
-    fn out_of_range(self, field: Field, value: i64) -> Result<Vec<u8>, NoMemory>
+    fn out_of_range(
+        self,
+        writer: &mut RowWriter,
+        field: Field,
+        value: i64,
+    ) -> Result<Vec<u8>, NoMemory>
         ensures { IfOk result (λ text. text.items
             ≡ said_row self.version self.number (part_fault_text (parts.OutOfRange field value))) }
     {
-        let value = format!(in self.alloc; "{value}")?;
+        let alloc = writer.alloc();
+        let value = format!(in alloc; "{value}")?;
         self.row(
+            writer,
             b"OutOfRange",
             field_text(field).as_bytes(),
             value.as_bytes(),
         )
     }
 
-    fn side_too_long(self, side: u32, mm: u32) -> Result<Vec<u8>, NoMemory>
+    fn side_too_long(self, writer: &mut RowWriter, side: u32, mm: u32) -> Result<Vec<u8>, NoMemory>
         ensures { IfOk result (λ text. text.items
             ≡ said_row self.version self.number (part_fault_text (parts.SideTooLong side mm))) }
     {
-        let side = format!(in self.alloc; "{side}")?;
-        let mm = format!(in self.alloc; "{mm}")?;
-        self.row(b"SideTooLong", side.as_bytes(), mm.as_bytes())
+        let alloc = writer.alloc();
+        let side = format!(in alloc; "{side}")?;
+        let mm = format!(in alloc; "{mm}")?;
+        self.row(writer, b"SideTooLong", side.as_bytes(), mm.as_bytes())
     }
 
-    fn full(self, class: Class, limit: u32) -> Result<Vec<u8>, NoMemory>
+    fn full(self, writer: &mut RowWriter, class: Class, limit: u32) -> Result<Vec<u8>, NoMemory>
         ensures { IfOk result (λ text. text.items
             ≡ said_row self.version self.number (edit_fault_text (edits.Full class limit))) }
     {
-        let limit = format!(in self.alloc; "{limit}")?;
-        self.row(b"Full", class_text(class).as_bytes(), limit.as_bytes())
+        let alloc = writer.alloc();
+        let limit = format!(in alloc; "{limit}")?;
+        self.row(
+            writer,
+            b"Full",
+            class_text(class).as_bytes(),
+            limit.as_bytes(),
+        )
     }
 
-    fn part_fault(self, fault: &PartFault) -> Result<Vec<u8>, NoMemory>
+    fn part_fault(self, writer: &mut RowWriter, fault: &PartFault) -> Result<Vec<u8>, NoMemory>
         ensures row { IfOk result (λ text. text.items
             ≡ said_row self.version self.number (part_fault_text fault.now)) }
         ensures want { IsTrue (part_answers.lacks_memory fault.now) → IsErr result }
     {
         match fault {
             PartFault::NoMemory => Err(NoMemory),
-            PartFault::OutOfRange { field, value } => self.out_of_range(*field, *value),
-            PartFault::OutsideMethod { kind } => self.row(b"OutsideMethod", kind.items(), b""),
-            PartFault::UnknownKind { kind } => self.row(b"UnknownKind", kind.items(), b""),
-            PartFault::TooLight { density } => self.about_number(b"TooLight", *density),
-            PartFault::FewCorners { count } => self.about_number(b"FewCorners", *count),
-            PartFault::FlatShape => self.row(b"FlatShape", b"", b""),
-            PartFault::SideTooLong { side, mm } => self.side_too_long(*side, *mm),
-            PartFault::WeakMirror { rho } => self.about_number(b"WeakMirror", (*rho).into()),
+            PartFault::OutOfRange { field, value } => self.out_of_range(writer, *field, *value),
+            PartFault::OutsideMethod { kind } => self.row(
+                writer,
+                b"OutsideMethod",
+                kind.items(),
+                b"",
+            ),
+            PartFault::UnknownKind { kind } => self.row(writer, b"UnknownKind", kind.items(), b""),
+            PartFault::TooLight { density } => self.about_number(writer, b"TooLight", *density),
+            PartFault::FewCorners { count } => self.about_number(writer, b"FewCorners", *count),
+            PartFault::FlatShape => self.row(writer, b"FlatShape", b"", b""),
+            PartFault::SideTooLong { side, mm } => self.side_too_long(writer, *side, *mm),
+            PartFault::WeakMirror { rho } => self.about_number(
+                writer,
+                b"WeakMirror",
+                (*rho).into(),
+            ),
         }
     }
 
-    fn line_fault(self, fault: &LineFault) -> Result<Vec<u8>, NoMemory>
+    fn line_fault(self, writer: &mut RowWriter, fault: &LineFault) -> Result<Vec<u8>, NoMemory>
         ensures row { IfOk result (λ text. text.items
             ≡ said_row self.version self.number (line_fault_text fault.now)) }
         ensures want { IsTrue (lacks_memory (Refusal.Line fault.now)) → IsErr result }
     {
         match fault {
             LineFault::NoMemory => Err(NoMemory),
-            LineFault::NotJson => self.row(b"NotJson", b"", b""),
-            LineFault::NotObject => self.row(b"NotObject", b"", b""),
-            LineFault::UnknownDo { word } => self.row(b"UnknownDo", word.items(), b""),
+            LineFault::NotJson => self.row(writer, b"NotJson", b"", b""),
+            LineFault::NotObject => self.row(writer, b"NotObject", b"", b""),
+            LineFault::UnknownDo { word } => self.row(writer, b"UnknownDo", word.items(), b""),
             LineFault::Missing { field } => {
-                self.row(b"Missing", field_text(*field).as_bytes(), b"")
+                self.row(writer, b"Missing", field_text(*field).as_bytes(), b"")
             }
             LineFault::WrongType { field } => {
-                self.row(b"WrongType", field_text(*field).as_bytes(), b"")
+                self.row(writer, b"WrongType", field_text(*field).as_bytes(), b"")
             }
-            LineFault::Part(fault) => self.part_fault(fault),
+            LineFault::Part(fault) => self.part_fault(writer, fault),
         }
     }
 
-    fn edit_fault(self, fault: &EditFault) -> Result<Vec<u8>, NoMemory>
+    fn edit_fault(self, writer: &mut RowWriter, fault: &EditFault) -> Result<Vec<u8>, NoMemory>
         ensures row { IfOk result (λ text. text.items
             ≡ said_row self.version self.number (edit_fault_text fault.now)) }
         ensures want { IsTrue (lacks_memory (Refusal.Edit fault.now)) → IsErr result }
     {
         match fault {
             EditFault::NoMemory => Err(NoMemory),
-            EditFault::NoSuchName { name } => self.row(b"NoSuchName", name.items(), b""),
+            EditFault::NoSuchName { name } => self.row(writer, b"NoSuchName", name.items(), b""),
             EditFault::OtherClass { name, class } => {
-                self.row(b"OtherClass", name.items(), class_text(*class).as_bytes())
+                self.row(
+                    writer,
+                    b"OtherClass",
+                    name.items(),
+                    class_text(*class).as_bytes(),
+                )
             }
-            EditFault::Full { class, limit } => self.full(*class, *limit),
+            EditFault::Full { class, limit } => self.full(writer, *class, *limit),
         }
     }
 }
@@ -147,7 +186,7 @@ impl RefusedLine {
 /// The row of a refused line, by its number from 1 and the version then. Want of memory is no refusal: a fault that is
 /// one has no row, and is answered as want of memory.
 pub fn refused_text(
-    alloc: Global,
+    writer: &mut RowWriter,
     version: u64,
     line: u64,
     fault: &Refusal,
@@ -156,14 +195,13 @@ pub fn refused_text(
     ensures want { IsTrue (lacks_memory fault.now) → IsErr result }
 {
     let refused = RefusedLine {
-        alloc,
         version,
         number: line,
     };
     match fault {
-        Refusal::LongLine => refused.row(b"LongLine", b"", b""),
-        Refusal::Line(fault) => refused.line_fault(fault),
-        Refusal::Edit(fault) => refused.edit_fault(fault),
-        Refusal::NoSuchVersion { version } => refused.no_such_version(*version),
+        Refusal::LongLine => refused.row(writer, b"LongLine", b"", b""),
+        Refusal::Line(fault) => refused.line_fault(writer, fault),
+        Refusal::Edit(fault) => refused.edit_fault(writer, fault),
+        Refusal::NoSuchVersion { version } => refused.no_such_version(writer, *version),
     }
 }

@@ -17,9 +17,8 @@ use crate::step::{Shared, refuse_long};
 use crate::stopped::Stopped;
 use command_words::CommandLine;
 use map_io::{Gate, LineReader, Next, Sink, Source};
-use map_text::Head;
+use map_text::{Head, RowWriter};
 use scene_parts::NoMemory;
-use std::alloc::Global;
 use std::sync::Wait;
 use std::thread::Threads;
 
@@ -47,7 +46,7 @@ fn status_when(stopped: Stopped) -> Status
 
 /// Writes the rows of a line of this number, before which the version was this. No row of an accepted edit tells it.
 fn show<K: Sink>(
-    alloc: Global,
+    writer: &mut RowWriter,
     words: CommandLine,
     number: u64,
     version: u64,
@@ -60,7 +59,7 @@ fn show<K: Sink>(
     ensures cause { CausedByWriteFault result (K.faults out.old) (K.faults out.new) }
 {
     let mut rows = Rows {
-        alloc,
+        writer,
         out,
         bands: words.bands,
         counts: words.counts,
@@ -104,6 +103,7 @@ fn do_and_show<R: Threads + Wait + Sync, G: Gate, K: Sink>(
     number: u64,
     next: Next,
     line: &[u8],
+    writer: &mut RowWriter,
     out: &mut K,
 ) -> Result<bool, Stopped>
     requires own { editor.old.seat.table ≡ shared.now.lock.now }
@@ -116,7 +116,7 @@ fn do_and_show<R: Threads + Wait + Sync, G: Gate, K: Sink>(
 {
     let version = editor.version;
     let answer = do_next(shared, editor, next, line)?;
-    show(shared.alloc, words, number, version, &answer, out)?;
+    show(writer, words, number, version, &answer, out)?;
     Ok(answer.is_refusal())
 }
 
@@ -140,6 +140,7 @@ pub fn do_lines<R: Threads + Wait + Sync, G: Gate, S: Source, K: Sink>(
     let Ok(mut reader) = LineReader::new(shared.alloc) else {
         return Ending::without_memory(0);
     };
+    let mut writer = RowWriter::new(shared.alloc);
     let mut lines = 0;
     let mut refused = false;
     loop {
@@ -148,7 +149,16 @@ pub fn do_lines<R: Threads + Wait + Sync, G: Gate, S: Source, K: Sink>(
             return Ending { status, lines };
         }
         lines += 1;
-        match do_and_show(shared, words, editor, lines, next, reader.line(), out) {
+        match do_and_show(
+            shared,
+            words,
+            editor,
+            lines,
+            next,
+            reader.line(),
+            &mut writer,
+            out,
+        ) {
             Ok(is_refused) => refused |= is_refused,
             Err(stopped) => {
                 return Ending {

@@ -9,7 +9,7 @@ use crate::answer::Answer;
 use crate::rows::count_of;
 use fix_interval::{Iv, exact, hull};
 use map_board::{LookRow, Shown};
-use map_text::made_text;
+use map_text::{RowWriter, made_text};
 use scene_parts::NoMemory;
 use std::alloc::Global;
 
@@ -63,7 +63,7 @@ impl Making {
         let low = self.span.low().unwrap_or(0);
         let high = self.span.high().unwrap_or(0);
         made_text(
-            alloc,
+            &mut RowWriter::new(alloc),
             version,
             self.receivers,
             number,

@@ -12,9 +12,10 @@ use command_lines::ContourSpec;
 use level_contours::{Family, cells, loops, row_texts};
 use map_board::{LookAll, LookRow};
 use map_io::{Sink, put_all};
-use map_text::{Head, Refusal, RowText, RowTexts, counts_text, head_text, refused_text, row_text};
+use map_text::{
+    Head, Refusal, RowText, RowTexts, RowWriter, counts_text, head_text, refused_text, row_text,
+};
 use scene_parts::NoMemory;
-use std::alloc::Global;
 
 /// How many receivers a look shows.
 pub fn count_of(look: &LookAll) -> u32
@@ -24,10 +25,10 @@ pub fn count_of(look: &LookAll) -> u32
     look.rows.items().len() as u32
 }
 
-/// Where the rows of lines go, and whether those of bands and of counts are asked for.
+/// What makes the rows of lines, where they go, and whether those of bands and of counts are asked for.
 #[derive(Drop)]
 pub struct Rows<'a, K> {
-    pub alloc: Global,
+    pub writer: &'a mut RowWriter,
     pub out: &'a mut K,
     pub bands: bool,
     pub counts: bool,
@@ -52,7 +53,7 @@ impl<'a, K: Sink> Rows<'a, K> {
         ensures cause { CausedByWriteFault result (K.faults self.old.out.now) (K.faults self.new.out.now) }
         ensures same { IsSameSink self.old self.new }
     {
-        let row = refused_text(self.alloc, version, number, fault)?;
+        let row = refused_text(self.writer, version, number, fault)?;
         self.put(row.as_slice())
     }
 
@@ -78,7 +79,7 @@ impl<'a, K: Sink> Rows<'a, K> {
         ensures same { IsSameSink self.old self.new }
     {
         let count = count_of(look);
-        let row = head_text(self.alloc, head, look.version, count)?;
+        let row = head_text(self.writer, head, look.version, count)?;
         self.put(row.as_slice())?;
         self.receivers(look.version, look.rows.items())
     }
@@ -90,7 +91,7 @@ impl<'a, K: Sink> Rows<'a, K> {
         ensures cause { CausedByWriteFault result (K.faults self.old.out.now) (K.faults self.new.out.now) }
         ensures same { IsSameSink self.old self.new }
     {
-        let texts = contour_texts(self.alloc, contour, look)?;
+        let texts = contour_texts(self.writer, contour, look)?;
         self.put_each(texts.items())
     }
 
@@ -113,7 +114,7 @@ impl<'a, K: Sink> Rows<'a, K> {
         ensures cause { CausedByWriteFault result (K.faults self.old.out.now) (K.faults self.new.out.now) }
         ensures same { IsSameSink self.old self.new }
     {
-        let texts = row_text(self.alloc, version, row, self.bands)?;
+        let texts = row_text(self.writer, version, row, self.bands)?;
         self.put_each(texts.items())
     }
 
@@ -154,17 +155,22 @@ impl<'a, K: Sink> Rows<'a, K> {
     {
         let count = count_of(look);
         let [taken, kept, gone, back] = look.counts;
-        let row = counts_text(self.alloc, look.version, count, taken, kept, gone, back)?;
+        let row = counts_text(self.writer, look.version, count, taken, kept, gone, back)?;
         self.put(row.as_slice())
     }
 }
 
 /// The rows of contours.
-fn contour_texts(alloc: Global, contour: &ContourSpec, look: &LookAll) -> Result<RowTexts, NoMemory>
+fn contour_texts(
+    writer: &mut RowWriter,
+    contour: &ContourSpec,
+    look: &LookAll,
+) -> Result<RowTexts, NoMemory>
     ensures { IfOk result (λ texts. texts ≡ contour_rows_in contour.now look.now) }
 {
+    let alloc = writer.alloc();
     let cells = cells(alloc, look, contour)?;
     let inner = loops(alloc, contour.columns, contour.rows, &cells, Family::Inner)?;
     let outer = loops(alloc, contour.columns, contour.rows, &cells, Family::Outer)?;
-    row_texts(alloc, look.version, contour, &inner, &outer)
+    row_texts(writer, look.version, contour, &inner, &outer)
 }

@@ -1,6 +1,7 @@
 //! Contours, as the format shows them.
-use super::{Cell, Cells, Family, cells, contour_text, first_missing, loops};
+use cell_loops::{Cell, Cells, Family, loops};
 use command_lines::ContourSpec;
+use level_contours::{RowWriter, cells, contour_text, first_missing};
 use map_board::{LookAll, LookRow, LookRows, Shown};
 use scene_book::Scene;
 use scene_parts::{Name, NoMemory};
@@ -27,7 +28,8 @@ fn text(alloc: Global) -> Result<Vec<u8>, NoMemory> {
     }
     let inner = loops(alloc, 3, 1, &row, Family::Inner)?;
     let outer = loops(alloc, 3, 1, &row, Family::Outer)?;
-    contour_text(alloc, 2, &spec, &inner, &outer)
+    let mut writer = RowWriter::new(alloc);
+    contour_text(&mut writer, 2, &spec, &inner, &outer)
 }
 
 /// The cells of a look at one receiver that has no level yet.
