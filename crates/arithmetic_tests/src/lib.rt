@@ -1,5 +1,5 @@
-//! Tests of the intervals, their powers, energies and attenuations, from outside: each expected value was calculated by an
-//! independent program.
+//! Tests of the intervals, their powers, logarithms, energies and attenuations, from outside: each expected value was
+//! calculated by an independent program.
 #![tactic(auto)]
 
 #[cfg(test)]
@@ -10,5 +10,7 @@ mod ends;
 mod energies;
 #[cfg(test)]
 mod intervals;
+#[cfg(test)]
+mod logarithms;
 #[cfg(test)]
 mod powers;

@@ -8,8 +8,6 @@ mod contour_words;
 mod contours;
 mod faults;
 mod fields;
-#[cfg(test)]
-mod ground_rows;
 mod limits;
 mod line_sources;
 mod line_words;
@@ -18,12 +16,6 @@ mod part_words;
 mod points;
 mod powers;
 mod reading;
-#[cfg(test)]
-mod request_rows;
-#[cfg(test)]
-mod rows;
-#[cfg(test)]
-mod tests;
 mod texts;
 mod words;
 

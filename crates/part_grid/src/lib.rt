@@ -16,8 +16,6 @@ mod marks;
 mod owned;
 mod register;
 mod span;
-#[cfg(test)]
-mod tests;
 mod walk;
 mod way;
 

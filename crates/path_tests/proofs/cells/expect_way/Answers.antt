@@ -1,6 +1,6 @@
 use Rattle.std.proofs.Common.{arith}
 use Rattle.std.proofs.lemmas.Int.{ints}
-use Rattle.part_grid.proofs.tests.expect_way.Goals as goal
+use Rattle.path_tests.proofs.cells.expect_way.Goals as goal
 
 pub find_near_way-requires-clause-dir : goal.find_near_way-requires-clause-dir
 find_near_way-requires-clause-dir g c = record {

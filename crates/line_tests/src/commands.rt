@@ -1,8 +1,8 @@
 //! Lines are told as an independent program tells them.
-use super::ground_rows::{FOLIAGE, GROUND};
-use super::request_rows::REQUESTS;
-use super::rows::{FORMS, MISSING, RANGES, TYPES, VALUES};
-use super::{Command, LineFault, class_text, command, field_text};
+use crate::ground_rows::{FOLIAGE, GROUND};
+use crate::request_rows::REQUESTS;
+use crate::rows::{FORMS, MISSING, RANGES, TYPES, VALUES};
+use command_lines::{Command, LineFault, class_text, command, field_text};
 use scene_book::Edit;
 use scene_parts::{Class, Field, PartFault, Word};
 use std::alloc::{AllocError, Global};

@@ -1,13 +1,11 @@
-//! What is near, from outside: each expected list was calculated from the definition, by an independent program over
-//! fractions.
-use super::{Found, Grid, Owned, Place, cells_meet};
+//! What is near by the index of sides alone: each expected list was calculated from the definition, by an independent
+//! program over fractions.
+use crate::places::{END, at};
+use part_grid::{Found, Grid, Owned, Place, cells_meet};
 use scene_geom::{Dir, Frac, Pt, Side};
 use std::alloc::{AllocError, Global};
 use std::process::Abort;
 use std::test::Fail;
-
-/// The greatest coordinate.
-const M: i64 = 4_000_000;
 
 /// The greatest component of a direction.
 const GREATEST: i64 = 2_110_000_000_000_000_000;
@@ -92,15 +90,15 @@ const IN_CITY: [Query; 23] = [
         "0.0 1.0 1.1 2.0 2.1 2.2 3.0 0.1",
     ),
     (
-        (M, M),
-        (-M, -M),
+        (END, END),
+        (-END, -END),
         "0.0 1.1 2.0 2.1 2.2 3.0 0.1",
         "0.0 1.0 1.1 2.0 2.1 2.2 3.0 0.1",
     ),
-    ((M, -M), (-M, -M), "", ""),
+    ((END, -END), (-END, -END), "", ""),
     (
-        (-M, 65_536),
-        (M, 65_535),
+        (-END, 65_536),
+        (END, 65_535),
         "0.0 1.0 1.1 2.2 3.0 0.1",
         "0.0 1.0 1.1 2.2 3.0 0.1",
     ),
@@ -112,12 +110,12 @@ const IN_CITY: [Query; 23] = [
 
 /// Sides from end to end of the plan, and in its outermost cells.
 const PLAN: [Row; 8] = [
-    ((0, 0), (-M, -M), (M, M)),
-    ((0, 1), (-M, M), (-3_999_000, M)),
-    ((1, 0), (M, -M), (M, -3_990_000)),
-    ((1, 1), (-131_072, -M), (-131_072, M)),
-    ((4, 7), (M, 1), (3_932_160, 65_535)),
-    ((4, 8), (-M, -1), (-3_932_161, -65_536)),
+    ((0, 0), (-END, -END), (END, END)),
+    ((0, 1), (-END, END), (-3_999_000, END)),
+    ((1, 0), (END, -END), (END, -3_990_000)),
+    ((1, 1), (-131_072, -END), (-131_072, END)),
+    ((4, 7), (END, 1), (3_932_160, 65_535)),
+    ((4, 8), (-END, -1), (-3_932_161, -65_536)),
     ((5, 0), (0, 0), (65_535, 65_535)),
     ((5, 1), (-65_537, 131_071), (-65_536, 131_072)),
 ];
@@ -125,30 +123,35 @@ const PLAN: [Row; 8] = [
 /// What is near in the plan.
 const IN_PLAN: [Query; 19] = [
     (
-        (-M, M),
-        (M, -M),
+        (-END, END),
+        (END, -END),
         "0.0 0.1 1.0 1.1 5.0 5.1",
         "0.0 0.1 1.0 1.1 4.7 4.8 5.0 5.1",
     ),
     (
-        (-M, -M),
-        (M, M),
+        (-END, -END),
+        (END, END),
         "0.0 1.1 5.0",
         "0.0 0.1 1.0 1.1 4.7 4.8 5.0 5.1",
     ),
-    ((M, M), (M, M), "0.0", "0.0"),
-    ((-M, -M), (-M, -M), "0.0", "0.0"),
-    ((-M, M), (-M, M), "0.0 0.1", "0.0 0.1"),
-    ((M, -M), (M, -M), "0.0 1.0", "0.0 1.0"),
-    ((3_932_159, 0), (3_932_159, M), "0.0", "0.0"),
-    ((3_932_160, 0), (3_932_160, M), "0.0 4.7", "0.0 4.7"),
+    ((END, END), (END, END), "0.0", "0.0"),
+    ((-END, -END), (-END, -END), "0.0", "0.0"),
+    ((-END, END), (-END, END), "0.0 0.1", "0.0 0.1"),
+    ((END, -END), (END, -END), "0.0 1.0", "0.0 1.0"),
+    ((3_932_159, 0), (3_932_159, END), "0.0", "0.0"),
+    ((3_932_160, 0), (3_932_160, END), "0.0 4.7", "0.0 4.7"),
     ((-3_932_161, 0), (-3_932_160, -1), "0.0 4.8", "0.0 4.8"),
     ((-131_073, 5), (-131_073, 7), "0.0", "0.0"),
     ((-131_072, 5), (-131_072, 7), "0.0 1.1", "0.0 1.1"),
-    ((-M, 1), (M, 0), "0.0 1.1 4.7 5.0", "0.0 1.1 4.7 5.0"),
-    ((-M, -1), (M, 0), "0.0 1.1 4.7 4.8", "0.0 1.1 4.7 4.8 5.0"),
-    ((-M, 0), (M, -1), "0.0 1.1 4.8", "0.0 1.1 4.7 4.8 5.0"),
-    ((M, -65_537), (-M, -65_537), "0.0 1.1", "0.0 1.1"),
+    ((-END, 1), (END, 0), "0.0 1.1 4.7 5.0", "0.0 1.1 4.7 5.0"),
+    (
+        (-END, -1),
+        (END, 0),
+        "0.0 1.1 4.7 4.8",
+        "0.0 1.1 4.7 4.8 5.0",
+    ),
+    ((-END, 0), (END, -1), "0.0 1.1 4.8", "0.0 1.1 4.7 4.8 5.0"),
+    ((END, -65_537), (-END, -65_537), "0.0 1.1", "0.0 1.1"),
     (
         (-65_537, 131_070),
         (0, 65_536),
@@ -223,10 +226,6 @@ const WAYS: [Way; 16] = [
     ((5_000, 5_000), (0, 0, 1), (1, 2), "0.0 3.0 0.1"),
 ];
 
-fn at((x, y): At) -> Pt {
-    Pt::new(x.clamp(-M, M), y.clamp(-M, M))
-}
-
 fn side(from: At, to: At) -> Side {
     Side {
         from: at(from),
@@ -256,6 +255,15 @@ fn corners(a: At, b: At) -> (Pt, Pt) {
     )
 }
 
+/// The places of what a query found.
+fn places(alloc: Global, found: &Found) -> Result<Vec<Place>, AllocError> {
+    let mut places = Vec::new(alloc);
+    for owned in found.sides() {
+        places.push(owned.place())?;
+    }
+    Ok(places)
+}
+
 /// Places as the tables show them.
 fn listed(alloc: Global, places: &[Place]) -> Result<String, AllocError> {
     let mut text = String::new(alloc);
@@ -278,9 +286,9 @@ fn told(
 ) -> Result<(String, String), AllocError> {
     let (low, high) = corners(a, b);
     grid.find_near(at(a), at(b), found)?;
-    let near = listed(alloc, found.places(alloc)?.as_slice())?;
+    let near = listed(alloc, places(alloc, found)?.as_slice())?;
     grid.find_near_box(low, high, found)?;
-    let boxed = listed(alloc, found.places(alloc)?.as_slice())?;
+    let boxed = listed(alloc, places(alloc, found)?.as_slice())?;
     Ok((near, boxed))
 }
 
@@ -333,7 +341,7 @@ fn the_plan_has_these_near(rt: HostRuntime) -> Result<(), Fail> {
 #[test]
 fn nothing_is_near_without_sides(rt: HostRuntime) -> Result<(), Fail> {
     let grid = Grid::build(rt.alloc(), &[])?;
-    let near = grid.near(rt.alloc(), at((-M, -M)), at((M, M)))?;
+    let near = grid.near(rt.alloc(), at((-END, -END)), at((END, END)))?;
     assert_eq!(rt; near.len(), 0);
     Ok(())
 }
@@ -371,7 +379,7 @@ fn expect_way(
         d: d.clamp(1, 5_940_000_000_000).into(),
     };
     grid.find_near_way(at(from), dir, end, found)?;
-    let near = listed(alloc, found.places(alloc)?.as_slice())?;
+    let near = listed(alloc, places(alloc, found)?.as_slice())?;
     assert!(rt; near.as_str() == expected);
     Ok(())
 }
