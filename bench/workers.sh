@@ -1,8 +1,9 @@
 #!/bin/sh
 # Prints what workers bring by the proved program: the time of `--make 7`, and of a site with 16 sources, 1,024 receivers and
-# 500 buildings, with 0 to 15 workers on as many processors as there are, and beside as many busy loops; the time of an edit and of a look at that site
-# while 4 workers calculate it; and what 0 to 16 workers cost: processor time without a job, and beside a slow editor; the time
-# of 20,000 edits, and of a look behind an edit.
+# 500 buildings, with 0 to 15 workers on as many processors as there are, and beside as many busy loops; the time of an edit and
+# of a look at that site while 4 workers calculate it; that of one edit beside some 4,000 receivers while a job is out; and what
+# 0 to 16 workers cost: processor time without a job, and beside a slow editor; the time of 20,000 edits, and of a look behind
+# an edit.
 set -e
 . "$(dirname "$0")/timing.sh"
 . "$(dirname "$0")/site.sh"
@@ -69,6 +70,49 @@ print("look ms  edit ms  receivers current meanwhile")
 print(f"{sorted(plain)[5]:7.2f}  {sorted(edited)[5]:7.2f}  {current[0]} to {current[-1]}")
 run.stdin.close()
 run.wait()
+PYTHON
+
+# One edit of a map while the one worker calculates its rows, so that a job has the scene: a barrier beside 4,096 receivers, and
+# a receiver beside 4,032; the median of 100, each some milliseconds behind the last, and the same without workers. Then that of
+# the first edits of 25 maps, where next to no row is calculated yet. The row of a line that is refused tells when an edit was
+# done; what such a line costs alone is taken off.
+python3 - "$root/crates/noise_map/out/noise_map" <<'PYTHON'
+import subprocess, sys, time
+program = sys.argv[1]
+refused = '{"do":"remove","name":"nobody"}\n'
+barrier = '{"do":"barrier","name":"w","points":[[900000,900000],[900000,910000]],"h":4000,"density":20}\n'
+receiver = '{"do":"receiver","name":"extra","x":900000,"y":900000,"h":4000}\n'
+
+def scene(rows):
+    sources = "".join('{"do":"source","name":"s%d","kind":"industry","x":%d,"y":%d,"h":2000,"lw":[9000,9500,9800,10000,10000,9700,9200,8500]}\n' % (i, i * 7919 % 200000, i * 104729 % 200000) for i in range(128))
+    return sources + '{"do":"grid","name":"r","x":-320000,"y":-320000,"step":10000,"columns":64,"rows":%d,"h":4000}\n' % rows
+
+def each(rows, workers, edit, count):
+    """Microseconds of each of so many edits behind this scene."""
+    run = subprocess.Popen([program, "--workers", str(workers)], stdin=subprocess.PIPE, stdout=subprocess.PIPE, text=True, bufsize=1 << 20)
+    def spent(lines):
+        time.sleep(0.003)
+        begin = time.monotonic()
+        run.stdin.write(lines + refused)
+        run.stdin.flush()
+        run.stdout.readline()
+        return (time.monotonic() - begin) * 1e6
+    spent(scene(rows) + edit)
+    times = [-spent("") + spent(edit) for _ in range(count)]
+    run.kill()
+    run.wait()
+    return times
+
+def median(times):
+    return sorted(times)[len(times) // 2]
+
+print("workers  us of a barrier beside 4,096 receivers  of the first  of a receiver beside 4,032  of the first")
+for workers in (0, 1):
+    row = []
+    for rows, edit in ((64, barrier), (63, receiver)):
+        row.append(median(each(rows, workers, edit, 100)))
+        row.append(median([each(rows, workers, edit, 1)[0] for _ in range(25)]))
+    print("{:7}  {:38.0f}  {:12.0f}  {:27.0f}  {:12.0f}".format(workers, *row), flush=True)
 PYTHON
 
 # What workers cost where there is nothing to do for them, or little.

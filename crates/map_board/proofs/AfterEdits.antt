@@ -1,6 +1,6 @@
 -- Rows after an edit: made anew, or gone over to the scene after it.
 use Rattle.std.proofs.Common.{◌≡◌, ℕ, suc, ◌≤◌, Bool, true, cond, List, [], length, Some, None, refl, sym, ap, ◌∙◌, subst, arith}
-use Rattle.std.specs.Prelude.{Option, IsSomeAnd, is_some}
+use Rattle.std.specs.Prelude.{Option, IsSomeAnd, is_some, not}
 use Rattle.std.specs.Option.{option_map, option_or}
 use Rattle.scene_parts.specs.Views.{Source, Receiver}
 use Rattle.scene_book.specs.declared.edits.Edit.{Edit}
@@ -19,8 +19,8 @@ use Rattle.map_board.specs.Held.{AreWithin}
 use Rattle.map_board.specs.Facts.{RowIsRight}
 use Rattle.map_board.specs.Machine.{new_row}
 use Rattle.map_board.specs.Marks.{marks_after}
-use Rattle.map_board.specs.Boards.{kept_of, row_of, CacheIsRight, CacheIsThere, ByIsRight, RowHolds}
-use Rattle.map_board.specs.Changes.{scene_before, scene_after, journal_after, IsChange, IsFresh}
+use Rattle.map_board.specs.Boards.{kept_of, row_of, CacheIsRight, CacheIsThere, ByIsRight, RowHolds, IsEmpty}
+use Rattle.map_board.specs.Changes.{scene_before, scene_after, journal_after, IsChange, IsFresh, IsRowAfter, NamesNone}
 use Rattle.map_board.proofs.Journals.{newest-more, first-more}
 use Rattle.map_board.proofs.RowsRight.{new-right, more-right}
 use Rattle.map_board.proofs.Caching.{right-more}
@@ -59,21 +59,36 @@ module _ (change : Change) (is : IsChange change) where
   fresh-row r held fresh = λ i. record {
     receiver = r;
     since = (fresh.since ∙ is.version) i;
-    kept = option_map kept_of (fresh.kept i);
-    out = fresh.out i;
+    kept = option_map kept_of (fresh.empty.kept i);
+    out = fresh.empty.out i;
   }
 
-  pub fresh-holds : (r : Receiver) (held : HeldRow) → IsFresh change.version held → RowHolds (journal_after change) r held
-  fresh-holds r held fresh = record {
-    right = subst (RowIsRight (journal_after change)) (sym (fresh-row r held fresh)) (new-right past edit r);
-    by = subst (ByIsRight (journal_after change) r) (sym fresh.kept) tt;
-    bundles = subst (λ (x : Option KeptLevels × Option ℕ). CacheIsThere (journal_after change) r (option_map kept_of x.0) x.1 held.cache) (λ i. (sym fresh.kept i, sym fresh.out i))
-        (there held.cache fresh.empty);
-    stale = λ version kept out. absurd (cc (out, fresh.out));
+  -- an empty row holds, where it was put early enough
+  empty-right : (r : Receiver) (held : HeldRow) → IsEmpty held → RowIsRight (journal_after change) (row_of r held) → RowHolds (journal_after change) r held
+  empty-right r held empty right = record {
+    right = right;
+    by = subst (ByIsRight (journal_after change) r) (sym empty.kept) tt;
+    bundles = subst (λ (x : Option KeptLevels × Option ℕ). CacheIsThere (journal_after change) r (option_map kept_of x.0) x.1 held.cache) (λ i. (sym empty.kept i, sym empty.out i))
+        (there held.cache empty.bundles);
+    stale = λ version kept out. absurd (cc (out, empty.out));
   } where
     there : (cache : Option Cache) → IsSomeAnd cache (λ c. (c.bundles.items ≡ []) × (c.marks.items ≡ [])) → IsSomeAnd cache (CacheIsRight (journal_after change) r None)
     there None empty = empty
     there (Some cache) empty = no-bundles r cache empty.0 empty.1
+
+  pub fresh-holds : (r : Receiver) (held : HeldRow) → IsFresh change.version held → RowHolds (journal_after change) r held
+  fresh-holds r held fresh = empty-right r held fresh.empty (subst (RowIsRight (journal_after change)) (sym (fresh-row r held fresh)) (new-right past edit r))
+
+  -- ---- an empty row that the edit doesn't name
+
+  pub empty-after : (r : Receiver) (held : HeldRow) → NamesNone edit change.logged.old → RowHolds past r held → IsEmpty held
+      → IsRowAfter change r (Some held) held
+  empty-after r held none holds empty = record {
+    anew = λ named. absurd (cc (named, ap not (none r.name)));
+    same = λ unnamed. refl;
+    holds = λ unnamed. empty-right r held empty (more-right past edit (row_of r held) holds.right);
+    empty = λ was. empty;
+  }
 
   -- ---- kept levels
 

@@ -1,12 +1,11 @@
 -- What holds of a board after any calls whose conditions hold, and who finishes it.
-use Rattle.std.proofs.Common.{◌≡◌, ℕ, Bool, true, false, cond, eqb, List, [], ◌∷◌, ◌++◌, length, map, refl, sym, ap, ◌∙◌, subst, arith}
+use Rattle.std.proofs.Common.{◌≡◌, ℕ, Bool, true, false, cond, eqb, [], ◌∷◌, ◌++◌, map, refl, sym, ap, ◌∙◌, subst, arith}
 use Rattle.std.specs.Prelude.{Ok, Err, ◌||◌}
 use Rattle.std.specs.List.{list_any}
 use Rattle.std.proofs.lemmas.Bool.{eq-eqb}
-use Rattle.scene_parts.specs.Views.{Receiver}
 use Rattle.touch_test.specs.Laws.{UntouchedReceiversStayInTurn}
 use Rattle.turn_lock.specs.declared.entry.Entry.{Entry}
-use Rattle.turn_lock.specs.History.{IsRun, EachAllowed, Leads, entries_of}
+use Rattle.turn_lock.specs.History.{EachAllowed, Leads, entries_of}
 use Rattle.map_board.specs.declared.answers.Landed.TheVariants as landed
 use Rattle.map_board.specs.declared.calls.Took.TheVariants as took
 use Rattle.map_board.specs.declared.calls.BoardCall.{BoardCall}

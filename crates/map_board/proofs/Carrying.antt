@@ -13,7 +13,7 @@ use Rattle.map_board.specs.Journal.{names}
 use Rattle.map_board.specs.Rows.{Row, row_named}
 use Rattle.map_board.specs.Machine.{new_row, row_after}
 use Rattle.map_board.specs.Boards.{row_of, rows_of, RowHolds, EachHolds}
-use Rattle.map_board.specs.Changes.{scene_before, scene_after, journal_after, is_unnamed, removed_place, without_place, placed, IsChange, HasRow, IsRowAfter}
+use Rattle.map_board.specs.Changes.{scene_before, scene_after, journal_after, is_unnamed, removed_place, without_place, placed, IsChange, HasRow, IsRowAfter, AreRenewed}
 use Rattle.map_board.proofs.Places.{row-at, each-lengths}
 use Rattle.map_board.proofs.AfterEdits.{names-as, fresh-row, fresh-holds}
 use Rattle.map_board.proofs.Staying.{receivers_after, accepted-receivers, Stays, stays, gone-within, rows-left}
@@ -136,15 +136,8 @@ tested change r name result answer same is answered =
 -- ---- so far
 
 module _ (change : Change) (news : List Receiver) (before : List HeldRow) where
-  -- the rows before a place are renewed
-  pub record Renewed (place : ℕ) (rows : List HeldRow) : Type 0 where
-    pub upto : place ≤ length rows
-    pub few : length rows ≤ length news
-    pub done : (k : ℕ) (r : Receiver) → k < place → slice_get news k ≡ Some r → IsSomeAnd (slice_get rows k) (IsRowAfter change r (slice_get before k))
-    pub rest : (k : ℕ) → place ≤ k → slice_get rows k ≡ slice_get before k
-
-  pub one-more : (place : ℕ) (rows : List HeldRow) (r : Receiver) (made : HeldRow) → Renewed place rows → place < length news → slice_get news place ≡ Some r
-      → IsRowAfter change r (slice_get rows place) made → Renewed (place + 1) (placed place made rows)
+  pub one-more : (place : ℕ) (rows : List HeldRow) (r : Receiver) (made : HeldRow) → AreRenewed change news before place rows → place < length news → slice_get news place ≡ Some r
+      → IsRowAfter change r (slice_get rows place) made → AreRenewed change news before (place + 1) (placed place made rows)
   one-more place rows r made c below at is = record {
     upto = omega (arith, placed-within place made rows c.upto);
     few = placed-few place (length news) made rows c.few below c.upto;

@@ -1,6 +1,6 @@
 -- The first edit that passes a test is the least that does.
-use Rattle.std.proofs.Common.{◌≡◌, ℕ, zero, suc, ◌+◌, ◌-◌, ◌≤◌, ◌<◌, Bool, true, false, cond, List, [], ◌∷◌, take, drop, refl, sym, ap, subst, ◌∙◌, arith}
-use Rattle.std.specs.Prelude.{Option, Some, None, slice_get}
+use Rattle.std.proofs.Common.{◌≡◌, ℕ, zero, suc, ◌+◌, ◌-◌, ◌≤◌, ◌<◌, Bool, true, false, cond, List, [], ◌∷◌, take, drop, refl, sym, subst, arith}
+use Rattle.std.specs.Prelude.{Some, None, slice_get}
 use Rattle.scene_book.specs.Book.{Book, empty_book}
 use Rattle.scene_book.specs.declared.edits.Edit.{Edit}
 use Rattle.map_board.specs.Journal.{book_after, book_after_all, scene_at, first_from, first_after}

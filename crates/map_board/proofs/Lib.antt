@@ -21,6 +21,7 @@ pub mod Noting
 pub mod Landings
 pub mod AfterEdits
 pub mod Carrying
+pub mod Emptiness
 pub mod BoardAfter
 pub mod Receivers
 pub mod Staying

@@ -1,6 +1,6 @@
 -- An edit that puts one receiver and changes nothing else: no other row changes.
 use Rattle.std.proofs.Common.{◌≡◌, ℕ, zero, suc, ◌+◌, ◌<◌, ◌≤◌, Bool, true, false, cond, List, [], ◌∷◌, length, Some, None, refl, sym, ap, ◌∙◌, subst, arith, ◌⊎◌, inl, inr}
-use Rattle.std.specs.Prelude.{bytes_eq, slice_get, nat_lt, not, Option, IsSomeAnd, ◌||◌}
+use Rattle.std.specs.Prelude.{bytes_eq, slice_get, nat_lt, not, Option, IfSome, IsSomeAnd, ◌||◌}
 use Rattle.std.specs.List.{position_or_len}
 use Rattle.std.specs.Option.{option_map}
 use Rattle.std.proofs.lemmas.Bool.{ltb-true, cases_lt}
@@ -15,7 +15,7 @@ use Rattle.touch_test.specs.Touches.{names_receiver, old_part}
 use Rattle.touch_test.proofs.Edits.{answers-old}
 use Rattle.map_board.specs.declared.rows.HeldRow.{HeldRow}
 use Rattle.map_board.specs.declared.renewing.Change.{Change}
-use Rattle.map_board.specs.Boards.{row_of, RowHolds, EachHolds}
+use Rattle.map_board.specs.Boards.{row_of, RowHolds, EachHolds, IsEmpty}
 use Rattle.map_board.specs.Changes.{scene_before, scene_after, is_unnamed, changes_receivers_alone, gone_from, named_place, without_place, put_place, placed, IsChange, IsFresh, IsRowAfter}
 use Rattle.map_board.proofs.Naming.{named-is, same-name, turned}
 use Rattle.map_board.proofs.Places.{none-here}
@@ -196,6 +196,7 @@ module _ (change : Change) (is : IsChange change) (rows : List HeldRow) (apart :
             anew = λ n. anew;
             same = λ u. absurd (cc (u, named_is));
             holds = λ u. absurd (cc (u, named_is));
+            empty = λ was. anew.empty;
           })
       by_name true unnamed = by_place (cases_lt k p) where
         beside : (p < k) ⊎ (k < p) → IsSomeAnd (slice_get made k) (IsRowAfter change r (slice_get (left change is rows apart each) k))
@@ -206,6 +207,7 @@ module _ (change : Change) (is : IsChange change) (rows : List HeldRow) (apart :
               anew = λ n. absurd (cc (n, unnamed));
               same = λ u. subst (λ o. IsSomeAnd o (λ (old : HeldRow). row_of r row.item ≡ row_of r old)) (sym row.there) refl;
               holds = λ u. stays-right change is r unnamed one-put.alone row.item row.holds;
+              empty = λ was. subst (λ o. IfSome o IsEmpty) row.there was;
             })
 
         by_place : (k < p) ⊎ (p ≤ k) → IsSomeAnd (slice_get made k) (IsRowAfter change r (slice_get (left change is rows apart each) k))

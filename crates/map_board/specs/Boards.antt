@@ -145,6 +145,16 @@ IsNeedyAt helds place = IsSomeAnd (slice_get helds place) (λ held. is_held_need
 abbrev pub NoneNeedyBefore : ℕ → List HeldRow → Type 0
 NoneNeedyBefore place helds = list_any is_held_needy (take place helds) ≡ false
 
+-- a row is empty: nothing is kept or out
+pub record IsEmpty (held : HeldRow) : Type 0 where
+  pub kept : held.kept ≡ None
+  pub out : held.out ≡ None
+  pub bundles : IsSomeAnd held.cache (λ cache. (cache.bundles.items ≡ []) × (cache.marks.items ≡ []))
+
+-- so is each row from a place on
+abbrev pub EmptyFrom : ℕ → List HeldRow → Type 0
+EmptyFrom place helds = (k : ℕ) (held : HeldRow) → place ≤ k → slice_get helds k ≡ Some held → IsEmpty held
+
 -- a held row with a job of a version out, which has its bundles
 abbrev pub row_out : ℕ → HeldRow → HeldRow
 row_out version held = record held { out = Some version; cache = None }

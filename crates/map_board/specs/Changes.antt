@@ -1,5 +1,5 @@
 -- How rows go over from the scene before an edit to the scene after it.
-use Rattle.std.specs.Prelude.{◌≡◌, ℕ, zero, suc, ◌-◌, ◌*◌, min, Bool, true, false, not, ◌&&◌, List, [], ◌∷◌, ◌++◌, length, IsSomeAnd, Option, Some, None, Ok}
+use Rattle.std.specs.Prelude.{◌≡◌, ℕ, zero, suc, ◌-◌, ◌*◌, min, Bool, true, false, not, ◌&&◌, ◌||◌, ◌<◌, ◌≤◌, List, [], ◌∷◌, ◌++◌, length, slice_get, IfSome, IsSomeAnd, Option, Some, None, Ok}
 use Rattle.std.specs.List.{remove}
 use Rattle.scene_parts.specs.Views.{Receiver, Grid}
 use Rattle.scene_parts.specs.declared.parts.Part.{Part}
@@ -14,7 +14,7 @@ use Rattle.touch_test.specs.Touches.{names_receiver}
 use Rattle.map_board.specs.declared.rows.HeldRow.{HeldRow}
 use Rattle.map_board.specs.declared.renewing.Change.{Change}
 use Rattle.map_board.specs.Journal.{book_after, newest_scene}
-use Rattle.map_board.specs.Boards.{row_of, RowHolds}
+use Rattle.map_board.specs.Boards.{row_of, RowHolds, IsEmpty}
 use Rattle.map_board.specs.Marks.{touches_one}
 use Rattle.path_calc.specs.Show.{bundles_of}
 
@@ -47,19 +47,48 @@ pub record IsChange (change : Change) : Type 0 where
 -- a row made anew at a version: nothing is kept or out
 pub record IsFresh (version : ℕ) (held : HeldRow) : Type 0 where
   pub since : held.since ≡ version
-  pub kept : held.kept ≡ None
-  pub out : held.out ≡ None
-  pub empty : IsSomeAnd held.cache (λ cache. (cache.bundles.items ≡ []) × (cache.marks.items ≡ []))
+  pub empty : IsEmpty held
 
 -- a receiver that the edit doesn't name has a row, which is right for the scene before it
 abbrev pub HasRow : Change → Receiver → Option HeldRow → Type 0
 HasRow change r before = is_unnamed change r ≡ true → IsSomeAnd before (RowHolds change.past.value r)
 
--- the row of a receiver after the edit: anew where the edit names it, else as it was, and right for the scene after it
+-- the row of a receiver after the edit: anew where the edit names it, else as it was, and right for the scene after it.
+-- Where it was empty, or wasn't there, it is empty
 pub record IsRowAfter (change : Change) (r : Receiver) (before : Option HeldRow) (held : HeldRow) : Type 0 where
   pub anew : is_unnamed change r ≡ false → IsFresh change.version held
   pub same : is_unnamed change r ≡ true → IsSomeAnd before (λ old. row_of r held ≡ row_of r old)
   pub holds : is_unnamed change r ≡ true → RowHolds (journal_after change) r held
+  pub empty : IfSome before IsEmpty → IsEmpty held
+
+-- a part is a receiver
+abbrev pub is_receiver_part : Part → Bool
+is_receiver_part (parts.Receiver r) = true
+is_receiver_part part = false
+
+-- there is an old part, and it is a receiver
+abbrev pub was_receiver_part : Option Part → Bool
+was_receiver_part None = false
+was_receiver_part (Some part) = is_receiver_part part
+
+-- an edit with its old part may name a receiver: it puts receivers, or the old part is one
+abbrev pub may_name_any : Edit → Option Part → Bool
+may_name_any (edits.Put part) old = is_receiver_part part || was_receiver_part old
+may_name_any (edits.Grid grid) old = true
+may_name_any edit old = was_receiver_part old
+
+-- an edit with its old part names no receiver
+abbrev pub NamesNone : Edit → Option Part → Type 0
+NamesNone edit old = (name : List ℕ) → names_receiver name edit old ≡ false
+
+-- the rows before a place are renewed, and the others are as they were; there are no more than receivers
+pub record AreRenewed (change : Change) (news : List Receiver) (before : List HeldRow) (place : ℕ) (rows : List HeldRow)
+    : Type 0 where
+  pub upto : place ≤ length rows
+  pub few : length rows ≤ length news
+  pub done : (k : ℕ) (r : Receiver) → k < place → slice_get news k ≡ Some r
+      → IsSomeAnd (slice_get rows k) (IsRowAfter change r (slice_get before k))
+  pub rest : (k : ℕ) → place ≤ k → slice_get rows k ≡ slice_get before k
 
 -- a list with a thing at a place, in the place of another or behind the last
 abbrev pub placed : {A : Type 0} → ℕ → A → List A → List A
@@ -75,15 +104,12 @@ most_more (edits.Put (parts.Receiver r)) count = 1
 most_more (edits.Grid grid) count = min (grid.columns * grid.rows) (most_receivers - count)
 most_more edit count = 0
 
--- an edit with its old part changes receivers alone
-abbrev pub is_receiver_part : Part → Bool
-is_receiver_part (parts.Receiver r) = true
-is_receiver_part part = false
-
+-- a part is a receiver, if there is one
 abbrev pub is_receiver_if_any : Option Part → Bool
 is_receiver_if_any None = true
 is_receiver_if_any (Some part) = is_receiver_part part
 
+-- an edit with its old part changes receivers alone
 abbrev pub changes_receivers_alone : Edit → Option Part → Bool
 changes_receivers_alone (edits.Put part) old = is_receiver_part part && is_receiver_if_any old
 changes_receivers_alone (edits.Set setting) old = false

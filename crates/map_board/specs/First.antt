@@ -1,5 +1,5 @@
 -- The first edit after a version that passes a test is the one of the least number.
-use Rattle.std.specs.Prelude.{◌≡◌, ℕ, suc, ◌≤◌, ◌<◌, Bool, true, false, List, Some, None, slice_get}
+use Rattle.std.specs.Prelude.{◌≡◌, ℕ, suc, ◌≤◌, ◌<◌, Bool, true, List, Some, None, slice_get}
 use Rattle.scene_book.specs.Book.{Book}
 use Rattle.scene_book.specs.declared.edits.Edit.{Edit}
 use Rattle.map_board.specs.Journal.{scene_at, first_after}

@@ -1,19 +1,24 @@
 //! Edits of a board.
-ghost use Rattle.std.specs.Prelude.{◌≡◌, ◌<◌, ◌^◌, suc, length};
+ghost use Rattle.std.specs.Prelude.{◌≡◌, ◌<◌, ◌≤◌, ◌+◌, ◌^◌, suc, length, Ok, Err, IfOk, IfErr, OnOk, OnErr, vec_len, vec_capacity};
+ghost use Rattle.scene_parts.specs.Answers.{Unless};
+ghost use Rattle.scene_book.specs.Applying.{apply_of, lacks_memory};
 ghost use Rattle.map_board.specs.Machine.{EditsTo};
-ghost use Rattle.map_board.specs.Changes.{grid_put};
+ghost use Rattle.map_board.specs.Changes.{grid_put, most_more, named_place};
 
-use crate::namings::{grid_of, named_receivers, note, room_for_naming};
+use crate::held_rows::HeldRows;
+use crate::log::Log;
+use crate::namings::{Naming, grid_of, named_receivers, note, room_for_naming};
 use crate::past::Past;
-use crate::renewing::{Change, least_out, place_removed, place_to_go, rows_more};
-use crate::scenes::edit_scene;
+use crate::renewing::{Change, place_removed, place_to_go, rows_more};
+use crate::scenes::{PreparedScene, edit_scene};
 use crate::state::Board;
 use crate::testing::{InOneThread, InThreads, PathTest};
 use scene_book::{Edit, EditFault, Logged};
-use scene_parts::GridSpec;
+use scene_parts::{Globals, GridSpec, NoMemory, Part};
 use std::alloc::Global;
 use std::mem;
 use std::snapshot::Snapshot;
+use std::sync::Arc;
 use std::thread::Threads;
 
 impl Board {
@@ -23,7 +28,7 @@ impl Board {
     pub fn edit(&mut self, alloc: Global, edit: Edit) -> Result<u64, EditFault>
         ensures { EditsTo self.old edit result self.new }
     {
-        self.edit_by(alloc, edit, &InOneThread)
+        self.carry_out(alloc, edit, &InOneThread)
     }
 
     /// Applies an edit as `edit` does. Where many bundles are kept, and at least half of them in rows that it may touch, threads
@@ -37,11 +42,12 @@ impl Board {
     ) -> Result<u64, EditFault>
         ensures { EditsTo self.old edit result self.new }
     {
-        self.edit_by(alloc, edit, &InThreads { rt })
+        self.carry_out(alloc, edit, &InThreads { rt })
     }
 
-    /// Applies an edit, and finds by this test what it touches.
-    fn edit_by<T: PathTest>(
+    /// Applies an edit, and finds by this test what it touches. Once the scene has it nothing can fail: a test that finds no
+    /// memory leaves its work to the marks.
+    fn carry_out<T: PathTest>(
         &mut self,
         alloc: Global,
         edit: Edit,
@@ -50,34 +56,21 @@ impl Board {
         requires { T.ready test.now }
         ensures { EditsTo self.old edit result self.new }
     {
-        if self.version == u64::MAX {
-            return Err(EditFault::NoMemory);
-        }
-        let grid = grid_of(&edit)?;
-        self.carry_out(alloc, edit, grid, test)
-    }
-
-    /// Carries out an edit. All memory that it needs is taken before the scene changes, and nothing that comes after can
-    /// fail: a test that finds no memory leaves its work to the marks.
-    fn carry_out<T: PathTest>(
-        &mut self,
-        alloc: Global,
-        edit: Edit,
-        grid: Option<GridSpec>,
-        test: &T,
-    ) -> Result<u64, EditFault>
-        requires ready { T.ready test.now }
-        requires fits { suc (length self.old.journal) < 2 ^ 64 }
-        requires grid { grid ≡ grid_put edit }
-        ensures { EditsTo self.old edit result self.new }
-    {
-        self.log.reserve()?;
-        room_for_naming(&mut self.namings)?;
-        self.rows
-            .reserve(rows_more(&edit, self.rows.as_slice().len()))?;
-        let place = place_to_go(&edit, &self.hold.scene);
-        let globals = *self.hold.scene.globals();
-        let old = edit_scene(&mut self.hold, alloc, &edit)?;
+        let applied = apply_with_room(
+            alloc,
+            self.version,
+            &mut self.log,
+            &mut self.namings,
+            &mut self.rows,
+            &mut self.hold,
+            &edit,
+        )?;
+        let Applied {
+            old,
+            grid,
+            place,
+            globals,
+        } = applied;
         self.version += 1;
         let change = Change {
             logged: Logged { edit, old },
@@ -98,8 +91,92 @@ impl Board {
         let (past, edit) = mem::replace(&mut self.past, Past::none()).and(edit);
         self.past = past;
         self.log.add(Logged { edit, old }, globals);
-        self.log.trim(least_out(self.rows.as_slice(), version));
+        self.log.trim(self.rows.least_out(version));
         note(&mut self.namings, version, named);
         Ok(version)
     }
+}
+
+/// What an edit did to a scene, and what was asked of it before: the part that it replaced or took out, the grid that it puts,
+/// the place of the receiver whose name it removes, and what held of the whole scene.
+struct Applied {
+    old: Option<Part>,
+    grid: Option<GridSpec>,
+    place: Option<usize>,
+    globals: Globals,
+}
+
+/// Takes all memory that an edit of a board of this version needs, and applies it to the scene. A fault leaves the scene as it
+/// was; without a number for the next version there is no memory.
+fn apply_with_room(
+    alloc: Global,
+    version: u64,
+    log: &mut Log,
+    namings: &mut Vec<Naming>,
+    rows: &mut HeldRows,
+    hold: &mut Arc<PreparedScene>,
+    edit: &Edit,
+) -> Result<Applied, EditFault>
+    ensures fits { OnOk result (suc version < 2 ^ 64) }
+    ensures start { log.new.start ≡ log.old.start }
+    ensures entries { log.new.entries.items ≡ log.old.entries.items }
+    ensures entry { OnOk result (vec_len log.new.entries < vec_capacity log.new.entries) }
+    ensures names { namings.new.items ≡ namings.old.items }
+    ensures naming { OnOk result (vec_len namings.new < vec_capacity namings.new) }
+    ensures same { rows.new.items ≡ rows.old.items }
+    ensures room { OnOk result
+        (vec_len rows.new + most_more edit.now (length rows.old.items) ≤ vec_capacity rows.new) }
+    ensures made { IfOk result (λ applied. apply_of edit.now hold.old.value.scene
+        ≡ Ok (hold.new.value.scene, applied.old)) }
+    ensures grid { IfOk result (λ applied. applied.grid ≡ grid_put edit.now) }
+    ensures place { IfOk result (λ applied. applied.place
+        ≡ named_place edit.now hold.old.value.scene.receivers) }
+    ensures globals { IfOk result (λ applied. applied.globals ≡ hold.old.value.scene.globals) }
+    ensures fault { IfErr result (λ fault.
+        Unless (lacks_memory fault) (apply_of edit.now hold.old.value.scene ≡ Err fault)) }
+    ensures unchanged { OnErr result (hold.new.value.scene ≡ hold.old.value.scene) }
+{
+    let grid = grid_to_put(version, edit)?;
+    make_room(log, namings, rows, edit)?;
+    let place = place_to_go(edit, &hold.scene);
+    let globals = *hold.scene.globals();
+    let old = edit_scene(hold, alloc, edit)?;
+    Ok(Applied {
+        old,
+        grid,
+        place,
+        globals,
+    })
+}
+
+/// The grid that an edit puts, if it puts one. There is no memory for an edit of the last version.
+fn grid_to_put(version: u64, edit: &Edit) -> Result<Option<GridSpec>, NoMemory>
+    ensures fits { OnOk result (suc version < 2 ^ 64) }
+    ensures grid { IfOk result (λ grid. grid ≡ grid_put edit.now) }
+{
+    if version == u64::MAX {
+        return Err(NoMemory);
+    }
+    grid_of(edit)
+}
+
+/// Makes room for what an edit adds: an entry of the log, a naming, and rows.
+fn make_room(
+    log: &mut Log,
+    namings: &mut Vec<Naming>,
+    rows: &mut HeldRows,
+    edit: &Edit,
+) -> Result<(), NoMemory>
+    ensures start { log.new.start ≡ log.old.start }
+    ensures entries { log.new.entries.items ≡ log.old.entries.items }
+    ensures entry { OnOk result (vec_len log.new.entries < vec_capacity log.new.entries) }
+    ensures names { namings.new.items ≡ namings.old.items }
+    ensures naming { OnOk result (vec_len namings.new < vec_capacity namings.new) }
+    ensures same { rows.new.items ≡ rows.old.items }
+    ensures room { OnOk result
+        (vec_len rows.new + most_more edit.now (length rows.old.items) ≤ vec_capacity rows.new) }
+{
+    log.reserve()?;
+    room_for_naming(namings)?;
+    rows.reserve(rows_more(edit, rows.as_slice().len()))
 }

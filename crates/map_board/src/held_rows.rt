@@ -1,13 +1,13 @@
-//! The rows of a board, with a place before which none of them is needy.
-ghost use Rattle.std.specs.Prelude.{◌≡◌, ◌+◌, ◌<◌, ◌≤◌, false, None, Some, IsSome, IfSome, IfNone, IsSomeAnd, OnOk, length, slice_get, slice_set, vec_len, vec_capacity};
+//! The rows of a board, with a place before which none of them is needy, and one from which all are empty.
+ghost use Rattle.std.specs.Prelude.{◌≡◌, ◌+◌, ◌<◌, ◌≤◌, ℕ, All, false, None, Some, IsSome, IfSome, IfNone, IsSomeAnd, OnOk, length, slice_get, slice_set, vec_len, vec_capacity};
 ghost use Rattle.std.specs.List.{list_any};
 ghost use Rattle.map_board.specs.Back.{held_with};
 ghost use Rattle.scene_book.specs.Lists.{AreApart};
-ghost use Rattle.map_board.specs.Boards.{is_held_needy, row_out, rows_of, EachHolds, IsNeedyAt};
+ghost use Rattle.map_board.specs.Boards.{is_held_needy, row_out, rows_of, EachHolds, IsNeedyAt, IsOutSince};
 ghost use Rattle.map_board.specs.Changes.{scene_before, scene_after, journal_after, removed_place, IsChange};
 ghost use Rattle.map_board.specs.Machine.{rows_after};
 
-use crate::renewing::{Change, carry_over};
+use crate::renewing::{Change, carry_over, least_out};
 use crate::rows::{Back, Cache, HeldRow, next_needy, put_back, take_row};
 use crate::testing::PathTest;
 use scene_book::Scene;
@@ -16,24 +16,27 @@ use std::alloc::Global;
 use std::marker::Model;
 
 /// The rows of a board. A search for a needy row goes on from where the last one ended: none before that place is
-/// needy. Contracts see it as the vector of rows.
+/// needy. From another place on all are empty, since no job was taken for any of them. Contracts see it as the vector of
+/// rows.
 #[derive(Drop)]
 pub(crate) struct HeldRows {
     rows: Vec<HeldRow>,
     passed: usize,
+    empty_from: usize,
 }
 
 impl Model for HeldRows {
     ghost use Rattle.std.specs.Prelude.{Vec};
     ghost use Rattle.std.specs.declared.alloc.Global.{Global};
     ghost use Rattle.map_board.specs.declared.rows.HeldRow.{HeldRow};
-    ghost use Rattle.map_board.specs.Boards.{NoneNeedyBefore};
+    ghost use Rattle.map_board.specs.Boards.{NoneNeedyBefore, EmptyFrom};
 
     ghost Value = { Vec HeldRow Global };
 
     ghost view = { λ held. held.rows };
 
-    ghost invariant = { λ held. NoneNeedyBefore held.passed held.rows.items };
+    ghost invariant = { λ held. NoneNeedyBefore held.passed held.rows.items
+        × EmptyFrom held.empty_from held.rows.items };
 }
 
 impl HeldRows {
@@ -41,7 +44,12 @@ impl HeldRows {
     pub(crate) fn of(rows: Vec<HeldRow>) -> HeldRows
         ensures { result ≡ rows }
     {
-        HeldRows { rows, passed: 0 }
+        let empty_from = rows.len();
+        HeldRows {
+            rows,
+            passed: 0,
+            empty_from,
+        }
     }
 
     /// The rows in their order.
@@ -76,6 +84,7 @@ impl HeldRows {
         ensures rows { (held : _) → slice_get self.old.items place ≡ Some held
             → self.new.items ≡ slice_set self.old.items place (row_out version held) }
     {
+        self.empty_from = self.empty_from.max(place + 1);
         take_row(&mut self.rows[place], version)
     }
 
@@ -86,6 +95,7 @@ impl HeldRows {
             → self.new.items ≡ slice_set self.old.items place (held_with back held) }
     {
         self.passed = self.passed.min(place);
+        self.empty_from = (place + 1).max(self.empty_from);
         put_back(&mut self.rows[place], back);
     }
 
@@ -120,7 +130,26 @@ impl HeldRows {
             ≡ rows_after change.now.logged.edit change.now.past.value
             (rows_of (scene_before change.now).receivers self.old.items) }
     {
-        carry_over(alloc, &mut self.rows, gone, scene, change, test);
+        carry_over(
+            alloc,
+            &mut self.rows,
+            self.empty_from,
+            gone,
+            scene,
+            change,
+            test,
+        );
         self.passed = 0;
+    }
+
+    /// The least version of a job that is out, or this one, which is the newest. None is out for an empty row.
+    pub(crate) fn least_out(&self, newest: u64) -> u64
+        ensures reaches { All (IsOutSince result) self.now.items }
+        ensures newest { result ≤ newest }
+        ensures start { (start : ℕ) → start ≤ newest → All (IsOutSince start) self.now.items
+            → start ≤ result }
+    {
+        let count = self.rows.len().min(self.empty_from);
+        least_out(&self.rows[..count], newest)
     }
 }

@@ -5,9 +5,9 @@ ghost use Rattle.scene_book.specs.Lists.{AreApart};
 ghost use Rattle.touch_test.specs.Touches.{touches_receiver};
 ghost use Rattle.map_board.specs.declared.rows.KeptLevels.{KeptLevels};
 ghost use Rattle.map_board.specs.Machine.{rows_after};
-ghost use Rattle.map_board.specs.Boards.{kept_of, row_of, rows_of, ByIsRight, RowHolds, EachHolds, IsOutSince};
+ghost use Rattle.map_board.specs.Boards.{kept_of, row_of, rows_of, ByIsRight, RowHolds, EachHolds, IsOutSince, IsEmpty, EmptyFrom};
 ghost use Rattle.map_board.specs.Paths.{kept_at, kept_of_row, tests_of, tests_to};
-ghost use Rattle.map_board.specs.Changes.{scene_before, scene_after, journal_after, touches_a_path, most_more, named_place, gone_from, removed_place, put_place, placed, without_place, changes_receivers_alone as receivers_alone, is_receiver_if_any as receiver_if_any, is_receiver_part, IsChange, IsFresh, HasRow, IsRowAfter};
+ghost use Rattle.map_board.specs.Changes.{scene_before, scene_after, journal_after, touches_a_path, most_more, named_place, gone_from, removed_place, put_place, placed, without_place, changes_receivers_alone as receivers_alone, is_receiver_if_any as receiver_if_any, is_receiver_part, was_receiver_part, may_name_any, IsChange, IsFresh, HasRow, IsRowAfter, AreRenewed, NamesNone};
 
 use crate::marking::mark_known;
 use crate::past::Past;
@@ -65,10 +65,11 @@ pub(crate) fn place_removed(logged: &Logged, place: Option<usize>) -> Option<usi
 }
 
 /// The rows go over to the scene after an edit: that of a receiver that it removes is dropped, those that it puts are
-/// made anew, and the others stay, each at its receiver's place.
+/// made anew, and the others stay, each at its receiver's place. Rows from a place on are known to be empty, and stay so.
 pub(crate) fn carry_over<T: PathTest>(
     alloc: Global,
     rows: &mut Vec<HeldRow>,
+    empty_from: usize,
     gone: Option<usize>,
     scene: &Scene,
     change: &Change,
@@ -80,16 +81,18 @@ pub(crate) fn carry_over<T: PathTest>(
     requires apart { AreApart (λ r. r.name) (scene_before change.now).receivers }
     requires each { EachHolds change.now.past.value (scene_before change.now).receivers rows.old.items }
     requires gone { gone ≡ removed_place change.now }
+    requires empty { EmptyFrom empty_from rows.old.items }
     requires room { length scene.now.receivers ≤ vec_capacity rows.old }
     ensures each { EachHolds (journal_after change.now) scene.now.receivers rows.new.items }
     ensures rows { rows_of scene.now.receivers rows.new.items
         ≡ rows_after change.now.logged.edit change.now.past.value
         (rows_of (scene_before change.now).receivers rows.old.items) }
+    ensures empty { EmptyFrom empty_from rows.new.items }
 {
     drop_at(rows, gone);
     match place_alone(&change.logged, scene) {
         Some(place) => put_at(rows, place, fresh_row(alloc, change.version)),
-        None => renew_each(alloc, rows, scene.receivers(), change, test),
+        None => renew_each(alloc, rows, empty_from, scene.receivers(), change, test),
     }
 }
 
@@ -120,16 +123,19 @@ fn drop_at(rows: &mut Vec<HeldRow>, place: Option<usize>)
 }
 
 /// The row of each receiver after an edit, at its place: anew where the edit names the receiver, else renewed. All paths
-/// are tested first, where the way of testing does so and the edit may touch any.
+/// are tested first, where the way of testing does so and the edit may touch any. Where the edit names no receiver, the
+/// rows from a place on that are known to be empty stay as they are.
 fn renew_each<T: PathTest>(
     alloc: Global,
     rows: &mut Vec<HeldRow>,
+    empty_from: usize,
     news: &[Receiver],
     change: &Change,
     test: &T,
 )
     requires ready { T.ready test.now }
     requires change { IsChange change.now }
+    requires empty { EmptyFrom empty_from rows.old.items }
     requires few { length rows.old.items ≤ length news.now }
     requires room { length news.now ≤ vec_capacity rows.old }
     requires there { (k : ℕ) (r : _) → slice_get news.now k ≡ Some r
@@ -138,7 +144,8 @@ fn renew_each<T: PathTest>(
     ensures each { (k : ℕ) (r : _) → slice_get news.now k ≡ Some r
         → IsSomeAnd (slice_get rows.new.items k) (IsRowAfter change.now r (slice_get rows.old.items k)) }
 {
-    let tests = if changes_receivers_alone(&change.logged) {
+    let count = count_to_renew(&change.logged, empty_from, news.len());
+    let tests = if count == 0 || changes_receivers_alone(&change.logged) {
         None
     } else {
         test.tests(
@@ -149,30 +156,66 @@ fn renew_each<T: PathTest>(
             &change.globals,
         )
     };
-    renew_in_turn(alloc, rows, news, change, &tests);
+    renew_in_turn(alloc, rows, count, news, change, &tests);
 }
 
-/// The same, one row after another, where it may be known which paths the edit touches.
+/// How many of so many rows an edit may change, where those from a place on are empty: all, or where it names no receiver
+/// those before that place.
+fn count_to_renew(logged: &Logged, empty_from: usize, all: usize) -> usize
+    ensures most { result ≤ all }
+    ensures fewer { result < all → (empty_from ≤ result) × NamesNone logged.now.edit logged.now.old }
+{
+    if may_name(logged) {
+        all
+    } else {
+        all.min(empty_from)
+    }
+}
+
+/// Whether an edit may name a receiver.
+fn may_name(logged: &Logged) -> bool
+    ensures { result ≡ may_name_any logged.now.edit logged.now.old }
+{
+    match &logged.edit {
+        Edit::Put(part) => is_receiver(part) || was_receiver(&logged.old),
+        Edit::Remove(_) => was_receiver(&logged.old),
+        Edit::Grid(_) => true,
+        Edit::Set(_) => was_receiver(&logged.old),
+    }
+}
+
+/// Whether there is an old part, and it is a receiver.
+fn was_receiver(old: &Option<Part>) -> bool
+    ensures { result ≡ was_receiver_part old.now }
+{
+    match old {
+        Some(part) => is_receiver(part),
+        None => false,
+    }
+}
+
+/// The rows of so many receivers from the first on, one after another, where it may be known which paths the edit touches.
 fn renew_in_turn(
     alloc: Global,
     rows: &mut Vec<HeldRow>,
+    count: usize,
     news: &[Receiver],
     change: &Change,
     tests: &Option<Vec<bool>>,
 )
     requires change { IsChange change.now }
+    requires count { count ≤ length news.now }
     requires few { length rows.old.items ≤ length news.now }
     requires room { length news.now ≤ vec_capacity rows.old }
     requires there { (k : ℕ) (r : _) → slice_get news.now k ≡ Some r
         → HasRow change.now r (slice_get rows.old.items k) }
     requires tests { IfSome tests.now (λ tests. tests.items
         ≡ tests_of change.now.logged news.now rows.old.items) }
-    ensures count { length rows.new.items ≡ length news.now }
-    ensures each { (k : ℕ) (r : _) → slice_get news.now k ≡ Some r
-        → IsSomeAnd (slice_get rows.new.items k) (IsRowAfter change.now r (slice_get rows.old.items k)) }
+    ensures { AreRenewed change.now news.now rows.old.items count rows.new.items }
 {
     let mut left = slice_if_any(tests);
-    for (place, receiver) in news.iter().enumerate() {
+    for place in 0..count {
+        let receiver = &news[place];
         let (own, rest) = cut(left, count_at(rows.as_slice(), place));
         left = rest;
         renew_at(alloc, rows, place, receiver, change, own);
@@ -278,6 +321,7 @@ fn renew(row: &mut HeldRow, receiver: &Receiver, change: &Change, tests: Option<
         ≡ tests_to change.now.logged receiver.now (kept_of_row row.old)) }
     ensures row { row_of receiver.now row.new ≡ row_of receiver.now row.old }
     ensures holds { RowHolds (journal_after change.now) receiver.now row.new }
+    ensures empty { IsEmpty row.old → IsEmpty row.new }
 {
     let counts = !row.is_current();
     if let Some(cache) = &mut row.cache {

@@ -35,7 +35,7 @@ impl PreparedScene {
     pub fn of(alloc: Global, scene: Scene) -> Result<PreparedScene, NoMemory>
         ensures { IfOk result (λ made. made.scene ≡ scene) }
     {
-        let prepared = Arc::new(alloc, prepare(alloc, &scene)?)?;
+        let prepared = sources_of(alloc, &scene)?;
         let grid = index(alloc, &scene)?;
         Ok(PreparedScene {
             scene,
@@ -130,17 +130,44 @@ fn edited_copy(alloc: Global, hold: &PreparedScene, edit: &Edit) -> Result<Edite
     ensures fault { IfErr result (λ fault.
         Unless (lacks_memory fault) (apply_of edit.now hold.now.scene ≡ Err fault)) }
 {
-    let mut after = hold.scene.copy()?;
+    let (after, old) = applied(alloc, &hold.scene, edit)?;
+    let sources_stay = leaves_sources(edit, &hold.scene);
+    let obstacles_stay = leaves_obstacles(edit, &hold.scene);
+    let hold = prepared_after(alloc, hold, after, sources_stay, obstacles_stay)?;
+    Ok(EditedScene { hold, old })
+}
+
+/// A copy of a scene to which an edit is applied, and the part that the edit replaces or takes out.
+fn applied(alloc: Global, scene: &Scene, edit: &Edit) -> Result<(Scene, Option<Part>), EditFault>
+    ensures made { IfOk result (λ made. apply_of edit.now scene.now ≡ Ok made) }
+    ensures fault { IfErr result (λ fault.
+        Unless (lacks_memory fault) (apply_of edit.now scene.now ≡ Err fault)) }
+{
+    let mut after = scene.copy()?;
     let old = after.apply(alloc, edit)?;
-    let prepared = prepared_after(alloc, hold, &after, leaves_sources(edit, &hold.scene))?;
-    let grid = index_after(alloc, hold, &after, leaves_obstacles(edit, &hold.scene))?;
+    Ok((after, old))
+}
+
+/// The scene after an edit, prepared, of which it is known where its sources and where its obstacles stay.
+fn prepared_after(
+    alloc: Global,
+    hold: &PreparedScene,
+    after: Scene,
+    sources_stay: bool,
+    obstacles_stay: bool,
+) -> Result<Arc<PreparedScene>, NoMemory>
+    requires sources { sources_stay ≡ true → after.sources ≡ hold.now.scene.sources }
+    requires obstacles { obstacles_stay ≡ true → after.obstacles ≡ hold.now.scene.obstacles }
+    ensures { IfOk result (λ made. made.value.scene ≡ after) }
+{
+    let prepared = sources_after(alloc, hold, &after, sources_stay)?;
+    let grid = index_after(alloc, hold, &after, obstacles_stay)?;
     let made = PreparedScene {
         scene: after,
         prepared,
         grid,
     };
-    let hold = shared(alloc, made)?;
-    Ok(EditedScene { hold, old })
+    shared(alloc, made)
 }
 
 /// A prepared scene that is shared.
@@ -151,7 +178,7 @@ fn shared(alloc: Global, scene: PreparedScene) -> Result<Arc<PreparedScene>, NoM
 }
 
 /// The prepared sources of the scene after an edit, of which it is known where they stay.
-fn prepared_after(
+fn sources_after(
     alloc: Global,
     hold: &PreparedScene,
     after: &Scene,
@@ -163,7 +190,14 @@ fn prepared_after(
     if stay {
         return Ok(hold.prepared.clone()?);
     }
-    Ok(Arc::new(alloc, prepare(alloc, after)?)?)
+    sources_of(alloc, after)
+}
+
+/// The prepared sources of a scene.
+fn sources_of(alloc: Global, scene: &Scene) -> Result<Arc<Vec<PreparedSource>>, NoMemory>
+    ensures { IfOk result (λ prepared. prepared.value.items ≡ map prepared_of scene.now.sources) }
+{
+    Ok(Arc::new(alloc, prepare(alloc, scene)?)?)
 }
 
 /// The index of the scene after an edit, of which it is known where its obstacles stay.

@@ -2,9 +2,10 @@ use Rattle.std.proofs.Common.{◌≡◌, ◌∙◌, ◌<◌, ℕ, ap, sym, subst
 use Rattle.std.specs.Prelude.{slice_get, Some, Option, IfSome, IsSomeAnd}
 use Rattle.scene_parts.specs.Views.{Receiver}
 use Rattle.map_board.specs.declared.rows.HeldRow.{HeldRow}
-use Rattle.map_board.specs.Boards.{rows_of, EachHolds}
-use Rattle.map_board.specs.Changes.{scene_after, journal_after, without_place, put_place, placed, HasRow, IsRowAfter}
+use Rattle.map_board.specs.Boards.{rows_of, EachHolds, EmptyFrom}
+use Rattle.map_board.specs.Changes.{scene_after, journal_after, removed_place, without_place, put_place, placed, HasRow, IsRowAfter}
 use Rattle.map_board.proofs.Carrying.{left, gone-below, few-left, has-row, each-after, all-after}
+use Rattle.map_board.proofs.Emptiness.{empty-without, empty-made}
 use Rattle.map_board.proofs.OnePut.{place-upto, place-below, many as many-put, are as are-put}
 use Rattle.map_board.proofs.renewing.carry_over.Given.{Over}
 use Rattle.map_board.proofs.renewing.carry_over.Goals as goal
@@ -110,3 +111,32 @@ pub returns-in-None-clause-rows : goal.returns-in-None-clause-rows
 returns-in-None-clause-rows g c =
     ap (λ (rs : List Receiver). rows_of rs c.renew_each.new.rows.items) c.requires.news
     ∙ all-after c.args.change.now c.requires.change c.args.rows.now.items c.requires.apart c.requires.each c.renew_each.new.rows.items (many g c) (are-after g c)
+
+-- ---- empty rows
+
+left-empty : (g : Over) (c : After-drop_at g) → EmptyFrom c.args.empty_from (left c.args.change.now c.requires.change c.args.rows.now.items c.requires.apart c.requires.each)
+left-empty g c = empty-without c.args.empty_from (removed_place c.args.change.now) c.args.rows.now.items c.requires.empty
+
+pub renew_each-requires-clause-empty : goal.renew_each-requires-clause-empty
+renew_each-requires-clause-empty g c =
+    let at = (goal.at.renew_each-requires-clause-empty g c).After-drop_at in
+    subst (EmptyFrom c.args.empty_from) (sym (left-are g at)) (left-empty g at)
+
+pub returns-in-Some-clause-empty : goal.returns-in-Some-clause-empty
+returns-in-Some-clause-empty g c =
+    let at = goal.at.returns-in-Some-clause-empty g c in
+    let place = found g at.After-fresh_row in
+    let change = c.args.change.now in
+    let rows = c.args.rows.now.items in
+    let before = left change c.requires.change rows c.requires.apart c.requires.each in
+    subst (EmptyFrom c.args.empty_from) (sym (put-is g c))
+    (empty-made change (scene_after change).receivers before (placed c.in-Some.place c.fresh_row.result before) c.args.empty_from (left-empty g at.After-drop_at)
+    (many-put change c.requires.change rows c.requires.apart c.requires.each c.in-Some.place place c.fresh_row.result c.fresh_row.ensures)
+    (are-put change c.requires.change rows c.requires.apart c.requires.each c.in-Some.place place c.fresh_row.result c.fresh_row.ensures))
+
+pub returns-in-None-clause-empty : goal.returns-in-None-clause-empty
+returns-in-None-clause-empty g c =
+    let at = goal.at.returns-in-None-clause-empty g c in
+    let change = c.args.change.now in
+    empty-made change (scene_after change).receivers (left change c.requires.change c.args.rows.now.items c.requires.apart c.requires.each) c.renew_each.new.rows.items
+    c.args.empty_from (left-empty g at.After-drop_at) (many g c) (are-after g c)

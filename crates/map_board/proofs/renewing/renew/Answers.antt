@@ -1,11 +1,12 @@
-use Rattle.std.proofs.Common.{◌≡◌, ℕ, Bool, true, Some, None, ap, sym, ◌∙◌, subst}
-use Rattle.std.specs.Prelude.{Option, IfSome, not}
+use Rattle.std.proofs.Common.{◌≡◌, ℕ, Bool, true, Some, None, [], refl, ap, sym, ◌∙◌, subst}
+use Rattle.std.specs.Prelude.{Option, IfSome, IsSomeAnd, not}
+use Rattle.std.specs.Option.{option_map}
 use Rattle.map_board.specs.declared.caches.Cache.{Cache}
 use Rattle.map_board.specs.declared.rows.HeldRow.{HeldRow}
 use Rattle.map_board.specs.declared.rows.KeptLevels.{KeptLevels}
 use Rattle.map_board.specs.Rows.{is_current, shown_since}
 use Rattle.map_board.specs.Boards.{is_held_current, kept_of, shown_by}
-use Rattle.map_board.specs.Marks.{touches_one}
+use Rattle.map_board.specs.Marks.{marks_after, touches_one}
 use Rattle.map_board.specs.Paths.{kept_in, tests_to}
 use Rattle.map_board.proofs.AfterEdits.{kept-past, kept-fresh, out-holds, marked-holds}
 use Rattle.map_board.proofs.renewing.renew.Goals as goal
@@ -41,3 +42,26 @@ pub returns-in-Some-clause-holds : goal.returns-in-Some-clause-holds
 returns-in-Some-clause-holds c =
     marked-holds c.args.change.now c.requires.change c.args.receiver.now c.args.row.now c.requires.holds c.touch.new.kept c.in-Some.cache c.mark_known-one.new.cache
     c.in-Some.is c.touch.ensures.same c.touch.ensures.by (ap (λ b. b.items) c.mark_known-one.ensures.bundles) c.mark_known-one.ensures.marks
+
+-- ---- an empty row
+
+no-levels : (kept : Option KeptLevels) → option_map kept_of kept ≡ None → kept ≡ None
+no-levels None is = refl
+no-levels (Some levels) is = absurd (cc is)
+
+pub returns-in_default-clause-empty : goal.returns-in_default-clause-empty
+returns-in_default-clause-empty c empty =
+    absurd (subst (λ (o : Option Cache). IsSomeAnd o (λ cache. (cache.bundles.items ≡ []) × (cache.marks.items ≡ []))) c.in_default.is empty.bundles)
+
+pub returns-in-Some-clause-empty : goal.returns-in-Some-clause-empty
+returns-in-Some-clause-empty c empty =
+    let were = subst (λ (o : Option Cache). IsSomeAnd o (λ cache. (cache.bundles.items ≡ []) × (cache.marks.items ≡ []))) c.in-Some.is empty.bundles in
+    let change = c.args.change.now in
+    record {
+      kept = no-levels c.touch.new.kept (c.touch.ensures.same ∙ ap (option_map kept_of) empty.kept);
+      out = empty.out;
+      bundles = (
+        ap (λ b. b.items) c.mark_known-one.ensures.bundles ∙ were.0,
+        c.mark_known-one.ensures.marks ∙ (λ i. marks_after change.logged.edit change.logged.old c.args.receiver.now (were.0 i) (were.1 i)),
+      );
+    }

@@ -3,7 +3,7 @@ use Rattle.std.specs.Prelude.{Option, IfSome, IsSomeAnd, slice_get}
 use Rattle.std.proofs.lemmas.Option.{slice_get_read}
 use Rattle.scene_parts.specs.Views.{Receiver}
 use Rattle.map_board.specs.declared.rows.HeldRow.{HeldRow}
-use Rattle.map_board.specs.Boards.{row_of, RowHolds}
+use Rattle.map_board.specs.Boards.{row_of, RowHolds, IsEmpty}
 use Rattle.map_board.specs.Changes.{is_unnamed}
 use Rattle.map_board.specs.Paths.{kept_at, tests_to}
 use Rattle.map_board.proofs.Carrying.{tested, placed-set, placed-same, item-holds, some-item, some-within, item-there}
@@ -31,6 +31,7 @@ returns-then-names_receiver-clause-made c =
         anew = λ n. c.fresh_row.ensures;
         same = λ u. absurd (cc (u, named_is));
         holds = λ u. absurd (cc (u, named_is));
+        empty = λ was. c.fresh_row.ensures.empty;
       },
     )
 
@@ -67,6 +68,7 @@ returns-then-not-changes_receivers_alone-clause-made c =
         anew = λ n. absurd (cc (n, unnamed_is));
         same = λ u. item-there (λ (old : HeldRow). row_of r c.renew.new.row ≡ row_of r old) rows c.args.place c.index_mut.result.now below c.index_mut.ensures.value c.renew.ensures.row;
         holds = λ u. c.renew.ensures.holds;
+        empty = λ was. c.renew.ensures.empty (subst (λ (o : Option HeldRow). IfSome o IsEmpty) (slice_get_read rows (length rows) c.args.place c.index_mut.result.now refl below c.index_mut.ensures.value) was);
       },
     )
 
@@ -82,5 +84,6 @@ returns-else-not-changes_receivers_alone-clause-made c =
         anew = λ n. absurd (cc (n, unnamed_is));
         same = λ u. subst (λ o. IsSomeAnd o (λ (old : HeldRow). row_of r found.item ≡ row_of r old)) (sym found.there) refl;
         holds = λ u. stays-right c.args.change.now c.requires.change r unnamed_is (sym c.changes_receivers_alone.ensures ∙ c.if-not-changes_receivers_alone.false) found.item found.holds;
+        empty = λ was. subst (λ (o : Option HeldRow). IfSome o IsEmpty) found.there was;
       },
     )

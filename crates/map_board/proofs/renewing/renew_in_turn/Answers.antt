@@ -1,18 +1,18 @@
-use Rattle.std.proofs.Common.{◌≡◌, ◌∙◌, ◌+◌, ◌++◌, ap, sym, subst, refl, arith, length, Some, suc, drop, add-one, List, Bool}
+use Rattle.std.proofs.Common.{◌≡◌, ◌∙◌, ◌+◌, ◌<◌, ◌++◌, ap, sym, subst, refl, arith, length, Some, suc, drop, add-one, List, Bool}
 use Rattle.std.specs.Prelude.{slice_get, Option}
 use Rattle.std.proofs.lemmas.List.{length-map}
-use Rattle.std.proofs.lemmas.Option.{slice_get_within, slice_get_read}
-use Rattle.map_board.specs.Changes.{HasRow}
+use Rattle.std.proofs.lemmas.Option.{slice_get_read}
+use Rattle.map_board.specs.Changes.{HasRow, AreRenewed}
 use Rattle.map_board.specs.declared.rows.HeldRow.{HeldRow}
 use Rattle.map_board.specs.Paths.{kept_at, tests_to, tests_of}
-use Rattle.map_board.proofs.Carrying.{Renewed, one-more}
+use Rattle.map_board.proofs.Carrying.{one-more}
 use Rattle.map_board.proofs.PathTests.{Are, tests-split, slice-are, cut-within, cut-front, cut-rest}
 use Rattle.map_board.proofs.renewing.renew_in_turn.Goals as goal
 use Rattle.map_board.proofs.renewing.renew_in_turn.Goals.{After-count_at}
 
 -- the receiver and the row at the place
 here : (c : After-count_at) → slice_get c.args.news.now c.loop-place.place ≡ Some c.index-news-place.result
-here c = slice_get_read c.args.news.now (length c.args.news.now) c.loop-place.place c.index-news-place.result refl c.loop-place-test.true c.index-news-place.is
+here c = slice_get_read c.args.news.now (length c.args.news.now) c.loop-place.place c.index-news-place.result refl (omega (arith, c.loop-place-test.true, c.requires.count)) c.index-news-place.is
 
 there : (c : After-count_at) → slice_get c.loop-place.rows.items c.loop-place.place ≡ slice_get c.args.rows.now.items c.loop-place.place
 there c = c.loop-place.invariant.renewed.rest c.loop-place.place (omega arith)
@@ -44,6 +44,7 @@ cut-requires c =
 
 pub loop-place-init : goal.loop-place-init
 loop-place-init c = record {
+  upto = omega arith;
   room = refl;
   renewed = record {
     upto = omega arith;
@@ -58,7 +59,7 @@ pub renew_at-requires-clause-place : goal.renew_at-requires-clause-place
 renew_at-requires-clause-place c = c.loop-place.invariant.renewed.upto
 
 pub renew_at-requires-clause-room : goal.renew_at-requires-clause-room
-renew_at-requires-clause-room c = omega (arith, c.loop-place.invariant.room, c.requires.room, c.loop-place-test.true)
+renew_at-requires-clause-room c = omega (arith, c.loop-place.invariant.room, c.requires.room, c.loop-place-test.true, c.requires.count)
 
 pub renew_at-requires-clause-there : goal.renew_at-requires-clause-there
 renew_at-requires-clause-there c =
@@ -78,23 +79,21 @@ loop-place-preserved c =
     let r = c.index-news-place.result in
     let place = c.loop-place.place in
     let rows = c.loop-place.rows.items in
+    let inside : place < length c.args.news.now = omega (arith, c.loop-place-test.true, c.requires.count) in
     let at : slice_get c.args.news.now place ≡ Some r =
-    slice_get_read c.args.news.now (length c.args.news.now) place r refl c.loop-place-test.true c.index-news-place.is in
+    slice_get_read c.args.news.now (length c.args.news.now) place r refl inside c.index-news-place.is in
     let made = c.renew_at.ensures.made in
     let after = (goal.at.loop-place-preserved c).After-count_at in
     record {
+      upto = omega (arith, c.loop-place-test.true);
       room = c.renew_at.ensures.room ∙ c.loop-place.invariant.room;
-      renewed = subst (Renewed c.args.change.now c.args.news.now c.args.rows.now.items (place + 1)) (sym made.1)
-          (one-more c.args.change.now c.args.news.now c.args.rows.now.items place rows r made.0 c.loop-place.invariant.renewed c.loop-place-test.true at made.2);
+      renewed = subst (AreRenewed c.args.change.now c.args.news.now c.args.rows.now.items (place + 1)) (sym made.1)
+          (one-more c.args.change.now c.args.news.now c.args.rows.now.items place rows r made.0 c.loop-place.invariant.renewed inside at made.2);
       left = subst (λ n. Are (tests_of c.args.change.now.logged (drop n c.args.news.now) (drop n c.args.rows.now.items)) c.cut.result.1) (sym (add-one place))
           (cut-rest c.loop-place.left (own after) (others after) (both after) c.count_at.result (many after) c.cut.result.1 c.cut.ensures.rest);
     }
 
-pub returns-clause-count : goal.returns-clause-count
-returns-clause-count c =
-    omega (arith, c.loop-place.invariant.renewed.upto, c.loop-place.invariant.renewed.few, c.loop-place-test.false)
-
-pub returns-clause-each : goal.returns-clause-each
-returns-clause-each c k r at =
-    c.loop-place.invariant.renewed.done k r
-    (omega (arith, c.loop-place-test.false, slice_get_within c.args.news.now k r at)) at
+pub returns : goal.returns
+returns c =
+    let here : c.loop-place.place ≡ c.args.count = omega (arith, c.loop-place.invariant.upto, c.loop-place-test.false) in
+    subst (λ n. AreRenewed c.args.change.now c.args.news.now c.args.rows.now.items n c.loop-place.rows.items) here c.loop-place.invariant.renewed

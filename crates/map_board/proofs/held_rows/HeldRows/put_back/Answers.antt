@@ -6,12 +6,17 @@ use Rattle.map_board.specs.declared.rows.HeldRow.{HeldRow}
 use Rattle.map_board.specs.Back.{held_with}
 use Rattle.map_board.specs.Boards.{is_held_needy}
 use Rattle.map_board.proofs.Needy.{none-put-past}
+use Rattle.map_board.proofs.Emptiness.{empty-set, empty-later}
 use Rattle.map_board.proofs.held_rows.HeldRows.put_back.Goals as goal
 
 pub invariant_of-self : goal.invariant_of-self
 invariant_of-self c =
-    none-put-past is_held_needy c.self.inside.rows.items c.min-self-inside.result c.self.inside.passed c.args.place c.put_back.new.row
-    (omega (arith, c.min-self-inside.ensures)) (omega (arith, c.min-self-inside.ensures)) c.self.invariant
+    let rows = c.self.inside.rows.items in (
+      none-put-past is_held_needy rows c.min-self-inside.result c.self.inside.passed c.args.place c.put_back.new.row
+          (omega (arith, c.min-self-inside.ensures)) (omega (arith, c.min-self-inside.ensures)) c.self.invariant.0,
+      empty-set c.max-self-inside.result c.args.place c.put_back.new.row rows (omega (arith, c.max-self-inside.ensures))
+          (empty-later c.self.inside.empty_from c.max-self-inside.result rows (omega (arith, c.max-self-inside.ensures)) c.self.invariant.1),
+    )
 
 pub returns : goal.returns
 returns c held there =

@@ -1,10 +1,11 @@
-use Rattle.std.proofs.Common.{◌≡◌, ap, sym, ◌∙◌, Some}
+use Rattle.std.proofs.Common.{◌≡◌, ap, sym, ◌∙◌, arith, Some}
 use Rattle.std.specs.Prelude.{slice_get, slice_set, Vec}
 use Rattle.std.specs.declared.alloc.Global.{Global}
 use Rattle.std.proofs.lemmas.Option.{get_or_from_slice_get}
 use Rattle.map_board.specs.declared.rows.HeldRow.{HeldRow}
 use Rattle.map_board.specs.Boards.{is_held_needy, row_out}
 use Rattle.map_board.proofs.Needy.{none-put, out-rests}
+use Rattle.map_board.proofs.Emptiness.{empty-set, empty-later}
 use Rattle.map_board.proofs.held_rows.HeldRows.take_row.Goals as goal
 use Rattle.map_board.proofs.held_rows.HeldRows.take_row.Goals.{After-index_mut}
 
@@ -17,8 +18,12 @@ item c held there =
 
 pub invariant_of-self : goal.invariant_of-self
 invariant_of-self c =
-    none-put is_held_needy c.self.inside.rows.items c.self.inside.passed c.args.place c.take_row.new.row
-    (ap is_held_needy c.take_row.ensures.row ∙ out-rests c.args.version c.index_mut.result.now) c.self.invariant
+    let rows = c.self.inside.rows.items in (
+      none-put is_held_needy rows c.self.inside.passed c.args.place c.take_row.new.row
+          (ap is_held_needy c.take_row.ensures.row ∙ out-rests c.args.version c.index_mut.result.now) c.self.invariant.0,
+      empty-set c.max-self-inside.result c.args.place c.take_row.new.row rows (omega (arith, c.max-self-inside.ensures))
+          (empty-later c.self.inside.empty_from c.max-self-inside.result rows (omega (arith, c.max-self-inside.ensures)) c.self.invariant.1),
+    )
 
 pub returns-clause-cache : goal.returns-clause-cache
 returns-clause-cache c held there =
