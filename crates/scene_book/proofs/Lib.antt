@@ -3,3 +3,4 @@ pub mod ListLemmas
 pub mod GridLemmas
 pub mod EditLemmas
 pub mod Crossing
+pub mod TakenLemmas

@@ -1,5 +1,6 @@
 //! The receivers of grids.
-ghost use Rattle.std.specs.Prelude.{◌≡◌, ◌+◌, ◌-◌, ◌*◌, ◌<◌, ◌≤◌, ◌++◌, pos, ◌+ℤ◌, ◌≤ℤ◌, IfOk, OnOk};
+ghost use Rattle.std.specs.Prelude.{◌≡◌, ◌+◌, ◌-◌, ◌*◌, ◌<◌, ◌≤◌, [], ◌∷◌, ◌++◌, pos, ◌+ℤ◌, ◌≤ℤ◌, IfOk, OnOk};
+ghost use Rattle.std.specs.Fmt.{decimal};
 ghost use Rattle.scene_geom.specs.Plan.{InPlan};
 ghost use Rattle.scene_parts.specs.Limits.{widest_step, most_columns, plan_end};
 ghost use Rattle.scene_parts.specs.Names.{IsName};
@@ -79,11 +80,16 @@ fn name_at(alloc: Global, name: &[u8], row: u32, column: u32) -> Result<Name, No
     ensures { IfOk result (λ made. made ≡ name_in name.now row column) }
 {
     let mut bytes = name.to_vec(alloc)?;
-    bytes.push(b'/')?;
-    let column = column.to_string(alloc)?;
-    bytes.extend_from_slice(column.as_bytes())?;
-    bytes.push(b'/')?;
-    let row = row.to_string(alloc)?;
-    bytes.extend_from_slice(row.as_bytes())?;
+    add_number(alloc, column, &mut bytes)?;
+    add_number(alloc, row, &mut bytes)?;
     Ok(Name::from_vec(bytes))
+}
+
+/// Adds `/` and a number to the bytes of a name.
+fn add_number(alloc: Global, number: u32, bytes: &mut Vec<u8>) -> Result<(), NoMemory>
+    ensures { OnOk result (bytes.new.items ≡ bytes.old.items ++ 47 ∷ [] ++ decimal number) }
+{
+    bytes.push(b'/')?;
+    let digits = number.to_string(alloc)?;
+    Ok(bytes.extend_from_slice(digits.as_bytes())?)
 }

@@ -1,10 +1,11 @@
 //! The five classes of a scene's lists: how each part is found, and how many of them there may be.
 ghost use Rattle.scene_parts.specs.declared.kinds.Class.TheVariants as classes;
+ghost use Rattle.scene_parts.specs.declared.parts.Part.TheVariants as parts;
 ghost use Rattle.scene_book.specs.Limits.{most_sources, most_obstacles, most_zones, most_foliage, most_receivers};
 
 use super::limits::{MOST_FOLIAGE, MOST_OBSTACLES, MOST_RECEIVERS, MOST_SOURCES, MOST_ZONES};
 use super::register::Named;
-use scene_parts::{Class, Foliage, NoMemory, Obstacle, PointSource, Receiver, Zone};
+use scene_parts::{Class, Foliage, NoMemory, Obstacle, Part, PointSource, Receiver, Zone};
 
 impl Named for PointSource {
     ghost name_of = { λ source. source.name };
@@ -12,6 +13,8 @@ impl Named for PointSource {
     ghost CLASS = { classes.Source };
 
     ghost MOST = { most_sources };
+
+    ghost part_of = { λ source. parts.Source source };
 
     const CLASS: Class = Class::Source;
 
@@ -24,6 +27,10 @@ impl Named for PointSource {
     fn copy(&self) -> Result<Self, NoMemory> {
         Ok(self.clone()?)
     }
+
+    fn into_part(self) -> Part {
+        Part::Source(self)
+    }
 }
 
 impl Named for Obstacle {
@@ -32,6 +39,8 @@ impl Named for Obstacle {
     ghost CLASS = { classes.Obstacle };
 
     ghost MOST = { most_obstacles };
+
+    ghost part_of = { λ obstacle. parts.Obstacle obstacle };
 
     const CLASS: Class = Class::Obstacle;
 
@@ -44,6 +53,10 @@ impl Named for Obstacle {
     fn copy(&self) -> Result<Self, NoMemory> {
         Ok(self.clone()?)
     }
+
+    fn into_part(self) -> Part {
+        Part::Obstacle(self)
+    }
 }
 
 impl Named for Zone {
@@ -52,6 +65,8 @@ impl Named for Zone {
     ghost CLASS = { classes.Zone };
 
     ghost MOST = { most_zones };
+
+    ghost part_of = { λ zone. parts.Zone zone };
 
     const CLASS: Class = Class::Zone;
 
@@ -64,6 +79,10 @@ impl Named for Zone {
     fn copy(&self) -> Result<Self, NoMemory> {
         Ok(self.clone()?)
     }
+
+    fn into_part(self) -> Part {
+        Part::Zone(self)
+    }
 }
 
 impl Named for Foliage {
@@ -72,6 +91,8 @@ impl Named for Foliage {
     ghost CLASS = { classes.Foliage };
 
     ghost MOST = { most_foliage };
+
+    ghost part_of = { λ foliage. parts.Foliage foliage };
 
     const CLASS: Class = Class::Foliage;
 
@@ -84,6 +105,10 @@ impl Named for Foliage {
     fn copy(&self) -> Result<Self, NoMemory> {
         Ok(self.clone()?)
     }
+
+    fn into_part(self) -> Part {
+        Part::Foliage(self)
+    }
 }
 
 impl Named for Receiver {
@@ -92,6 +117,8 @@ impl Named for Receiver {
     ghost CLASS = { classes.Receiver };
 
     ghost MOST = { most_receivers };
+
+    ghost part_of = { λ receiver. parts.Receiver receiver };
 
     const CLASS: Class = Class::Receiver;
 
@@ -103,5 +130,9 @@ impl Named for Receiver {
 
     fn copy(&self) -> Result<Self, NoMemory> {
         Ok(self.clone()?)
+    }
+
+    fn into_part(self) -> Part {
+        Part::Receiver(self)
     }
 }

@@ -1,7 +1,8 @@
 //! Things of one class in the order of insertion, found by name without a scan.
-ghost use Rattle.std.specs.Prelude.{◌≡◌, ◌≤◌, List, [], ℕ, ◌+◌, ◌<◌, ◌^◌, length, IfOk, IfNone, OnOk, OnErr, is_some};
+ghost use Rattle.std.specs.Prelude.{◌≡◌, ◌≤◌, List, [], ℕ, ◌+◌, ◌<◌, ◌^◌, length, Some, IfOk, IfNone, OnOk, OnErr, is_some};
 ghost use Rattle.std.specs.Option.{option_copied};
 ghost use Rattle.scene_parts.specs.declared.kinds.Class.{Class as ClassWord};
+ghost use Rattle.scene_parts.specs.declared.parts.Part.{Part as PartWord};
 ghost use Rattle.scene_book.specs.Applying.{room_in};
 ghost use Rattle.scene_book.specs.Lists.{named, place_of, put_in, take_out, put_all, AreApart};
 
@@ -9,7 +10,7 @@ use super::edits::EditFault;
 use super::filing::{filed, insert_all, key_of};
 use super::limits::at_most;
 use indexmap::IndexMap;
-use scene_parts::{Class, NoMemory};
+use scene_parts::{Class, NoMemory, Part};
 use std::alloc::{AllocError, Global};
 use std::marker::Model;
 
@@ -20,6 +21,8 @@ pub trait Named: Drop {
     ghost CLASS: { ClassWord };
 
     ghost MOST: { ℕ };
+
+    ghost part_of: { Self → PartWord };
 
     /// The class that `Full` names where there are too many.
     const CLASS: Class;
@@ -34,6 +37,17 @@ pub trait Named: Drop {
     /// The same again.
     fn copy(&self) -> Result<Self, NoMemory>
         ensures { IfOk result (λ copied. copied ≡ self.now) };
+
+    /// The part that it is.
+    fn into_part(self) -> Part
+        ensures { result ≡ part_of self };
+}
+
+/// A copy of a thing, as the part that it is.
+pub fn part_like<T: Named>(thing: &T) -> Result<Option<Part>, NoMemory>
+    ensures { IfOk result (λ part. part ≡ Some (T.part_of thing.now)) }
+{
+    Ok(Some(thing.copy()?.into_part()))
 }
 
 /// Things in the order of insertion, each under its name. Contracts see it as the list of them.

@@ -1,12 +1,15 @@
 //! The scene.
-ghost use Rattle.std.specs.Prelude.{◌≡◌, Ok, IfOk, OnOk, OnErr};
+ghost use Rattle.std.specs.Prelude.{◌≡◌, ◌≤◌, length, Ok, Err, IfOk, IfErr, OnOk, OnErr, option_map};
+ghost use Rattle.scene_parts.specs.Answers.{Unless};
+ghost use Rattle.scene_parts.specs.declared.parts.Part.TheVariants as parts;
+ghost use Rattle.scene_book.specs.Limits.{most_obstacles, most_sides};
 ghost use Rattle.scene_book.specs.Lists.{named, place_of, put_in, take_out, AreApart};
 ghost use Rattle.scene_book.specs.Book.{IsWithin, NamesAreApart, empty_book, side_total, with_setting};
-ghost use Rattle.scene_book.specs.Applying.{holder, class_of_shape, part_named, put_where_room, put_receivers as put_receivers_of, without_any, Leaves};
+ghost use Rattle.scene_book.specs.Applying.{holder, class_of_shape, part_named, put_where_room, put_receivers as put_receivers_of, without_any, in_limits, with_part, lacks_memory, Leaves};
 
 use super::edits::EditFault;
 use super::limits::{MOST_SIDES, at_most};
-use super::register::Named;
+use super::register::{Named, part_like};
 use super::shared::Shared;
 use scene_parts::limits::FARTHEST_REACH;
 use scene_parts::{
@@ -169,19 +172,19 @@ impl Scene {
         ensures { IfOk result (λ part. part ≡ part_named self.now name.now) }
     {
         if let Some(source) = self.sources.get(name) {
-            return Ok(Some(Part::Source(source.clone()?)));
+            return part_like(source);
         }
         if let Some(obstacle) = self.obstacles.get(name) {
-            return Ok(Some(Part::Obstacle(obstacle.clone()?)));
+            return part_like(obstacle);
         }
         if let Some(zone) = self.zones.get(name) {
-            return Ok(Some(Part::Zone(zone.clone()?)));
+            return part_like(zone);
         }
         if let Some(foliage) = self.foliage.get(name) {
-            return Ok(Some(Part::Foliage(foliage.clone()?)));
+            return part_like(foliage);
         }
         match self.receivers.get(name) {
-            Some(receiver) => Ok(Some(Part::Receiver(receiver.clone()?))),
+            Some(receiver) => part_like(receiver),
             None => Ok(None),
         }
     }
@@ -196,6 +199,41 @@ impl Scene {
         }
     }
 
+    /// How many sides there are once a barrier or building is put, where there is room for it and for its sides,
+    /// else `Full`.
+    fn room_for(&self, obstacle: &Obstacle) -> Result<u32, EditFault>
+        ensures total { IfOk result (λ total. total
+            ≡ side_total (put_in (λ o. o.name) obstacle.now self.now.obstacles)) }
+        ensures few { OnOk result
+            (length (put_in (λ o. o.name) obstacle.now self.now.obstacles) ≤ most_obstacles) }
+        ensures few_sides { IfOk result (λ total. total ≤ most_sides) }
+        ensures fits { OnOk result
+            (in_limits (parts.Obstacle obstacle.now) (with_part (parts.Obstacle obstacle.now) self.now) ≡ Ok tt) }
+        ensures full { IfErr result (λ fault. Unless (lacks_memory fault)
+            (in_limits (parts.Obstacle obstacle.now) (with_part (parts.Obstacle obstacle.now) self.now) ≡ Err fault)) }
+    {
+        self.obstacles.check_room(obstacle)?;
+        let total = self.sides_with(obstacle);
+        at_most(Class::Side, MOST_SIDES, total as usize)?;
+        Ok(total)
+    }
+
+    /// Puts a copy of a barrier or building where there is room, and gives the one that it replaces.
+    #[tactic(auto, unfolding(crate::specs::Applying::put_where_room))]
+    fn put_obstacle(
+        &mut self,
+        alloc: Global,
+        obstacle: &Obstacle,
+    ) -> Result<Option<Part>, EditFault>
+        ensures value { Leaves self.new result (put_where_room (parts.Obstacle obstacle.now) self.old) }
+        ensures unchanged { OnErr result (self.new ≡ self.old) }
+    {
+        let total = self.room_for(obstacle)?;
+        let old = self.obstacles.put(alloc, obstacle)?;
+        self.sides = total;
+        Ok(old.map(Part::Obstacle))
+    }
+
     /// Puts a copy of a part where its class has room, and gives the one that it replaces.
     #[tactic(auto, unfolding(crate::specs::Applying::put_where_room))]
     pub(crate) fn put(&mut self, alloc: Global, part: &Part) -> Result<Option<Part>, EditFault>
@@ -203,30 +241,11 @@ impl Scene {
         ensures unchanged { OnErr result (self.new ≡ self.old) }
     {
         match part {
-            Part::Source(source) => {
-                self.sources.check_room(source)?;
-                Ok(self.sources.put(alloc, source)?.map(Part::Source))
-            }
-            Part::Obstacle(obstacle) => {
-                self.obstacles.check_room(obstacle)?;
-                let total = self.sides_with(obstacle);
-                at_most(Class::Side, MOST_SIDES, total as usize)?;
-                let old = self.obstacles.put(alloc, obstacle)?;
-                self.sides = total;
-                Ok(old.map(Part::Obstacle))
-            }
-            Part::Zone(zone) => {
-                self.zones.check_room(zone)?;
-                Ok(self.zones.put(alloc, zone)?.map(Part::Zone))
-            }
-            Part::Foliage(foliage) => {
-                self.foliage.check_room(foliage)?;
-                Ok(self.foliage.put(alloc, foliage)?.map(Part::Foliage))
-            }
-            Part::Receiver(receiver) => {
-                self.receivers.check_room(receiver)?;
-                Ok(self.receivers.put(alloc, receiver)?.map(Part::Receiver))
-            }
+            Part::Source(source) => self.sources.put_where_room(alloc, source),
+            Part::Obstacle(obstacle) => self.put_obstacle(alloc, obstacle),
+            Part::Zone(zone) => self.zones.put_where_room(alloc, zone),
+            Part::Foliage(foliage) => self.foliage.put_where_room(alloc, foliage),
+            Part::Receiver(receiver) => self.receivers.put_where_room(alloc, receiver),
         }
     }
 
@@ -252,26 +271,27 @@ impl Scene {
         ensures unchanged { OnErr result (self.new ≡ self.old) }
     {
         if self.sources.has(name) {
-            return Ok(self.sources.take(name)?.map(Part::Source));
+            return self.sources.take_part(name);
         }
         if self.obstacles.has(name) {
-            return Ok(self.take_obstacle(name)?.map(Part::Obstacle));
+            return self.take_obstacle(name);
         }
         if self.zones.has(name) {
-            return Ok(self.zones.take(name)?.map(Part::Zone));
+            return self.zones.take_part(name);
         }
         if self.foliage.has(name) {
-            return Ok(self.foliage.take(name)?.map(Part::Foliage));
+            return self.foliage.take_part(name);
         }
         if self.receivers.has(name) {
-            return Ok(self.receivers.take(name)?.map(Part::Receiver));
+            return self.receivers.take_part(name);
         }
         Ok(None)
     }
 
     /// Takes out the barrier or building of a name.
-    fn take_obstacle(&mut self, name: &[u8]) -> Result<Option<Obstacle>, NoMemory>
-        ensures value { IfOk result (λ taken. taken ≡ named (λ o. o.name) name.now self.old.obstacles) }
+    fn take_obstacle(&mut self, name: &[u8]) -> Result<Option<Part>, NoMemory>
+        ensures value { IfOk result (λ taken. taken
+            ≡ option_map parts.Obstacle (named (λ o. o.name) name.now self.old.obstacles)) }
         ensures left { OnOk result (self.new
             ≡ record self.old { obstacles = take_out (λ o. o.name) name.now self.old.obstacles }) }
         ensures unchanged { OnErr result (self.new ≡ self.old) }
@@ -280,7 +300,7 @@ impl Scene {
             return Ok(None);
         };
         self.sides -= sides(&obstacle);
-        Ok(Some(obstacle))
+        Ok(Some(Part::Obstacle(obstacle)))
     }
 
     /// Sets some of the globals.

@@ -1,13 +1,14 @@
 //! A register that copies of a scene share until one of them changes it.
-ghost use Rattle.std.specs.Prelude.{◌≡◌, ◌≤◌, [], ◌<◌, ◌^◌, length, IfOk, IfNone, OnOk, OnErr, is_some};
+ghost use Rattle.std.specs.Prelude.{◌≡◌, ◌≤◌, [], ◌<◌, ◌^◌, length, Ok, Err, IfOk, IfErr, IfNone, OnOk, OnErr, is_some, option_map};
 ghost use Rattle.std.specs.Option.{option_copied};
-ghost use Rattle.scene_book.specs.Applying.{room_in};
+ghost use Rattle.scene_parts.specs.Answers.{Unless};
+ghost use Rattle.scene_book.specs.Applying.{room_in, lacks_memory};
 ghost use Rattle.scene_book.specs.Lists.{named, place_of, put_in, take_out, put_all, AreApart};
 
 use super::edits::EditFault;
 use super::limits::at_most;
 use super::register::{Named, Register};
-use scene_parts::NoMemory;
+use scene_parts::{NoMemory, Part};
 use std::alloc::Global;
 use std::marker::Model;
 use std::sync::Arc;
@@ -117,6 +118,22 @@ impl<T: Named> Shared<T> {
         Arc::make_mut(register)?.put(alloc, thing)
     }
 
+    /// Puts a copy of a thing where there is room for it, else `Full`, and gives the part of its name that was there.
+    pub fn put_where_room(&mut self, alloc: Global, thing: &T) -> Result<Option<Part>, EditFault>
+        ensures fits { OnOk result (room_in T.CLASS T.MOST (put_in T.name_of thing.now self.old) ≡ Ok tt) }
+        ensures full { IfErr result (λ fault. Unless (lacks_memory fault)
+            (room_in T.CLASS T.MOST (put_in T.name_of thing.now self.old) ≡ Err fault)) }
+        ensures old { IfOk result (λ old. old
+            ≡ option_map T.part_of (named T.name_of (T.name_of thing.now) self.old)) }
+        ensures new { OnOk result (self.new ≡ put_in T.name_of thing.now self.old) }
+        ensures room { length self.old ≤ T.MOST → length self.new ≤ T.MOST }
+        ensures apart { AreApart T.name_of self.old → AreApart T.name_of self.new }
+        ensures err { OnErr result (self.new ≡ self.old) }
+    {
+        self.check_room(thing)?;
+        Ok(self.put(alloc, thing)?.map(T::into_part))
+    }
+
     /// Puts these things one after another. There is room for all before the first is put.
     pub fn put_all(&mut self, alloc: Global, news: Vec<T>) -> Result<(), NoMemory>
         ensures new { OnOk result (self.new ≡ put_all T.name_of news.items self.old) }
@@ -145,6 +162,18 @@ impl<T: Named> Shared<T> {
             return Ok(None);
         };
         Ok(Arc::make_mut(register)?.take(name))
+    }
+
+    /// Takes out the thing of a name and gives it as a part; the others close up.
+    pub fn take_part(&mut self, name: &[u8]) -> Result<Option<Part>, NoMemory>
+        ensures value { IfOk result (λ taken. taken
+            ≡ option_map T.part_of (named T.name_of name.now self.old)) }
+        ensures left { OnOk result (self.new ≡ take_out T.name_of name.now self.old) }
+        ensures apart { AreApart T.name_of self.old → AreApart T.name_of self.new }
+        ensures fewer { length self.new ≤ length self.old }
+        ensures err { OnErr result (self.new ≡ self.old) }
+    {
+        Ok(self.take(name)?.map(T::into_part))
     }
 
     /// The same things again, shared.
