@@ -1,28 +1,42 @@
 -- A worker's calls, as a desk says them.
 use Rattle.std.proofs.Common.{◌≡◌, ℕ, true, ◌++◌, refl, sym, ap, ◌∙◌, subst}
-use Rattle.std.specs.Prelude.{Contains, Some}
+use Rattle.std.specs.Prelude.{Contains, Some, [], ◌∷◌}
 use Rattle.std.specs.List.{Any}
 use Rattle.std.proofs.lemmas.List.{append-nil}
+use Rattle.std.proofs.lemmas.List.Elements.{All-nil, All-cons}
 use Rattle.receiver_workers.specs.declared.calls.SeatCall.TheVariants as worker_calls
 use Rattle.receiver_workers.specs.Owing.{job_in, LosesLast}
 use Rattle.turn_lock.specs.History.{entry}
 use Rattle.map_board.specs.declared.answers.Landed.{Landed}
 use Rattle.map_board.specs.declared.calls.Took.{Took}
 use Rattle.map_board.specs.declared.calls.Took.TheVariants as took
+use Rattle.map_board.specs.declared.calls.BoardCall.{BoardCall}
 use Rattle.map_board.specs.declared.calls.BoardCall.TheVariants as calls
+use Rattle.map_board.specs.declared.calls.BoardReply.{BoardReply}
 use Rattle.map_board.specs.declared.calls.BoardReply.TheVariants as replies
 use Rattle.map_board.specs.Jobs.{Answers}
 use Rattle.map_board.specs.Views.{Job, Answer}
 use Rattle.map_board.specs.Seats.{Entries, May, is_of, without_job, owed}
 use Rattle.scene_parts.specs.Views.{Receiver}
-use Rattle.map_lock.specs.Seats.{BoardSeat, IsSeat}
+use Rattle.map_lock.specs.Seats.{BoardSeat, BoardEntry, IsSeat}
 use Rattle.map_lock.specs.Turns.{HasTurned}
-use Rattle.map_lock.specs.Working.{taken_of, last_call}
+use Rattle.map_lock.specs.Working.{Follows, is_work, taken_of, last_call}
 use Rattle.map_lock.proofs.Apart.{loses-last, of-itself}
 use Rattle.map_lock.proofs.Entries.{owed-snoc, last-snoc}
 use Rattle.map_lock.proofs.Owing.{seat-apart}
+use Rattle.map_lock.proofs.Turning.{acted-once}
 
 module _ (before after : BoardSeat) where
+  -- a turn by a take, an offer or a give-back
+  pub follows-turned : (call : BoardCall) (reply : BoardReply) → is_work call ≡ true → HasTurned before call reply after
+      → Follows before after
+  follows-turned call reply work turned = record {
+    own = entry before.number call reply ∷ [];
+    acted = acted-once before after call reply turned;
+    kinds = All-cons (λ (e : BoardEntry). is_work e.call ≡ true) (entry before.number call reply) [] work
+        (All-nil (λ (e : BoardEntry). is_work e.call ≡ true));
+  }
+
   pub last-take : (took : Took) → HasTurned before calls.Take (replies.Took took) after
       → last_call after.mine ≡ Some (worker_calls.Take (taken_of took))
   last-take took turned = last-snoc before.mine after.mine (entry before.number calls.Take (replies.Took took))

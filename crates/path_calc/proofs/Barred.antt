@@ -37,7 +37,7 @@ bars_segment band ends segment o = counts_in band ends o && list_any (λ side. b
 abbrev pub near_sides : Side → List Obstacle → List Owned
 near_sides segment obstacles = filter (λ owned. cells_meet_of owned.side segment.from segment.to) (numbered (map sides_of obstacles))
 
-or-false : (b : Bool) → (b || false) ≡ b
+pub or-false : (b : Bool) → (b || false) ≡ b
 or-false true = refl
 or-false false = refl
 
@@ -45,7 +45,7 @@ or-assoc : (a b c : Bool) → ((a || b) || c) ≡ (a || (b || c))
 or-assoc true b c = refl
 or-assoc false b c = refl
 
-and-false : (b : Bool) → (b && false) ≡ false
+pub and-false : (b : Bool) → (b && false) ≡ false
 and-false true = refl
 and-false false = refl
 

@@ -20,3 +20,4 @@ pub mod Tracing
 pub mod Corners
 pub mod SmallEnds
 pub mod Barred
+pub mod Pushed

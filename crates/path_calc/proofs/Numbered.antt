@@ -1,8 +1,8 @@
 -- The obstacles that screen in a band, found by the crossings of the line of sight.
-use Rattle.std.proofs.Common.{◌≡◌, ℕ, zero, suc, ◌+◌, ◌<◌, Bool, true, false, List, [], ◌∷◌, ◌++◌, length, get_or, drop, map, filter, Option, refl, sym, ap, ◌∙◌, arith, append_assoc}
+use Rattle.std.proofs.Common.{◌≡◌, ℕ, zero, suc, ◌+◌, ◌<◌, ◌≤◌, Bool, true, false, List, [], ◌∷◌, ◌++◌, length, get_or, drop, map, filter, Option, refl, sym, ap, ◌∙◌, arith, append_assoc}
 use Rattle.std.specs.Prelude.{Some, None, not, ◌&&◌, ◌||◌, slice_get, if◌then◌else◌}
 use Rattle.std.specs.List.{list_any, filter_map, flat_map}
-use Rattle.std.proofs.lemmas.List.{drop_more}
+use Rattle.std.proofs.lemmas.List.{drop_more, drop_all, append-nil}
 use Rattle.scene_geom.specs.declared.plan.Pt.{Pt}
 use Rattle.scene_geom.specs.declared.plan.Side.{Side}
 use Rattle.scene_geom.specs.declared.band.Band.{Band}
@@ -39,6 +39,12 @@ pub number-passed : (band : Band) (before : Option ℕ) (crossings : List Crossi
     → found ++ numbers_after band before (drop (i + 1) crossings) ≡ total
 number-passed band before crossings i c found total below is e h =
     ap (λ (ns : List ℕ). found ++ ns) (sym (next-crossing band before crossings i c false below is e)) ∙ h
+
+-- behind the last crossing all numbers are found
+pub numbers-found : (band : Band) (crossings : List Crossing) (i : ℕ) (before : Option ℕ) (found all : List ℕ) → length crossings ≤ i
+    → found ++ numbers_after band before (drop i crossings) ≡ all → found ≡ all
+numbers-found band crossings i before found all end so_far =
+    sym (append-nil found) ∙ ap (λ (cs : List Crossing). found ++ numbers_after band before cs) (sym (drop_all i crossings end)) ∙ so_far
 
 -- ---- those of the obstacles that screen
 -- the numbers of those obstacles that screen, the first of them numbered i

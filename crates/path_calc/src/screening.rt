@@ -52,6 +52,24 @@ fn bars(
     ensures bounds { IfOk result (All IsScreening) }
 {
     let marks = &mut Vec::with_capacity(alloc, crossings.len())?;
+    bars_in_turn(marks, crossings, screens, ground, asked)
+}
+
+/// A_bar in each band that is asked for, of the crossings that count there, where the memory of the marks is lent to one
+/// band after the other.
+fn bars_in_turn(
+    marks: &mut Vec<bool>,
+    crossings: &[Crossing],
+    screens: &Screens,
+    ground: &[Iv; 8],
+    asked: &[bool; 8],
+) -> Result<[Iv; 8], NoMemory>
+    requires edges { screens.now.edges ≡ map (λ crossing. crossing.edge) crossings.now }
+    requires ground { All IsGroundEffect ground.now }
+    ensures value { IfOk result (λ bars. bars ≡ bars_over screens.now.path
+        (λ band. edges_among band crossings.now) screens.now.d ground.now (is_asked asked.now)) }
+    ensures bounds { IfOk result (All IsScreening) }
+{
     let at_63 = bar_asked(marks, crossings, screens, ground, asked, Band::Hz63)?;
     let at_125 = bar_asked(marks, crossings, screens, ground, asked, Band::Hz125)?;
     let at_250 = bar_asked(marks, crossings, screens, ground, asked, Band::Hz250)?;

@@ -1,5 +1,6 @@
 use Rattle.std.proofs.Common.{◌≡◌, ◌+◌, ◌<◌, ◌≤◌, ◌++◌, ◌∷◌, [], drop, take, length, sym, ap, ◌∙◌, subst, arith}
 use Rattle.std.proofs.lemmas.List.{length-append, length-take-le, length-drop}
+use Rattle.std.proofs.lemmas.Grind.{common_steps}
 use Rattle.path_cache.specs.Sums.{Fits}
 use Rattle.path_cache.specs.Origins.{Ascend, bundle_from, bundles_from}
 use Rattle.path_cache.proofs.Ascending.{here-kept, here-new, ascend-le, few-from, some-at, kept-at, and-then, drop-here}
@@ -68,3 +69,6 @@ loop-origin-preserved c =
                 (subst (λ k. Fits w.add.new.self (bundles_from kept (take (i + 1) origins) ++ drop k kept)) (sym w.next-is) after);
           }
     ]
+
+pub returns : goal.returns
+returns c = grind (arith, common_steps)

@@ -4,6 +4,7 @@ use Rattle.fix_interval.specs.Tree.{enc}
 use Rattle.scene_geom.specs.declared.band.Band.{Band}
 use Rattle.scene_geom.specs.Bands.{all_bands}
 use Rattle.scene_parts.specs.Views.{Source, Receiver}
+use Rattle.scene_parts.specs.Ranges.{IsHeight}
 use Rattle.scene_geom.specs.declared.fraction.Frac.{Frac}
 use Rattle.scene_geom.specs.Fraction.{over}
 use Rattle.path_shape.specs.Shape.{direct_path, plan_square}
@@ -80,3 +81,54 @@ returns-clause-trace c =
     ∙ ap (λ (found : List Reflected). c.lateral_screening.new.trace ++ map (λ (path : Reflected). path.wall) found)
     (c.as_slice-3.ensures.value ∙ c.in_ok-reflected.ensures.value ∙ ap (λ (e : Ends). map (reflected_of book.globals c.args.from.now e) (reflected_paths book e)) ends)
     ∙ ap (λ (l : List Seg). c.lateral_screening.new.trace ++ l) (walls-are book.globals c.args.from.now (ends_of s r) (reflected_paths book (ends_of s r))))
+
+pub along-requires-clause-path : goal.along-requires-clause-path
+along-requires-clause-path c = c.direct-path.ensures.path
+
+pub along-requires-clause-source : goal.along-requires-clause-source
+along-requires-clause-source c =
+    ap (λ (p : PreparedSource). p.h) c.requires.source ∙ ap (λ (s : Source). s.h) (sym c.source.view_is) ∙ ap (λ (p : Path). p.hs) (sym c.direct-path.ensures.value)
+
+pub along-requires-clause-receiver : goal.along-requires-clause-receiver
+along-requires-clause-receiver c =
+    c.requires.receiver ∙ ap (λ (r : Receiver). r.h) (sym c.receiver.view_is) ∙ ap (λ (p : Path). p.hr) (sym c.direct-path.ensures.value)
+
+pub along-requires-clause-source_height : goal.along-requires-clause-source_height
+along-requires-clause-source_height c =
+    subst (λ (p : Path). IsHeight p.hs) (sym c.direct-path.ensures.value) c.source.invariant.height
+
+pub along-requires-clause-receiver_height : goal.along-requires-clause-receiver_height
+along-requires-clause-receiver_height c =
+    subst (λ (p : Path). IsHeight p.hr) (sym c.direct-path.ensures.value) c.receiver.invariant.height
+
+pub along-requires-clause-square : goal.along-requires-clause-square
+along-requires-clause-square c = c.direct_square-square.ensures.range
+
+pub along-requires-clause-distance : goal.along-requires-clause-distance
+along-requires-clause-distance c = c.distance-distance.ensures.bounds
+
+pub lateral_screening-requires-clause-distance : goal.lateral_screening-requires-clause-distance
+lateral_screening-requires-clause-distance c = c.distance-distance.ensures.near
+
+pub lateral_screening-requires-clause-crossings : goal.lateral_screening-requires-clause-crossings
+lateral_screening-requires-clause-crossings c = c.as_slice-2.ensures.value ∙ c.in_ok-crossings.ensures
+
+pub reflected-requires-clause-source : goal.reflected-requires-clause-source
+reflected-requires-clause-source c =
+    ap (λ (p : PreparedSource). p.h) c.requires.source ∙ ap (λ (s : Source). s.h) (sym c.source.view_is)
+
+pub reflected-requires-clause-receiver : goal.reflected-requires-clause-receiver
+reflected-requires-clause-receiver c = c.requires.receiver ∙ ap (λ (r : Receiver). r.h) (sym c.receiver.view_is)
+
+pub reflected-requires-clause-source_height : goal.reflected-requires-clause-source_height
+reflected-requires-clause-source_height c = c.source.invariant.height
+
+pub reflected-requires-clause-receiver_height : goal.reflected-requires-clause-receiver_height
+reflected-requires-clause-receiver_height c = c.receiver.invariant.height
+
+pub returns-clause-range : goal.returns-clause-range
+returns-clause-range c = record {
+  direct = c.in_ok-direct.ensures.range;
+  lateral = c.in_ok-lateral.ensures.bounds;
+  few = c.in_ok-reflected.ensures.few;
+}

@@ -1,6 +1,7 @@
 -- The line is gathered by scans and reads, and the last of them decides the answer.
 use Rattle.std.proofs.Common.{◌≡◌, ◌∙◌, sym, ap, subst, refl, List, ℕ, arith}
 use Rattle.std.specs.Prelude.{Contains}
+use Rattle.std.proofs.lemmas.Grind.{common_steps}
 use Rattle.map_io.specs.Reading.{Reading}
 use Rattle.map_io.specs.declared.reader.Stop.TheVariants.{Going, AfterFault}
 use Rattle.map_io.proofs.Scanning.{scan_had_none}
@@ -54,3 +55,6 @@ returns-in-AtLimit-clause-gives g c =
     let scan = c.if-scan.ensures in
     let stop = sym (ap (λ (r : Reading). r.stop) c.self-in-loop-self.view_is) ∙ c.in-AtLimit.is in
     reaches_limit _ c.scan.new.self _ _ _ _ (gather_all _ c.loop-self.self _ _ _ c.loop-self.invariant.gathers scan) (scan.all refl) c.fill.ensures.fills stop
+
+pub loop-self-init : goal.loop-self-init
+loop-self-init g c = grind (arith, common_steps)
