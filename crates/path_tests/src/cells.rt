@@ -32,7 +32,7 @@ const CITY: [Row; 8] = [
 ];
 
 /// What is near in the city.
-const IN_CITY: [Query; 23] = [
+const IN_CITY: &[Query] = &[
     (
         (5_000, -5_000),
         (5_000, 5_000),
@@ -121,7 +121,7 @@ const PLAN: [Row; 8] = [
 ];
 
 /// What is near in the plan.
-const IN_PLAN: [Query; 19] = [
+const IN_PLAN: &[Query] = &[
     (
         (-END, END),
         (END, -END),
@@ -167,7 +167,7 @@ const IN_PLAN: [Query; 19] = [
 type Way = (At, (i64, i64, i64), (i64, i64), &'static str);
 
 /// What is near ways in the city: some end a fraction of a millimetre before the border of a cell, or leave the plan.
-const WAYS: [Way; 16] = [
+const WAYS: &[Way] = &[
     ((0, 0), (1, 0, 1), (65_535, 1), "0.0 3.0 0.1"),
     ((0, 0), (1, 0, 1), (65_536, 1), "0.0 1.1 3.0 0.1"),
     ((0, 0), (3, 1, 7), (458_752, 3), "0.0 1.1 3.0 0.1"),
@@ -276,6 +276,12 @@ fn listed(alloc: Global, places: &[Place]) -> Result<String, AllocError> {
     Ok(text)
 }
 
+/// What a query found, as the tables show it.
+fn listed_found(alloc: Global, found: &Found) -> Result<String, AllocError> {
+    let places = places(alloc, found)?;
+    listed(alloc, places.as_slice())
+}
+
 /// What is near the segment and the box of two points, by lent buffers.
 fn told(
     alloc: Global,
@@ -286,9 +292,9 @@ fn told(
 ) -> Result<(String, String), AllocError> {
     let (low, high) = corners(a, b);
     grid.find_near(at(a), at(b), found)?;
-    let near = listed(alloc, places(alloc, found)?.as_slice())?;
+    let near = listed_found(alloc, found)?;
     grid.find_near_box(low, high, found)?;
-    let boxed = listed(alloc, places(alloc, found)?.as_slice())?;
+    let boxed = listed_found(alloc, found)?;
     Ok((near, boxed))
 }
 
@@ -309,6 +315,36 @@ fn expect_texts(rt: &impl Abort, texts: (String, String), row: Query) {
     assert!(rt; texts.1.as_str() == row.3);
 }
 
+/// Expects what a row tells, by lent buffers and by new ones.
+fn expect_row(
+    rt: &impl Abort,
+    alloc: Global,
+    grid: &Grid,
+    row: &Query,
+    found: &mut Found,
+) -> Result<(), AllocError> {
+    let lent = told(alloc, grid, row.0, row.1, found)?;
+    expect_texts(rt, lent, *row);
+    let anew = told_anew(alloc, grid, row.0, row.1)?;
+    expect_texts(rt, anew, *row);
+    Ok(())
+}
+
+/// Expects what these rows tell of a grid.
+fn expect_in_grid(
+    rt: &impl Abort,
+    alloc: Global,
+    grid: &Grid,
+    rows: &[Query],
+) -> Result<(), AllocError> {
+    let mut found = Found::new(alloc);
+    for row in rows {
+        expect_row(rt, alloc, grid, row, &mut found)?;
+    }
+    Ok(())
+}
+
+/// Expects what these rows tell of the grid of these sides.
 fn expect_rows(
     rt: &impl Abort,
     alloc: Global,
@@ -316,48 +352,56 @@ fn expect_rows(
     rows: &[Query],
 ) -> Result<(), AllocError> {
     let grid = Grid::build(alloc, sides)?;
-    let mut found = Found::new(alloc);
-    for row in rows {
-        let lent = told(alloc, &grid, row.0, row.1, &mut found)?;
-        expect_texts(rt, lent, *row);
-        let anew = told_anew(alloc, &grid, row.0, row.1)?;
-        expect_texts(rt, anew, *row);
-    }
-    Ok(())
+    expect_in_grid(rt, alloc, &grid, rows)
 }
 
 #[test]
 fn the_city_has_these_near(rt: HostRuntime) -> Result<(), Fail> {
     let sides = sides(rt.alloc(), &CITY)?;
-    Ok(expect_rows(&rt, rt.alloc(), sides.as_slice(), &IN_CITY)?)
+    Ok(expect_rows(&rt, rt.alloc(), sides.as_slice(), IN_CITY)?)
 }
 
 #[test]
 fn the_plan_has_these_near(rt: HostRuntime) -> Result<(), Fail> {
     let sides = sides(rt.alloc(), &PLAN)?;
-    Ok(expect_rows(&rt, rt.alloc(), sides.as_slice(), &IN_PLAN)?)
+    Ok(expect_rows(&rt, rt.alloc(), sides.as_slice(), IN_PLAN)?)
 }
 
-#[test]
-fn nothing_is_near_without_sides(rt: HostRuntime) -> Result<(), Fail> {
-    let grid = Grid::build(rt.alloc(), &[])?;
-    let near = grid.near(rt.alloc(), at((-END, -END)), at((END, END)))?;
+/// Expects nothing near from corner to corner of the plan.
+fn expect_nothing(rt: &impl Abort, alloc: Global, grid: &Grid) -> Result<(), AllocError> {
+    let near = grid.near(alloc, at((-END, -END)), at((END, END)))?;
     assert_eq!(rt; near.len(), 0);
     Ok(())
 }
 
 #[test]
+fn nothing_is_near_without_sides(rt: HostRuntime) -> Result<(), Fail> {
+    let grid = Grid::build(rt.alloc(), &[])?;
+    Ok(expect_nothing(&rt, rt.alloc(), &grid)?)
+}
+
+#[test]
 fn cells_meet_where_they_are_near(rt: HostRuntime) {
     let wall = side((200_000, 0), (210_000, 0));
-    assert!(rt; cells_meet(wall, at((5000, 0)), at((205_000, 5000))));
-    assert!(rt; !cells_meet(wall, at((5000, -5000)), at((5000, 5000))));
-    assert!(rt;
-        !cells_meet(
-            side((0, 0), (10_000, 0)),
-            at((5000, -5000)),
-            at((205_000, 5000))
-        )
-    );
+    let other = side((0, 0), (10_000, 0));
+    let met = [
+        cells_meet(wall, at((5000, 0)), at((205_000, 5000))),
+        cells_meet(wall, at((5000, -5000)), at((5000, 5000))),
+        cells_meet(other, at((5000, -5000)), at((205_000, 5000))),
+    ];
+    assert!(rt; met == [true, false, false]);
+}
+
+/// Expects this text of what a query found.
+fn expect_found(
+    rt: &impl Abort,
+    alloc: Global,
+    found: &Found,
+    expected: &str,
+) -> Result<(), AllocError> {
+    let near = listed_found(alloc, found)?;
+    assert!(rt; near.as_str() == expected);
+    Ok(())
 }
 
 /// Expects the places near a way.
@@ -379,18 +423,26 @@ fn expect_way(
         d: d.clamp(1, 5_940_000_000_000).into(),
     };
     grid.find_near_way(at(from), dir, end, found)?;
-    let near = listed(alloc, places(alloc, found)?.as_slice())?;
-    assert!(rt; near.as_str() == expected);
+    expect_found(rt, alloc, found, expected)
+}
+
+/// Expects the places near all ways.
+fn expect_ways(rt: &impl Abort, alloc: Global, grid: &Grid) -> Result<(), AllocError> {
+    let mut found = Found::new(alloc);
+    for way in WAYS {
+        expect_way(rt, alloc, grid, way, &mut found)?;
+    }
     Ok(())
+}
+
+/// The grid of the sides of a table.
+fn grid_of_rows(alloc: Global, rows: &[Row]) -> Result<Grid, AllocError> {
+    let sides = sides(alloc, rows)?;
+    Grid::build(alloc, sides.as_slice())
 }
 
 #[test]
 fn the_city_has_these_near_ways(rt: HostRuntime) -> Result<(), Fail> {
-    let sides = sides(rt.alloc(), &CITY)?;
-    let grid = Grid::build(rt.alloc(), sides.as_slice())?;
-    let mut found = Found::new(rt.alloc());
-    for way in &WAYS {
-        expect_way(&rt, rt.alloc(), &grid, way, &mut found)?;
-    }
-    Ok(())
+    let grid = grid_of_rows(rt.alloc(), &CITY)?;
+    Ok(expect_ways(&rt, rt.alloc(), &grid)?)
 }

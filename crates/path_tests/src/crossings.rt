@@ -1,10 +1,12 @@
 //! Cuts of lines of sight, by an independent exact program.
+ghost use Rattle.std.specs.Prelude.{◌<◌, ◌^◌, length};
+
 use crate::obstacles::{Wall, obstacles};
 use crate::places::at;
 use scene_geom::Band;
-use scene_parts::{Cut, Obstacle, Shape};
+use scene_parts::{Cut, NoMemory, Obstacle, Shape};
 use sight_cut::{cuts, cuts_near, grid_of};
-use std::alloc::{AllocError, Global};
+use std::alloc::Global;
 use std::process::Abort;
 use std::test::Fail;
 
@@ -20,7 +22,7 @@ struct Case {
     cuts: &'static [Expected],
 }
 
-const CASES: [Case; 10] = [
+const CASES: &[Case] = &[
     // The top on the line of sight, one millimetre below and one above.
     Case {
         obstacles: &[
@@ -179,12 +181,52 @@ fn told(cut: &Cut) -> Expected {
     (cut.obstacle, cut.side, cut.t.n, cut.t.d, cut.above)
 }
 
+/// Asserts that this cut is found.
+fn is_found(rt: &impl Abort, cut: &Cut, expected: &Expected) {
+    assert_eq!(rt; told(cut), *expected);
+}
+
 /// Asserts that these cuts are found.
 fn are_found(rt: &impl Abort, found: &[Cut], expected: &[Expected]) {
     assert_eq!(rt; found.len(), expected.len());
     for (cut, expected) in found.iter().zip(expected) {
-        assert_eq!(rt; told(cut), *expected);
+        is_found(rt, cut, expected);
     }
+}
+
+/// Asserts where the line of a case is cut, as found among all sides.
+fn is_cut_among_all(
+    rt: &impl Abort,
+    alloc: Global,
+    case: &Case,
+    obstacles: &[Obstacle],
+) -> Result<(), NoMemory>
+    requires few { length obstacles.now < 2 ^ 32 }
+{
+    let (sx, sy, hs) = case.source;
+    let (rx, ry, hr) = case.receiver;
+    let (s, r) = (at((sx, sy)), at((rx, ry)));
+    let found = cuts(alloc, obstacles, s, hs, r, hr, case.band)?;
+    are_found(rt, &found, case.cuts);
+    Ok(())
+}
+
+/// Asserts where the line of a case is cut, as found by the index of sides.
+fn is_cut_near(
+    rt: &impl Abort,
+    alloc: Global,
+    case: &Case,
+    obstacles: &[Obstacle],
+) -> Result<(), NoMemory>
+    requires few { length obstacles.now < 2 ^ 32 }
+{
+    let (sx, sy, hs) = case.source;
+    let (rx, ry, hr) = case.receiver;
+    let (s, r) = (at((sx, sy)), at((rx, ry)));
+    let grid = grid_of(alloc, obstacles)?;
+    let near = cuts_near(alloc, &grid, obstacles, s, hs, r, hr, case.band)?;
+    are_found(rt, &near, case.cuts);
+    Ok(())
 }
 
 /// Asserts where these obstacles cut the line of a case.
@@ -193,30 +235,22 @@ fn is_cut(
     alloc: Global,
     case: &Case,
     obstacles: &[Obstacle],
-) -> Result<(), AllocError> {
+) -> Result<(), NoMemory> {
     assert!(rt; obstacles.len() == case.obstacles.len() && obstacles.len() < 100);
-    let (sx, sy, hs) = case.source;
-    let (rx, ry, hr) = case.receiver;
-    let (s, r) = (at((sx, sy)), at((rx, ry)));
-    let Ok(found) = cuts(alloc, obstacles, s, hs, r, hr, case.band) else {
-        return Err(AllocError);
-    };
-    are_found(rt, &found, case.cuts);
-    let Ok(grid) = grid_of(alloc, obstacles) else {
-        return Err(AllocError);
-    };
-    let Ok(near) = cuts_near(alloc, &grid, obstacles, s, hs, r, hr, case.band) else {
-        return Err(AllocError);
-    };
-    are_found(rt, &near, case.cuts);
-    Ok(())
+    is_cut_among_all(rt, alloc, case, obstacles)?;
+    is_cut_near(rt, alloc, case, obstacles)
+}
+
+/// Asserts where the obstacles of a case cut its line.
+fn expect_cuts(rt: &impl Abort, alloc: Global, case: &Case) -> Result<(), NoMemory> {
+    let obstacles = obstacles(alloc, case.obstacles)?;
+    is_cut(rt, alloc, case, &obstacles)
 }
 
 #[test]
 fn lines_of_sight_are_cut(rt: HostRuntime) -> Result<(), Fail> {
-    for case in &CASES {
-        let obstacles = obstacles(rt.alloc(), case.obstacles)?;
-        is_cut(&rt, rt.alloc(), case, &obstacles)?;
+    for case in CASES {
+        expect_cuts(&rt, rt.alloc(), case)?;
     }
     Ok(())
 }

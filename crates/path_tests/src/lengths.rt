@@ -3,6 +3,7 @@
 use crate::places::at;
 use path_shape::Path;
 use scene_geom::{Pt, Side, is_short, on_one_side};
+use std::process::Abort;
 
 /// The places of a source and a receiver in mm, and the ends of the plan length in units of 2^-32 m.
 const LENGTHS: [((i64, i64), (i64, i64), (i128, i128)); 5] = [
@@ -21,12 +22,17 @@ const LENGTHS: [((i64, i64), (i64, i64), (i128, i128)); 5] = [
     ),
 ];
 
+/// Asserts the ends of the plan length of a path, and its heights.
+fn has_length(rt: &impl Abort, path: &Path, (lo, hi): (i128, i128)) {
+    assert_eq!(rt; (path.dp.low(), path.dp.high()), (Some(lo), Some(hi)));
+    assert_eq!(rt; (path.hs, path.hr), (1, 100_000));
+}
+
 #[test]
 fn paths_have_these_lengths(rt: HostRuntime) {
-    for (source, receiver, (lo, hi)) in LENGTHS {
+    for (source, receiver, length) in LENGTHS {
         let path = Path::direct(at(source), 1, at(receiver), 100_000);
-        assert_eq!(rt; (path.dp.low(), path.dp.high()), (Some(lo), Some(hi)));
-        assert_eq!(rt; (path.hs, path.hr), (1, 100_000));
+        has_length(&rt, &path, length);
     }
 }
 
@@ -63,17 +69,14 @@ const REFLECTED: [([(i64, i64); 4], (i128, i128)); 3] = [
 
 #[test]
 fn paths_by_way_of_walls_have_these_lengths(rt: HostRuntime) {
-    for ([from, to, source, receiver], (lo, hi)) in REFLECTED {
+    for ([from, to, source, receiver], length) in REFLECTED {
         let side = Side {
             from: at(from),
             to: at(to),
         };
         match reflected(side, at(source), at(receiver)) {
             None => assert!(rt; false, "{side:?}"),
-            Some(path) => {
-                assert_eq!(rt; (path.dp.low(), path.dp.high()), (Some(lo), Some(hi)));
-                assert_eq!(rt; (path.hs, path.hr), (1, 100_000));
-            }
+            Some(path) => has_length(&rt, &path, length),
         }
     }
 }

@@ -1,9 +1,13 @@
 //! What is found by the index of obstacles, beside what is found by a look at all sides, in a town over several hundred
 //! cells.
+ghost use Rattle.std.specs.Prelude.{◌≡◌, ◌<◌, ◌^◌, length, map};
+ghost use Rattle.scene_parts.specs.Sides.{sides_of};
+ghost use Rattle.part_grid.specs.Numbered.{numbered};
+
 use crate::obstacles::add_obstacle;
 use crate::places::at;
-use image_source::{Leg, leg_crossings, leg_crossings_near, mirror};
-use part_grid::Found;
+use image_source::{Leg, Mirror, leg_crossings, leg_crossings_near, mirror};
+use part_grid::{Found, Grid};
 use scene_geom::Pt;
 use scene_parts::{Crossing, Ends, NoMemory, Obstacle, Shape, sides};
 use sight_cut::{crossings, crossings_near, grid_of};
@@ -73,6 +77,74 @@ fn is_same(rt: &impl Abort, a: &Crossing, b: &Crossing) {
     assert_eq!(rt; a.bands, b.bands);
 }
 
+/// Asserts that the same crossings are in both lists.
+fn are_same(rt: &impl Abort, all: &[Crossing], near: &[Crossing]) {
+    assert_eq!(rt; all.len(), near.len());
+    for (a, b) in all.iter().zip(near) {
+        is_same(rt, a, b);
+    }
+}
+
+/// Asserts that both searches find the same on a line of sight, and counts it.
+fn compare_lines(
+    rt: &impl Abort,
+    alloc: Global,
+    grid: &Grid,
+    obstacles: &[Obstacle],
+    ends: Ends,
+    found: &mut Found,
+) -> Result<usize, NoMemory>
+    requires few { length obstacles.now < 2 ^ 32 }
+    requires stands { grid.now ≡ numbered (map sides_of obstacles.now) }
+{
+    let all = crossings(alloc, obstacles, ends)?;
+    let near = crossings_near(alloc, grid, obstacles, ends, found)?;
+    are_same(rt, &all, &near);
+    Ok(all.len())
+}
+
+/// Asserts that both searches find the same on the legs of a reflection, and counts it.
+fn compare_legs(
+    rt: &impl Abort,
+    alloc: Global,
+    grid: &Grid,
+    obstacles: &[Obstacle],
+    m: &Mirror,
+    ends: Ends,
+    found: &mut Found,
+) -> Result<usize, NoMemory>
+    requires few { length obstacles.now < 2 ^ 32 }
+    requires stands { grid.now ≡ numbered (map sides_of obstacles.now) }
+{
+    let all = leg_crossings(alloc, obstacles, m, ends)?;
+    let near = leg_crossings_near(alloc, grid, obstacles, m, ends, found)?;
+    are_same_on_legs(rt, &all, &near);
+    Ok(all.len())
+}
+
+/// Asserts that both searches find the same on the legs of all reflections in a wall, and counts the most of them.
+fn compare_wall(
+    rt: &impl Abort,
+    alloc: Global,
+    grid: &Grid,
+    obstacles: &[Obstacle],
+    wall: &Obstacle,
+    ends: Ends,
+    found: &mut Found,
+) -> Result<usize, NoMemory>
+    requires few { length obstacles.now < 2 ^ 32 }
+    requires stands { grid.now ≡ numbered (map sides_of obstacles.now) }
+{
+    let mut legs = 0;
+    for i in 0..sides(wall) {
+        if let Some(m) = mirror(wall, i, ends.s, ends.hs, ends.r, ends.hr) {
+            let count = compare_legs(rt, alloc, grid, obstacles, &m, ends, found)?;
+            legs = count.max(legs);
+        }
+    }
+    Ok(legs)
+}
+
 /// Asserts that both searches find the same on a line of sight, and on the legs of all reflections between its ends.
 fn compare(
     rt: &impl Abort,
@@ -83,32 +155,16 @@ fn compare(
 ) -> Result<Counts, NoMemory> {
     assert!(rt; obstacles.len() < 1000);
     let grid = grid_of(alloc, obstacles)?;
-    let all = crossings(alloc, obstacles, ends)?;
-    let near = crossings_near(alloc, &grid, obstacles, ends, found)?;
-    assert_eq!(rt; all.len(), near.len());
-    for (a, b) in all.iter().zip(near.iter()) {
-        is_same(rt, a, b);
-    }
+    let lines = compare_lines(rt, alloc, &grid, obstacles, ends, found)?;
     let mut legs = 0;
     for wall in obstacles {
-        for i in 0..sides(wall) {
-            let Some(m) = mirror(wall, i, ends.s, ends.hs, ends.r, ends.hr) else {
-                continue;
-            };
-            let all = leg_crossings(alloc, obstacles, &m, ends)?;
-            let near = leg_crossings_near(alloc, &grid, obstacles, &m, ends, found)?;
-            are_same(rt, &all, &near);
-            legs = all.len().max(legs);
-        }
+        legs = compare_wall(rt, alloc, &grid, obstacles, wall, ends, found)?.max(legs);
     }
-    Ok(Counts {
-        lines: all.len(),
-        legs,
-    })
+    Ok(Counts { lines, legs })
 }
 
 /// Asserts that the same crossings of legs are in both lists.
-fn are_same(rt: &impl Abort, all: &[(Leg, Crossing)], near: &[(Leg, Crossing)]) {
+fn are_same_on_legs(rt: &impl Abort, all: &[(Leg, Crossing)], near: &[(Leg, Crossing)]) {
     assert_eq!(rt; all.len(), near.len());
     for (a, b) in all.iter().zip(near) {
         assert_eq!(rt; a.0, b.0);

@@ -22,12 +22,26 @@ pub(crate) fn add_obstacle(
     corners: &[(i64, i64)],
     (h, rho): (i64, i64),
 ) -> Result<(), AllocError> {
+    let points = outline(alloc, corners)?;
+    let name = PlainName::from_vec(b"a".to_vec(alloc)?);
+    add_accepted(alloc, obstacles, raw(shape, name, points, h, rho))
+}
+
+/// The outline of these corners, in mm.
+fn outline(alloc: Global, corners: &[(i64, i64)]) -> Result<RawPoints, AllocError> {
     let mut points = Vec::new(alloc);
     for (x, y) in corners {
         points.push(RawPt { x: *x, y: *y })?;
     }
-    let name = PlainName::from_vec(b"a".to_vec(alloc)?);
-    let raw = raw(shape, name, RawPoints::from_vec(points), h, rho);
+    Ok(RawPoints::from_vec(points))
+}
+
+/// Adds an obstacle that is accepted.
+fn add_accepted(
+    alloc: Global,
+    obstacles: &mut Vec<Obstacle>,
+    raw: RawPart,
+) -> Result<(), AllocError> {
     if let Ok(Checked::Part(Part::Obstacle(obstacle))) = check(alloc, raw) {
         obstacles.push(obstacle)?;
     }

@@ -1,10 +1,12 @@
 //! Reflections, cuts of their legs and condition (19), by an independent exact program.
+ghost use Rattle.std.specs.Prelude.{◌<◌, ◌^◌, length};
+
 use crate::obstacles::{Wall, obstacles};
 use crate::places;
 use fix_interval::{Truth, hull, ratio};
 use image_source::{Leg, Mirror, big_enough, leg_cuts, leg_cuts_near, mirror};
 use scene_geom::{Band, Pt};
-use scene_parts::{Cut, Obstacle, Shape, sides};
+use scene_parts::{Cut, NoMemory, Obstacle, Shape, sides};
 use sight_cut::grid_of;
 use std::alloc::{AllocError, Global};
 use std::process::Abort;
@@ -94,7 +96,7 @@ const WEST: Place = (-4000000, -3990000, 1);
 
 const SOUTH: Place = (-3990000, -4000000, 100000);
 
-const MIRRORS: [Row; 17] = [
+const MIRRORS: &[Row] = &[
     // The specular point at an end of the side, and one millimetre inside of either.
     (
         (
@@ -305,11 +307,17 @@ fn is_mirrored(rt: &impl Abort, obstacles: &[Obstacle], row: &Row) {
     assert!(rt; found.map(|m| parts(&m)) == *expected);
 }
 
+/// Asserts what a row tells of the reflection in its obstacle.
+fn expect_mirror(rt: &impl Abort, alloc: Global, row: &Row) -> Result<(), AllocError> {
+    let obstacles = obstacles(alloc, &[row.0])?;
+    is_mirrored(rt, &obstacles, row);
+    Ok(())
+}
+
 #[test]
 fn walls_reflect(rt: HostRuntime) -> Result<(), Fail> {
-    for row in &MIRRORS {
-        let obstacles = obstacles(rt.alloc(), &[row.0])?;
-        is_mirrored(&rt, &obstacles, row);
+    for row in MIRRORS {
+        expect_mirror(&rt, rt.alloc(), row)?;
     }
     Ok(())
 }
@@ -330,7 +338,7 @@ struct Case {
 /// A barrier of 0.2 m.
 const POST: Wall = (Shape::Barrier, &[(24900, 15000), (25100, 14900)], 9000, 0);
 
-const CASES: [Case; 7] = [
+const CASES: &[Case] = &[
     // A barrier across both legs, one across the first, and a building across the second; the last one is the wall.
     Case {
         obstacles: &[
@@ -538,39 +546,66 @@ fn are_found(rt: &impl Abort, found: &[(Leg, Cut)], expected: &[Expected]) {
     }
 }
 
+/// Asserts where the legs of a case are cut, as found among all sides.
+fn is_cut_among_all(
+    rt: &impl Abort,
+    alloc: Global,
+    case: &Case,
+    obstacles: &[Obstacle],
+    m: &Mirror,
+) -> Result<(), NoMemory>
+    requires few { length obstacles.now < 2 ^ 32 }
+{
+    let (s, r) = (at(case.source), at(case.receiver));
+    let (hs, hr) = (case.source.2, case.receiver.2);
+    let found = leg_cuts(alloc, obstacles, m, s, hs, r, hr, case.band)?;
+    are_found(rt, &found, case.cuts);
+    Ok(())
+}
+
+/// Asserts where the legs of a case are cut, as found by the index of sides.
+fn is_cut_near(
+    rt: &impl Abort,
+    alloc: Global,
+    case: &Case,
+    obstacles: &[Obstacle],
+    m: &Mirror,
+) -> Result<(), NoMemory>
+    requires few { length obstacles.now < 2 ^ 32 }
+{
+    let (s, r) = (at(case.source), at(case.receiver));
+    let (hs, hr) = (case.source.2, case.receiver.2);
+    let grid = grid_of(alloc, obstacles)?;
+    let near = leg_cuts_near(alloc, &grid, obstacles, m, s, hs, r, hr, case.band)?;
+    are_found(rt, &near, case.cuts);
+    Ok(())
+}
+
 /// Asserts where these obstacles cut the legs of a case.
 fn is_cut(
     rt: &impl Abort,
     alloc: Global,
     case: &Case,
     obstacles: &[Obstacle],
-) -> Result<(), AllocError> {
+) -> Result<(), NoMemory> {
     assert!(rt; case.wall < obstacles.len() && obstacles.len() < 100);
-    let (source, receiver) = (case.source, case.receiver);
-    let Some(m) = mirror_at(&obstacles[case.wall], 0, source, receiver) else {
-        return Err(AllocError);
+    let Some(m) = mirror_at(&obstacles[case.wall], 0, case.source, case.receiver) else {
+        return Err(NoMemory);
     };
-    let (s, r) = (at(source), at(receiver));
-    let (hs, hr) = (source.2, receiver.2);
-    let Ok(found) = leg_cuts(alloc, obstacles, &m, s, hs, r, hr, case.band) else {
-        return Err(AllocError);
-    };
-    are_found(rt, &found, case.cuts);
-    let Ok(grid) = grid_of(alloc, obstacles) else {
-        return Err(AllocError);
-    };
-    let Ok(near) = leg_cuts_near(alloc, &grid, obstacles, &m, s, hs, r, hr, case.band) else {
-        return Err(AllocError);
-    };
-    are_found(rt, &near, case.cuts);
-    Ok(())
+    is_cut_among_all(rt, alloc, case, obstacles, &m)?;
+    is_cut_near(rt, alloc, case, obstacles, &m)
+}
+
+/// Asserts where the obstacles of a case cut its legs.
+fn expect_cuts(rt: &impl Abort, alloc: Global, case: &Case) -> Result<(), NoMemory> {
+    let obstacles = obstacles(alloc, case.obstacles)?;
+    is_cut(rt, alloc, case, &obstacles)
 }
 
 #[test]
 fn legs_are_cut(rt: HostRuntime) -> Result<(), Fail> {
-    for case in &CASES {
-        let obstacles = obstacles(rt.alloc(), case.obstacles)?;
-        is_cut(&rt, rt.alloc(), case, &obstacles)?;
+    for case in CASES {
+        expect_cuts(&rt, rt.alloc(), case)?;
     }
     Ok(())
 }
@@ -582,7 +617,7 @@ type Condition = (Wall, Place, Place, (i128, i128), Band, Truth);
 /// The length by way of the wall from source to receiver.
 const LENGTH: (i128, i128) = (500874953858, 500874953859);
 
-const CONDITIONS: [Condition; 9] = [
+const CONDITIONS: &[Condition] = &[
     // The wavelength is too great up to 500 Hz, and small enough from 1 kHz on.
     (WALL, SOURCE, RECEIVER, LENGTH, Band::Hz63, Truth::Never),
     (WALL, SOURCE, RECEIVER, LENGTH, Band::Hz500, Truth::Never),
@@ -660,11 +695,16 @@ fn is_tested(rt: &impl Abort, obstacles: &[Obstacle], row: &Condition) -> Result
     Ok(())
 }
 
+/// Asserts what a row tells of the condition on its obstacle.
+fn expect_truth(rt: &impl Abort, alloc: Global, row: &Condition) -> Result<(), AllocError> {
+    let obstacles = obstacles(alloc, &[row.0])?;
+    is_tested(rt, &obstacles, row)
+}
+
 #[test]
 fn surfaces_are_large_enough(rt: HostRuntime) -> Result<(), Fail> {
-    for row in &CONDITIONS {
-        let obstacles = obstacles(rt.alloc(), &[row.0])?;
-        is_tested(&rt, &obstacles, row)?;
+    for row in CONDITIONS {
+        expect_truth(&rt, rt.alloc(), row)?;
     }
     Ok(())
 }

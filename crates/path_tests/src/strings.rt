@@ -17,7 +17,7 @@ struct Case {
     chain: &'static [Spot],
 }
 
-const CASES: [Case; 15] = [
+const CASES: &[Case] = &[
     // Three points of an arch and one below it, on either hand, and the other way.
     Case {
         points: &[(2, 3), (5, 5), (8, 3), (5, 2)],
@@ -176,6 +176,14 @@ fn corners(alloc: Global, spots: &[Spot]) -> Result<Vec<Pt>, AllocError> {
     Ok(points)
 }
 
+/// Asserts that these points are at these spots.
+fn are_at(rt: &impl Abort, points: &[Pt], spots: &[Spot]) {
+    assert_eq!(rt; points.len(), spots.len());
+    for (point, expected) in points.iter().zip(spots) {
+        assert_eq!(rt; spot(*point), *expected);
+    }
+}
+
 /// Asserts the string round these points.
 fn is_stretched(
     rt: &impl Abort,
@@ -186,18 +194,20 @@ fn is_stretched(
     let Ok(found) = chain(alloc, points, at(case.source), at(case.receiver), case.hand) else {
         return Err(AllocError);
     };
-    assert_eq!(rt; found.len(), case.chain.len());
-    for (point, expected) in found.iter().zip(case.chain) {
-        assert_eq!(rt; spot(*point), *expected);
-    }
+    are_at(rt, &found, case.chain);
     Ok(())
+}
+
+/// Asserts the string round the points of a case.
+fn expect_string(rt: &impl Abort, alloc: Global, case: &Case) -> Result<(), AllocError> {
+    let points = corners(alloc, case.points)?;
+    is_stretched(rt, alloc, case, &points)
 }
 
 #[test]
 fn strings_are_stretched(rt: HostRuntime) -> Result<(), Fail> {
-    for case in &CASES {
-        let points = corners(rt.alloc(), case.points)?;
-        is_stretched(&rt, rt.alloc(), case, &points)?;
+    for case in CASES {
+        expect_string(&rt, rt.alloc(), case)?;
     }
     Ok(())
 }
@@ -217,24 +227,27 @@ fn arch(alloc: Global) -> Result<Vec<Pt>, AllocError> {
     Ok(points)
 }
 
-#[test]
-fn all_points_of_an_arch_stay(rt: HostRuntime) -> Result<(), Fail> {
-    let alloc = rt.alloc();
-    let points = arch(alloc)?;
-    let Ok(found) = chain(
-        alloc,
-        points.as_slice(),
-        at((0, 0)),
-        at((1025, 0)),
-        Hand::Left,
-    ) else {
-        return Err(AllocError.into());
-    };
-    assert_eq!(rt; found.len(), 1024);
-    for (point, i) in found.as_slice().iter().zip(1..1025u32) {
+/// Asserts that these are all points of the arch, in their order on it.
+fn are_on_arch(rt: &impl Abort, points: &[Pt]) {
+    assert_eq!(rt; points.len(), 1024);
+    for (point, i) in points.iter().zip(1..1025u32) {
         assert_eq!(rt; spot(*point), on_arch(i));
     }
+}
+
+/// Asserts that the string round the arch goes by all its points.
+fn expect_arch(rt: &impl Abort, alloc: Global, points: &[Pt]) -> Result<(), AllocError> {
+    let Ok(found) = chain(alloc, points, at((0, 0)), at((1025, 0)), Hand::Left) else {
+        return Err(AllocError);
+    };
+    are_on_arch(rt, &found);
     Ok(())
+}
+
+#[test]
+fn all_points_of_an_arch_stay(rt: HostRuntime) -> Result<(), Fail> {
+    let points = arch(rt.alloc())?;
+    Ok(expect_arch(&rt, rt.alloc(), &points)?)
 }
 
 #[test]

@@ -3,7 +3,7 @@ ghost use Rattle.scene_parts.specs.Names.{IsName, IsAnyName};
 
 use crate::outlines::outline;
 use scene_book::{Edit, EditFault, Scene};
-use scene_parts::{Class, Name, PlainName, RawPart, RawPoints, Receiver, check};
+use scene_parts::{Checked, Class, Name, Part, PlainName, RawPart, RawPoints, Receiver, check};
 use std::alloc::{AllocError, Global};
 use std::process::Abort;
 use std::test::Fail;
@@ -181,27 +181,59 @@ fn setting() -> RawPart {
     }
 }
 
-pub(crate) fn applied(scene: &mut Scene, alloc: Global, edit: &Edit) -> EditOutcome {
-    match scene.apply(alloc, edit) {
+/// What an edit that is refused answers.
+fn refused(fault: &EditFault) -> EditOutcome {
+    match fault {
+        EditFault::NoSuchName { .. } => EditOutcome::NoName,
+        EditFault::OtherClass { class, .. } => EditOutcome::Other(*class),
+        EditFault::Full { class, limit } => EditOutcome::Full(*class, *limit),
+        EditFault::NoMemory => EditOutcome::NoMemory,
+    }
+}
+
+/// What an edit answers that left this.
+fn outcome(left: &Result<Option<Part>, EditFault>) -> EditOutcome {
+    match left {
         Ok(None) => EditOutcome::New,
         Ok(Some(_)) => EditOutcome::Replaced,
-        Err(EditFault::NoSuchName { .. }) => EditOutcome::NoName,
-        Err(EditFault::OtherClass { class, .. }) => EditOutcome::Other(class),
-        Err(EditFault::Full { class, limit }) => EditOutcome::Full(class, limit),
-        Err(EditFault::NoMemory) => EditOutcome::NoMemory,
+        Err(fault) => refused(fault),
     }
+}
+
+fn applied(scene: &mut Scene, alloc: Global, edit: &Edit) -> EditOutcome {
+    let left = scene.apply(alloc, edit);
+    outcome(&left)
+}
+
+/// Puts what was checked.
+fn put_checked(scene: &mut Scene, alloc: Global, checked: Checked) -> EditOutcome {
+    let edit = Edit::from(checked);
+    applied(scene, alloc, &edit)
 }
 
 pub(crate) fn put(scene: &mut Scene, alloc: Global, raw: RawPart) -> EditOutcome {
     match check(alloc, raw) {
-        Ok(checked) => applied(scene, alloc, &Edit::from(checked)),
+        Ok(checked) => put_checked(scene, alloc, checked),
         Err(_) => EditOutcome::NoPart,
     }
 }
 
-fn remove(scene: &mut Scene, alloc: Global, called: Called) -> Result<EditOutcome, AllocError> {
-    let gone = Name::from_vec(text(called).to_vec(alloc)?);
-    Ok(applied(scene, alloc, &Edit::Remove(gone)))
+/// Removes the part of a name that is given away.
+fn remove_named(scene: &mut Scene, alloc: Global, name: Name) -> EditOutcome {
+    let edit = Edit::Remove(name);
+    applied(scene, alloc, &edit)
+}
+
+/// Removes the part of this name.
+pub(crate) fn remove(
+    scene: &mut Scene,
+    alloc: Global,
+    name: &[u8],
+) -> Result<EditOutcome, AllocError>
+    requires { IsAnyName name.now }
+{
+    let gone = Name::from_vec(name.to_vec(alloc)?);
+    Ok(remove_named(scene, alloc, gone))
 }
 
 /// The part that a step puts, if it puts one.
@@ -218,7 +250,7 @@ fn part(alloc: Global, step: Step) -> Result<RawPart, AllocError> {
 
 fn take(scene: &mut Scene, alloc: Global, step: Step) -> Result<EditOutcome, AllocError> {
     match step {
-        Step::Remove(called) => remove(scene, alloc, called),
+        Step::Remove(called) => remove(scene, alloc, text(called)),
         _ => Ok(put(scene, alloc, part(alloc, step)?)),
     }
 }
@@ -233,7 +265,7 @@ fn counted(scene: &Scene) -> (usize, usize, usize) {
 }
 
 /// Does all edits of the rows, and has each answer and the numbers of parts behind it compared.
-fn edit_all(rt: &impl Abort, alloc: Global, scene: &mut Scene) -> Result<(), Fail> {
+fn edit_all(rt: &impl Abort, alloc: Global, scene: &mut Scene) -> Result<(), AllocError> {
     for (step, outcome, counts) in &ROWS {
         let answer = take(scene, alloc, *step)?;
         assert!(rt; answer == *outcome && counted(scene) == *counts);
@@ -247,17 +279,36 @@ fn told(scene: &Scene) -> (u32, u8, u16) {
     (globals.reach, globals.g, globals.c0)
 }
 
+/// Compares what holds of the whole of an empty scene.
+fn has_defaults(rt: &impl Abort, scene: &Scene) {
+    assert!(rt; told(scene) == (4_000_000, 0, 0));
+}
+
+/// Makes an empty scene, and compares what holds of the whole of it.
+fn expect_defaults(rt: &impl Abort, alloc: Global) -> Result<(), AllocError> {
+    match Scene::empty(alloc) {
+        Ok(scene) => {
+            has_defaults(rt, &scene);
+            Ok(())
+        }
+        Err(_) => Err(AllocError),
+    }
+}
+
 #[test]
 fn an_empty_scene_has_defaults(rt: HostRuntime) -> Result<(), Fail> {
-    let scene = Scene::empty(rt.alloc())?;
-    assert!(rt; told(&scene) == (4_000_000, 0, 0));
-    Ok(())
+    Ok(expect_defaults(&rt, rt.alloc())?)
+}
+
+/// Whether a receiver is the one with this x in mm and this name.
+fn is_edited(receiver: &Receiver, x: i32, name: &[u8]) -> bool {
+    receiver.at.x == x && receiver.name.items() == name
 }
 
 /// Whether these are the receivers after all edits, in their order.
 fn are_edited(receivers: &[Receiver]) -> bool {
     for (receiver, (x, name)) in receivers.iter().zip(&RECEIVERS) {
-        if receiver.at.x != *x || receiver.name.items() != *name {
+        if !is_edited(receiver, *x, name) {
             return false;
         }
     }
@@ -277,23 +328,42 @@ fn copy_keeps(
     scene: &mut Scene,
     copy: &Scene,
 ) -> Result<(), AllocError> {
-    remove(scene, alloc, Called::Ground)?;
+    remove(scene, alloc, text(Called::Ground))?;
     assert!(rt; scene.zones().is_empty());
-    assert!(rt; are_edited(copy.receivers()));
+    keeps_receivers(rt, copy);
     keeps_rest(rt, copy);
     Ok(())
 }
 
-/// Compares what a scene and its copy keep after all edits.
-fn compare(rt: &impl Abort, alloc: Global, scene: &mut Scene) -> Result<(), Fail> {
+/// Compares the receivers after all edits.
+fn keeps_receivers(rt: &impl Abort, scene: &Scene) {
     assert!(rt; are_edited(scene.receivers()));
-    let copy = scene.copy()?;
-    Ok(copy_keeps(rt, alloc, scene, &copy)?)
+}
+
+/// Compares what a scene and its copy keep after all edits.
+fn compare(rt: &impl Abort, alloc: Global, scene: &mut Scene) -> Result<(), AllocError> {
+    keeps_receivers(rt, scene);
+    match scene.copy() {
+        Ok(copy) => copy_keeps(rt, alloc, scene, &copy),
+        Err(_) => Err(AllocError),
+    }
+}
+
+/// Does all edits, and compares what the scene and a copy keep.
+fn edit_and_compare(rt: &impl Abort, alloc: Global, scene: &mut Scene) -> Result<(), AllocError> {
+    edit_all(rt, alloc, scene)?;
+    compare(rt, alloc, scene)
+}
+
+/// Does and compares all that on a scene which is empty at first.
+fn edit_empty(rt: &impl Abort, alloc: Global) -> Result<(), AllocError> {
+    match Scene::empty(alloc) {
+        Ok(mut scene) => edit_and_compare(rt, alloc, &mut scene),
+        Err(_) => Err(AllocError),
+    }
 }
 
 #[test]
 fn edits_answer_in_a_row_and_copies_keep_them(rt: HostRuntime) -> Result<(), Fail> {
-    let mut scene = Scene::empty(rt.alloc())?;
-    edit_all(&rt, rt.alloc(), &mut scene)?;
-    compare(&rt, rt.alloc(), &mut scene)
+    Ok(edit_empty(&rt, rt.alloc())?)
 }

@@ -3,9 +3,9 @@
 ghost use Rattle.std.specs.Prelude.{◌≡◌, ◌<◌, true};
 ghost use Rattle.scene_parts.specs.Names.{IsName, IsAnyName, is_name_byte};
 
-use crate::edits::{EditOutcome, applied, corners, put};
-use scene_book::{Edit, Scene};
-use scene_parts::{Air, Class, Ground, Name, PlainName, RawPart, Word};
+use crate::edits::{EditOutcome, corners, put, remove};
+use scene_book::Scene;
+use scene_parts::{Air, Class, Ground, PlainName, RawPart, Word};
 use std::alloc::{AllocError, Global};
 use std::process::Abort;
 use std::test::Fail;
@@ -141,18 +141,13 @@ fn receiver(name: PlainName) -> RawPart {
     }
 }
 
-fn remove(scene: &mut Scene, alloc: Global, called: Called) -> Result<EditOutcome, AllocError> {
-    let gone = Name::from_vec(text(called).to_vec(alloc)?);
-    Ok(applied(scene, alloc, &Edit::Remove(gone)))
-}
-
 fn take(scene: &mut Scene, alloc: Global, step: Step) -> Result<EditOutcome, AllocError> {
     let raw = match step {
         Step::Foliage(called, h) => foliage(alloc, name(alloc, called)?, h)?,
         Step::Building(called) => building(alloc, name(alloc, called)?)?,
         Step::Zone(called) => zone(alloc, name(alloc, called)?)?,
         Step::Receiver(called) => receiver(name(alloc, called)?),
-        Step::Remove(called) => return remove(scene, alloc, called),
+        Step::Remove(called) => return remove(scene, alloc, text(called)),
     };
     Ok(put(scene, alloc, raw))
 }
@@ -174,7 +169,7 @@ fn are_in_place(scene: &Scene) -> bool {
 }
 
 /// Does all edits of the rows, and has each answer and the numbers of parts behind it compared.
-fn edit_all(rt: &impl Abort, alloc: Global, scene: &mut Scene) -> Result<(), Fail> {
+fn edit_all(rt: &impl Abort, alloc: Global, scene: &mut Scene) -> Result<(), AllocError> {
     for (step, outcome, counts) in &ROWS {
         let answer = take(scene, alloc, *step)?;
         assert!(rt; answer == *outcome && counted(scene) == *counts);
@@ -182,12 +177,24 @@ fn edit_all(rt: &impl Abort, alloc: Global, scene: &mut Scene) -> Result<(), Fai
     Ok(())
 }
 
+/// Does all edits, and compares the foliage behind them.
+fn edit_and_compare(rt: &impl Abort, alloc: Global, scene: &mut Scene) -> Result<(), AllocError> {
+    edit_all(rt, alloc, scene)?;
+    assert!(rt; are_in_place(scene));
+    Ok(())
+}
+
+/// Does and compares all that on a scene which is empty at first.
+fn edit_empty(rt: &impl Abort, alloc: Global) -> Result<(), AllocError> {
+    match Scene::empty(alloc) {
+        Ok(mut scene) => edit_and_compare(rt, alloc, &mut scene),
+        Err(_) => Err(AllocError),
+    }
+}
+
 #[test]
 fn foliage_is_edited_as_told(rt: HostRuntime) -> Result<(), Fail> {
-    let mut scene = Scene::empty(rt.alloc())?;
-    edit_all(&rt, rt.alloc(), &mut scene)?;
-    assert!(rt; are_in_place(&scene));
-    Ok(())
+    Ok(edit_empty(&rt, rt.alloc())?)
 }
 
 /// The letter of this number.
@@ -214,7 +221,7 @@ fn answer_of(number: u32) -> EditOutcome {
 }
 
 /// Puts so many, one after another.
-fn fill(rt: &impl Abort, alloc: Global, scene: &mut Scene, count: u32) -> Result<(), Fail> {
+fn fill(rt: &impl Abort, alloc: Global, scene: &mut Scene, count: u32) -> Result<(), AllocError> {
     for number in 0..count {
         let answer = put_numbered(scene, alloc, number)?;
         assert!(rt; answer == answer_of(number));
@@ -222,13 +229,25 @@ fn fill(rt: &impl Abort, alloc: Global, scene: &mut Scene, count: u32) -> Result
     Ok(())
 }
 
+/// Puts two more than there is room for, and then the last again that found room.
+fn overfill(rt: &impl Abort, alloc: Global, scene: &mut Scene) -> Result<(), AllocError> {
+    fill(rt, alloc, scene, 1026)?;
+    let again = put_numbered(scene, alloc, 1023)?;
+    assert!(rt; again == EditOutcome::Replaced && counted(scene) == (1024, 0, 0));
+    Ok(())
+}
+
+/// Puts all that into a scene which is empty at first.
+fn overfill_empty(rt: &impl Abort, alloc: Global) -> Result<(), AllocError> {
+    match Scene::empty(alloc) {
+        Ok(mut scene) => overfill(rt, alloc, &mut scene),
+        Err(_) => Err(AllocError),
+    }
+}
+
 #[test]
 fn foliage_is_full_at_1024(rt: HostRuntime) -> Result<(), Fail> {
-    let mut scene = Scene::empty(rt.alloc())?;
-    fill(&rt, rt.alloc(), &mut scene, 1026)?;
-    let again = put_numbered(&mut scene, rt.alloc(), 1023)?;
-    assert!(rt; again == EditOutcome::Replaced && counted(&scene) == (1024, 0, 0));
-    Ok(())
+    Ok(overfill_empty(&rt, rt.alloc())?)
 }
 
 fn whole_setting(alloc: Global) -> Result<RawPart, AllocError> {
@@ -264,7 +283,7 @@ fn are_set(scene: &Scene, ground: Ground) -> bool {
 }
 
 /// A setting of the method alone, or of nothing, and the method then.
-const METHODS: [(Option<&'static [u8]>, Ground); 4] = [
+const METHODS: &[(Option<&'static [u8]>, Ground)] = &[
     (None, Ground::General),
     (Some(b"simple"), Ground::Simple),
     (None, Ground::Simple),
@@ -272,17 +291,29 @@ const METHODS: [(Option<&'static [u8]>, Ground); 4] = [
 ];
 
 /// Sets all methods in turn, and has the globals behind each compared.
-fn set_all(rt: &impl Abort, alloc: Global, scene: &mut Scene) -> Result<(), Fail> {
-    for (word, ground) in &METHODS {
+fn set_all(rt: &impl Abort, alloc: Global, scene: &mut Scene) -> Result<(), AllocError> {
+    for (word, ground) in METHODS {
         put(scene, alloc, method(alloc, *word)?);
         assert!(rt; are_set(scene, *ground));
     }
     Ok(())
 }
 
+/// Sets all but the method for ground, and then all methods in turn.
+fn set_whole_and_all(rt: &impl Abort, alloc: Global, scene: &mut Scene) -> Result<(), AllocError> {
+    put(scene, alloc, whole_setting(alloc)?);
+    set_all(rt, alloc, scene)
+}
+
+/// Sets all that of a scene which is empty at first.
+fn set_empty(rt: &impl Abort, alloc: Global) -> Result<(), AllocError> {
+    match Scene::empty(alloc) {
+        Ok(mut scene) => set_whole_and_all(rt, alloc, &mut scene),
+        Err(_) => Err(AllocError),
+    }
+}
+
 #[test]
 fn method_for_ground_is_set_alone(rt: HostRuntime) -> Result<(), Fail> {
-    let mut scene = Scene::empty(rt.alloc())?;
-    put(&mut scene, rt.alloc(), whole_setting(rt.alloc())?);
-    set_all(&rt, rt.alloc(), &mut scene)
+    Ok(set_empty(&rt, rt.alloc())?)
 }

@@ -52,7 +52,7 @@ const SHORT: Corners = &[(0, 0), (1000, 0)];
 
 const AREA: Corners = &[(0, 0), (1000, 0), (1000, 1000)];
 
-const OBSTACLES: [(Given, Answer); 13] = [
+const OBSTACLES: &[(Given, Answer)] = &[
     (Given::Barrier(LONG, 10, 201), Answer::Accepted),
     (Given::Barrier(LONG, 9, 1), Answer::Light(9)),
     (
@@ -80,7 +80,7 @@ const OBSTACLES: [(Given, Answer); 13] = [
     ),
 ];
 
-const SOURCES_AND_GRIDS: [(Given, Answer); 12] = [
+const SOURCES_AND_GRIDS: &[(Given, Answer)] = &[
     (
         Given::Source(b"road", 4_000_000, 100_000, 16_000, 2000),
         Answer::Accepted,
@@ -122,7 +122,7 @@ const SOURCES_AND_GRIDS: [(Given, Answer); 12] = [
     ),
 ];
 
-const ZONES_AND_SETTINGS: [(Given, Answer); 12] = [
+const ZONES_AND_SETTINGS: &[(Given, Answer)] = &[
     (Given::Zone(AREA, 100), Answer::Accepted),
     (Given::Zone(SHORT, 101), Answer::Outside(Field::G, 101)),
     (Given::Zone(SHORT, -1), Answer::Outside(Field::G, -1)),
@@ -155,7 +155,7 @@ const ZONES_AND_SETTINGS: [(Given, Answer); 12] = [
     (Given::Setting(1, 0, b"25/70", 0), Answer::Unknown),
 ];
 
-const FOLIAGE: [(Given, Answer); 8] = [
+const FOLIAGE: &[(Given, Answer)] = &[
     (Given::Foliage(AREA, 1), Answer::Accepted),
     (Given::Foliage(AREA, 100_000), Answer::Accepted),
     (Given::Foliage(TRIANGLE, 1), Answer::Accepted),
@@ -169,7 +169,7 @@ const FOLIAGE: [(Given, Answer); 8] = [
     (Given::Foliage(&[(0, 0), (10, 0), (20, 0)], 1), Answer::Flat),
 ];
 
-const METHODS: [(Given, Answer); 5] = [
+const METHODS: &[(Given, Answer)] = &[
     (Given::Ground(b"10/70", b"general"), Answer::Accepted),
     (Given::Ground(b"10/70", b"simple"), Answer::Accepted),
     (Given::Ground(b"10/70", b"soft"), Answer::Unknown),
@@ -286,18 +286,25 @@ fn raw(alloc: Global, given: Given) -> Result<RawPart, AllocError> {
     }
 }
 
+/// The answer to a part that has this fault.
+fn refused(fault: &PartFault) -> Answer {
+    match fault {
+        PartFault::NoMemory => Answer::NoMemory,
+        PartFault::OutOfRange { field, value } => Answer::Outside(*field, *value),
+        PartFault::OutsideMethod { .. } => Answer::Method,
+        PartFault::UnknownKind { .. } => Answer::Unknown,
+        PartFault::TooLight { density } => Answer::Light(*density),
+        PartFault::FewCorners { count } => Answer::Few(*count),
+        PartFault::FlatShape => Answer::Flat,
+        PartFault::SideTooLong { side, mm } => Answer::Long(*side, *mm),
+        PartFault::WeakMirror { rho } => Answer::Weak(*rho),
+    }
+}
+
 fn told(alloc: Global, raw: RawPart) -> Answer {
     match check(alloc, raw) {
         Ok(_) => Answer::Accepted,
-        Err(PartFault::NoMemory) => Answer::NoMemory,
-        Err(PartFault::OutOfRange { field, value }) => Answer::Outside(field, value),
-        Err(PartFault::OutsideMethod { .. }) => Answer::Method,
-        Err(PartFault::UnknownKind { .. }) => Answer::Unknown,
-        Err(PartFault::TooLight { density }) => Answer::Light(density),
-        Err(PartFault::FewCorners { count }) => Answer::Few(count),
-        Err(PartFault::FlatShape) => Answer::Flat,
-        Err(PartFault::SideTooLong { side, mm }) => Answer::Long(side, mm),
-        Err(PartFault::WeakMirror { rho }) => Answer::Weak(rho),
+        Err(fault) => refused(&fault),
     }
 }
 
@@ -312,25 +319,25 @@ fn are_told(rt: &impl Abort, alloc: Global, rows: &[(Given, Answer)]) -> Result<
 
 #[test]
 fn obstacles_have_these_answers(rt: HostRuntime) -> Result<(), Fail> {
-    Ok(are_told(&rt, rt.alloc(), &OBSTACLES)?)
+    Ok(are_told(&rt, rt.alloc(), OBSTACLES)?)
 }
 
 #[test]
 fn sources_and_grids_have_these_answers(rt: HostRuntime) -> Result<(), Fail> {
-    Ok(are_told(&rt, rt.alloc(), &SOURCES_AND_GRIDS)?)
+    Ok(are_told(&rt, rt.alloc(), SOURCES_AND_GRIDS)?)
 }
 
 #[test]
 fn zones_and_settings_have_these_answers(rt: HostRuntime) -> Result<(), Fail> {
-    Ok(are_told(&rt, rt.alloc(), &ZONES_AND_SETTINGS)?)
+    Ok(are_told(&rt, rt.alloc(), ZONES_AND_SETTINGS)?)
 }
 
 #[test]
 fn foliage_has_these_answers(rt: HostRuntime) -> Result<(), Fail> {
-    Ok(are_told(&rt, rt.alloc(), &FOLIAGE)?)
+    Ok(are_told(&rt, rt.alloc(), FOLIAGE)?)
 }
 
 #[test]
 fn methods_for_ground_have_these_answers(rt: HostRuntime) -> Result<(), Fail> {
-    Ok(are_told(&rt, rt.alloc(), &METHODS)?)
+    Ok(are_told(&rt, rt.alloc(), METHODS)?)
 }

@@ -186,7 +186,9 @@ const THERE_AND_BACK: Corners = &[
 const ALL: Corners = &[(-M, -M), (M, -M), (M, M), (-M, M)];
 
 /// The outline, the way, twice the area, the extent, and whether the outline meets the way.
-const OUTLINES: [(Corners, Pair, i128, i128, bool); 19] = [
+type Outline = (Corners, Pair, i128, i128, bool);
+
+const OUTLINES: &[Outline] = &[
     (SQUARE, ((0, 0), (1000, 0)), 40_000, 100_000, true),
     (TURNED, ((0, 0), (1000, 0)), -40_000, 100_000, true),
     (SQUARE, ((400, 0), (1000, 0)), 40_000, 60_000, false),
@@ -229,11 +231,18 @@ fn is_met(rt: &impl Abort, outline: &[Pt], line: Side, area: i128, across: i128,
     );
 }
 
+/// Asserts what a row tells of its outline.
+fn expect_outline(rt: &impl Abort, alloc: Global, row: &Outline) -> Result<(), AllocError> {
+    let (places, way, area, across, met) = *row;
+    let outline = corners(alloc, places)?;
+    is_met(rt, &outline, side(way), area, across, met);
+    Ok(())
+}
+
 #[test]
 fn outlines_have_areas_extents_and_meet(rt: HostRuntime) -> Result<(), Fail> {
-    for (places, way, area, across, met) in &OUTLINES {
-        let outline = corners(rt.alloc(), places)?;
-        is_met(&rt, &outline, side(*way), *area, *across, *met);
+    for row in OUTLINES {
+        expect_outline(&rt, rt.alloc(), row)?;
     }
     Ok(())
 }
@@ -264,14 +273,22 @@ fn legs_are_hit(rt: HostRuntime) {
         n: 10_240_000_000_000_000_000,
         d: 51_200_000_000_000_000_000,
     };
-    assert_eq!(rt; hits(wall, source, FIRST), Some(hit));
+    assert_eq!(rt;
+        [
+            hits(wall, source, FIRST),
+            hits(wall, at((100_000, 0)), SECOND)
+        ],
+        [Some(hit), None]
+    );
     assert_eq!(rt;
         passes(wall, source, FIRST).map(|passage| passage.to_left),
         Some(false)
     );
-    assert_eq!(rt; hits(wall, at((100_000, 0)), SECOND), None);
-    assert!(rt; lies_inside(hit, END));
-    assert!(rt; !lies_inside(hit, Frac { n: 1, d: 5 }));
+    let fifth = Frac { n: 1, d: 5 };
+    assert_eq!(rt;
+        [lies_inside(hit, END), lies_inside(hit, fifth)],
+        [true, false]
+    );
 }
 
 #[test]
@@ -369,24 +386,28 @@ const REFLECTED: [Reflected; 3] = [
     ),
 ];
 
+/// Asserts the reflection that a row tells.
+fn is_reflection(rt: &impl Abort, path: &Reflection, row: &Reflected) {
+    let (_, _, (first_x, first_y), (second_x, second_y), w, p, squared) = *row;
+    assert_eq!(rt;
+        (path.first.x, path.first.y, path.first.w),
+        (first_x, first_y, w)
+    );
+    assert_eq!(rt;
+        (path.second.x, path.second.y, path.second.w),
+        (second_x, second_y, w)
+    );
+    assert_eq!(rt; [parts(path.p), parts(path.square)], [p, (squared, w)]);
+}
+
 #[test]
 fn walls_reflect(rt: HostRuntime) {
-    for (wall, ends, (first_x, first_y), (second_x, second_y), w, p, squared) in REFLECTED {
-        let line = side(ends);
-        let Some(path) = reflection(side(wall), line.from, line.to) else {
-            assert!(rt; false, "{wall:?}");
-            return;
-        };
-        assert_eq!(rt;
-            (path.first.x, path.first.y, path.first.w),
-            (first_x, first_y, w)
-        );
-        assert_eq!(rt;
-            (path.second.x, path.second.y, path.second.w),
-            (second_x, second_y, w)
-        );
-        assert_eq!(rt; parts(path.p), p);
-        assert_eq!(rt; parts(path.square), (squared, w));
+    for row in &REFLECTED {
+        let (wall, ends) = (row.0, side(row.1));
+        match reflection(side(wall), ends.from, ends.to) {
+            None => assert!(rt; false, "{wall:?}"),
+            Some(path) => is_reflection(&rt, &path, row),
+        }
     }
 }
 

@@ -26,7 +26,7 @@ struct Case {
     bands: [(i128, i128); 6],
 }
 
-const CASES: [Case; 15] = [
+const CASES: &[Case] = &[
     // No zone, with a middle region of half the path.
     Case {
         zones: &[],
@@ -457,7 +457,7 @@ const CASES: [Case; 15] = [
 ];
 
 /// Paths by way of a wall, whose side has these ends.
-const REFLECTED: [([(i64, i64); 2], Case); 5] = [
+const REFLECTED: &[([(i64, i64); 2], Case)] = &[
     // Ground that only the second leg crosses.
     (
         [(49999, 30000), (149999, 30000)],
@@ -660,37 +660,61 @@ fn has_ground(rt: &impl Abort, case: &Case, zones: &[Zone], path: &Path)
     }
 }
 
+/// The ends of a case's direct path among its zones are those of the case.
+fn expect_direct(rt: &impl Abort, alloc: Global, case: &Case) -> Result<(), AllocError> {
+    let zones = zones(alloc, case.zones)?;
+    assert_eq!(rt; zones.len(), case.zones.len());
+    let (sx, sy, hs) = case.source;
+    let (rx, ry, hr) = case.receiver;
+    let path = Path::direct(place(sx, sy), hs, place(rx, ry), hr);
+    has_ground(rt, case, &zones, &path);
+    Ok(())
+}
+
 #[test]
 fn ground_has_these_ends(rt: HostRuntime) -> Result<(), Fail> {
-    for case in &CASES {
-        let zones = zones(rt.alloc(), case.zones)?;
-        assert_eq!(rt; zones.len(), case.zones.len());
-        let (sx, sy, hs) = case.source;
-        let (rx, ry, hr) = case.receiver;
-        let path = Path::direct(place(sx, sy), hs, place(rx, ry), hr);
-        has_ground(&rt, case, &zones, &path);
+    for case in CASES {
+        expect_direct(&rt, rt.alloc(), case)?;
     }
+    Ok(())
+}
+
+/// The path of a case by way of a wall, whose side is short enough and has both ends on one side.
+fn reflected(rt: &impl Abort, case: &Case, wall: [(i64, i64); 2]) -> Path
+    ensures { IsPath result }
+{
+    let [(from_x, from_y), (to_x, to_y)] = wall;
+    let side = Side {
+        from: place(from_x, from_y),
+        to: place(to_x, to_y),
+    };
+    let (sx, sy, hs) = case.source;
+    let (rx, ry, hr) = case.receiver;
+    let source = place(sx, sy);
+    let receiver = place(rx, ry);
+    assert!(rt; is_short(side));
+    assert!(rt; on_one_side(side, source, receiver));
+    Path::reflected(side, source, hs, receiver, hr)
+}
+
+/// The ends of a case's path by way of a wall among its zones are those of the case.
+fn expect_reflected(
+    rt: &impl Abort,
+    alloc: Global,
+    wall: [(i64, i64); 2],
+    case: &Case,
+) -> Result<(), AllocError> {
+    let zones = zones(alloc, case.zones)?;
+    assert_eq!(rt; zones.len(), case.zones.len());
+    let path = reflected(rt, case, wall);
+    has_ground(rt, case, &zones, &path);
     Ok(())
 }
 
 #[test]
 fn ground_by_way_of_walls_has_these_ends(rt: HostRuntime) -> Result<(), Fail> {
-    for (wall, case) in &REFLECTED {
-        let zones = zones(rt.alloc(), case.zones)?;
-        assert_eq!(rt; zones.len(), case.zones.len());
-        let [(from_x, from_y), (to_x, to_y)] = *wall;
-        let side = Side {
-            from: place(from_x, from_y),
-            to: place(to_x, to_y),
-        };
-        let (sx, sy, hs) = case.source;
-        let (rx, ry, hr) = case.receiver;
-        let source = place(sx, sy);
-        let receiver = place(rx, ry);
-        assert!(rt; is_short(side));
-        assert!(rt; on_one_side(side, source, receiver));
-        let path = Path::reflected(side, source, hs, receiver, hr);
-        has_ground(&rt, case, &zones, &path);
+    for (wall, case) in REFLECTED {
+        expect_reflected(&rt, rt.alloc(), *wall, case)?;
     }
     Ok(())
 }

@@ -1,6 +1,7 @@
 //! Values from outside, by an independent exact program.
 
 ghost use Rattle.std.specs.Prelude.{All, IfSome, IfOk};
+ghost use Rattle.path_shape.specs.Shape.{IsPath};
 ghost use Rattle.term_barrier.specs.Edges.{FitsEdge};
 
 use fix_interval::{Iv, ratio, root};
@@ -8,6 +9,7 @@ use path_shape::Path;
 use scene_geom::{Band, Pt, Side, crosses, dir_of};
 use scene_parts::Edge;
 use std::alloc::{AllocError, Global};
+use std::process::Abort;
 use std::test::Fail;
 use term_barrier::{Screens, a_bar, d_z_side, d_z_top};
 
@@ -31,7 +33,7 @@ struct Case {
     screened: (i128, i128),
 }
 
-const CASES: [Case; 13] = [
+const CASES: &[Case] = &[
     // The top on the line of sight.
     Case {
         source: (0, 0, 2000),
@@ -212,7 +214,7 @@ struct Round {
     side: (i128, i128),
 }
 
-const ROUND: [Round; 6] = [
+const ROUND: &[Round] = &[
     // Round one corner.
     Round {
         source: (0, 0, 2000),
@@ -312,24 +314,37 @@ fn ends(i: Iv) -> (Option<i128>, Option<i128>) {
     (i.low(), i.high())
 }
 
+/// The screening of a case's path by these edges is that of the case.
+fn has_screening(rt: &impl Abort, case: &Case, path: &Path, edges: &[Edge])
+    requires path { IsPath path.now }
+    requires edges { All FitsEdge edges.now }
+{
+    let d = metres(case.square);
+    let top = d_z_top(path, edges, d, case.band);
+    assert_eq!(rt; ends(top), (Some(case.top.0), Some(case.top.1)));
+    let screened = a_bar(path, edges, d, ratio(case.gr, 100), case.band);
+    assert_eq!(rt;
+        ends(screened),
+        (Some(case.screened.0), Some(case.screened.1))
+    );
+}
+
+/// The screening of a case's path by its walls is that of the case.
+fn expect_screening(rt: &impl Abort, alloc: Global, case: &Case) -> Result<(), AllocError> {
+    let (sx, sy, hs) = case.source;
+    let (rx, ry, hr) = case.receiver;
+    let (s, r) = (at((sx, sy)), at((rx, ry)));
+    let path = Path::direct(s, hs, r, hr);
+    let edges = edges(alloc, case.walls, s, r)?;
+    assert_eq!(rt; edges.len(), case.walls.len());
+    has_screening(rt, case, &path, &edges);
+    Ok(())
+}
+
 #[test]
 fn screens_attenuate(rt: HostRuntime) -> Result<(), Fail> {
-    let alloc = rt.alloc();
-    for case in &CASES {
-        let (sx, sy, hs) = case.source;
-        let (rx, ry, hr) = case.receiver;
-        let (s, r) = (at((sx, sy)), at((rx, ry)));
-        let path = Path::direct(s, hs, r, hr);
-        let d = metres(case.square);
-        let edges = edges(alloc, case.walls, s, r)?;
-        assert_eq!(rt; edges.len(), case.walls.len());
-        let top = d_z_top(&path, edges.as_slice(), d, case.band);
-        assert_eq!(rt; ends(top), (Some(case.top.0), Some(case.top.1)));
-        let screened = a_bar(&path, edges.as_slice(), d, ratio(case.gr, 100), case.band);
-        assert_eq!(rt;
-            ends(screened),
-            (Some(case.screened.0), Some(case.screened.1))
-        );
+    for case in CASES {
+        expect_screening(&rt, rt.alloc(), case)?;
     }
     Ok(())
 }
@@ -337,7 +352,7 @@ fn screens_attenuate(rt: HostRuntime) -> Result<(), Fail> {
 #[test]
 fn corners_attenuate(rt: HostRuntime) -> Result<(), Fail> {
     let alloc = rt.alloc();
-    for case in &ROUND {
+    for case in ROUND {
         let (sx, sy, hs) = case.source;
         let (rx, ry, hr) = case.receiver;
         let mut corners = Vec::new(alloc);
@@ -359,23 +374,35 @@ fn corners_attenuate(rt: HostRuntime) -> Result<(), Fail> {
     Ok(())
 }
 
+/// What is screened of a case's path where all its edges count, and where none does.
+fn expect_marked(rt: &impl Abort, alloc: Global, case: &Case) -> Result<(), AllocError> {
+    let (sx, sy, hs) = case.source;
+    let (rx, ry, hr) = case.receiver;
+    let (s, r) = (at((sx, sy)), at((rx, ry)));
+    let path = Path::direct(s, hs, r, hr);
+    let edges = edges(alloc, case.walls, s, r)?;
+    match Screens::of(alloc, &path, &edges, metres(case.square)) {
+        Ok(screens) => {
+            leaves_out(rt, case, &screens);
+            Ok(())
+        }
+        Err(_) => Err(AllocError),
+    }
+}
+
+/// Asserts that of a case's path all is screened by all edges, and nothing by none.
+fn leaves_out(rt: &impl Abort, case: &Case, screens: &Screens) {
+    let gr = ratio(case.gr, 100);
+    let all = screens.a_bar(&[true; 3], gr, case.band);
+    assert_eq!(rt; ends(all), (Some(case.screened.0), Some(case.screened.1)));
+    let none = screens.a_bar(&[false; 3], gr, case.band);
+    assert_eq!(rt; ends(none), (Some(0), Some(0)));
+}
+
 #[test]
 fn marks_leave_edges_out(rt: HostRuntime) -> Result<(), Fail> {
-    let alloc = rt.alloc();
-    for case in &CASES {
-        let (sx, sy, hs) = case.source;
-        let (rx, ry, hr) = case.receiver;
-        let (s, r) = (at((sx, sy)), at((rx, ry)));
-        let path = Path::direct(s, hs, r, hr);
-        let edges = edges(alloc, case.walls, s, r)?;
-        let Ok(screens) = Screens::of(alloc, &path, edges.as_slice(), metres(case.square)) else {
-            return Err(AllocError.into());
-        };
-        let gr = ratio(case.gr, 100);
-        let all = screens.a_bar(&[true; 3], gr, case.band);
-        assert_eq!(rt; ends(all), (Some(case.screened.0), Some(case.screened.1)));
-        let none = screens.a_bar(&[false; 3], gr, case.band);
-        assert_eq!(rt; ends(none), (Some(0), Some(0)));
+    for case in CASES {
+        expect_marked(&rt, rt.alloc(), case)?;
     }
     Ok(())
 }
