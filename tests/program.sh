@@ -66,6 +66,27 @@ try_examples() {
     expect "a site, and input beside it" 0 examples/site7.csv "" "$program" --make 7 < examples/first.jsonl
 }
 
+# The runs that the files of a folder list, whose rows are those of an independent calculation: `#` a name, `$` the words, `=`
+# the exit status where it isn't 0, `<` a line of the input, and `>` a row.
+try_runs() {
+    for list in tests/runs/*.txt; do
+        rm -f "$room"/run.*
+        awk -v room="$room" '
+            /^#/ { count++; run = room "/run." count; printf "" > (run ".jsonl"); printf "" > (run ".csv"); part = "name" }
+            /^\$/ { part = "args" }
+            /^=/ { part = "status" }
+            /^</ { part = "jsonl" }
+            /^>/ { part = "csv" }
+            /./ { print substr($0, 3) > (run "." part) }
+        ' "$list"
+        for name in "$room"/run.*.name; do
+            run=${name%.name}
+            # shellcheck disable=SC2046
+            expect "$list: $(cat "$name")" "$(status_of "$run")" "$run.csv" "" "$program" $(words_of "$run") < "$run.jsonl"
+        done
+    done
+}
+
 # agree WHAT FILE: whether $room/shown is this file.
 agree() {
     if cmp -s "$room/shown" "$2"; then
@@ -266,6 +287,7 @@ if [ $# -eq 0 ]; then
 fi
 for program in "$@"; do
     try_examples
+    try_runs
     try_documents
     try_script
     try_words

@@ -16,27 +16,9 @@ mod stopped;
 #[cfg(test)]
 mod test_faults;
 #[cfg(test)]
-mod test_foliage;
-#[cfg(test)]
 mod test_gate;
 #[cfg(test)]
-mod test_ground;
-#[cfg(test)]
-mod test_lines;
-#[cfg(test)]
-mod test_looks;
-#[cfg(test)]
 mod test_make;
-#[cfg(test)]
-mod test_rows;
-#[cfg(test)]
-mod test_screens;
-#[cfg(test)]
-mod test_sides;
-#[cfg(test)]
-mod test_walls;
-#[cfg(test)]
-mod test_weather;
 #[cfg(test)]
 mod tests;
 
