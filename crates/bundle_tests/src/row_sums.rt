@@ -1,8 +1,10 @@
-//! A row whose sums are refreshed as sources come and go. The levels were calculated by an independent program.
-ghost use Rattle.std.specs.Prelude.{◌≡◌, ◌<◌};
+//! A row whose sums are refreshed as sources come, go and move. The levels were calculated by an independent program.
+ghost use Rattle.std.specs.Prelude.{◌≡◌, ◌<◌, IfSome, length};
+ghost use Rattle.path_cache.specs.Standing.{StandAsSources};
 
 use crate::scenes::take;
-use path_cache::{RowSums, Steps, WithSums, refresh_sums};
+use path_cache::{RowSums, Steps, WithSums, prepare, refresh_sums, renew};
+use path_calc::IndexedScene;
 use scene_book::{Edit, Scene};
 use scene_geom::Pt;
 use scene_parts::{Kind, Name, Part, PointSource, Receiver};
@@ -24,9 +26,10 @@ fn source(name: Name, at: Pt) -> Edit {
     }))
 }
 
-fn far(alloc: Global) -> Option<Edit> {
+/// The source `s` at a place.
+fn far(alloc: Global, at: Pt) -> Option<Edit> {
     let name = Name::from_vec(b"s".to_vec(alloc).ok()?);
-    Some(source(name, Pt::new(0, 0)))
+    Some(source(name, at))
 }
 
 fn near(alloc: Global) -> Option<Edit> {
@@ -38,7 +41,7 @@ fn near(alloc: Global) -> Option<Edit> {
 fn scene(alloc: Global, s: bool, t: bool) -> Option<Scene> {
     let mut scene = Scene::empty(alloc).ok()?;
     if s {
-        take(alloc, &mut scene, far(alloc))?;
+        take(alloc, &mut scene, far(alloc, Pt::new(0, 0)))?;
     }
     if t {
         take(alloc, &mut scene, near(alloc))?;
@@ -54,7 +57,29 @@ fn receiver(alloc: Global) -> Option<Receiver> {
     })
 }
 
-/// A row of one bundle at most in a scene, of what was kept.
+/// The row of a receiver in a scene, of one bundle at most that was kept. A full row stands as the sources do.
+fn row_of<L: Ledger>(
+    alloc: Global,
+    scene: &Scene,
+    receiver: &Receiver,
+    kept: &WithSums,
+    steps: &mut Steps<L>,
+) -> Option<WithSums>
+    ensures { IfSome result (λ row. length row.bundles.items ≡ length scene.now.sources
+        → StandAsSources scene.now receiver.now row.bundles.items) }
+{
+    let bundles = kept.bundles.as_slice();
+    if bundles.len() > 1 {
+        return None;
+    }
+    let marks = &[false][..bundles.len()];
+    match refresh_sums(alloc, scene, receiver, bundles, marks, &kept.sums, steps) {
+        Ok(row) => Some(row),
+        Err(_) => None,
+    }
+}
+
+/// The row in a scene, of what was kept.
 fn refreshed_counted<L: Ledger>(
     alloc: Global,
     scene: &Scene,
@@ -65,17 +90,9 @@ fn refreshed_counted<L: Ledger>(
     requires parts { blank.parts ≡ L.parts }
     requires some { 0 < blank.parts }
 {
-    let bundles = kept.bundles.as_slice();
-    if bundles.len() > 1 {
-        return None;
-    }
-    let marks = &[false][..bundles.len()];
     let receiver = receiver(alloc)?;
     let mut steps = Steps::<L>::of(blank);
-    refresh_sums(
-        alloc, scene, &receiver, bundles, marks, &kept.sums, &mut steps,
-    )
-    .ok()
+    row_of(alloc, scene, &receiver, kept, &mut steps)
 }
 
 /// The same, with steps that nobody counts.
@@ -118,4 +135,75 @@ fn sums_follow_the_sources(rt: HostRuntime) {
         (Some(201_137_171_430), Some(201_137_171_470)),
     ];
     assert_eq!(rt; totals(rt.alloc()), Some(expected));
+}
+
+/// The scene with the source `s` alone, before it moved.
+fn before(alloc: Global) -> Option<Scene> {
+    let mut scene = Scene::empty(alloc).ok()?;
+    take(alloc, &mut scene, far(alloc, Pt::new(70_000, -50_000)))?;
+    Some(scene)
+}
+
+/// A row of two bundles after the first was marked, where they stand as the sources do.
+fn renewed<L: Ledger>(
+    alloc: Global,
+    scene: &Scene,
+    receiver: &Receiver,
+    row: WithSums,
+    steps: &mut Steps<L>,
+) -> Option<WithSums>
+    requires { StandAsSources scene.now receiver.now row.bundles.items }
+{
+    if scene.sources().len() != 2 {
+        return None;
+    }
+    let prepared = prepare(alloc, scene).ok()?;
+    let plain = IndexedScene::plain(scene);
+    let WithSums { bundles, sums } = row;
+    let kept = bundles.as_slice();
+    let marks = &[true, false];
+    match renew(
+        alloc, &plain, &prepared, receiver, kept, marks, &sums, true, steps,
+    ) {
+        Ok(renewed) => Some(renewed.with_kept(bundles)),
+        Err(_) => None,
+    }
+}
+
+/// A row in a scene of two sources, of a bundle that was kept from before the first moved: it stands until it is marked.
+fn marked_counted<L: Ledger>(
+    alloc: Global,
+    scene: &Scene,
+    kept: &WithSums,
+    blank: Blank,
+) -> Option<WithSums>
+    requires name { blank.name ≡ L.name }
+    requires parts { blank.parts ≡ L.parts }
+    requires some { 0 < blank.parts }
+{
+    let receiver = receiver(alloc)?;
+    let mut steps = Steps::<L>::of(blank);
+    let row = row_of(alloc, scene, &receiver, kept, &mut steps)?;
+    if row.bundles.len() != scene.sources().len() {
+        return None;
+    }
+    renewed(alloc, scene, &receiver, row, &mut steps)
+}
+
+/// The same, with steps that nobody counts.
+fn marked(alloc: Global, scene: &Scene, kept: &WithSums) -> Option<WithSums> {
+    marked_counted::<Brand>(alloc, scene, kept, Blank::new(1))
+}
+
+/// The total with both, after `s` moved to its place.
+fn total_after_move(alloc: Global) -> Option<Ends> {
+    let old = refreshed(alloc, &before(alloc)?, &nothing(alloc))?;
+    let row = marked(alloc, &scene(alloc, true, true)?, &old)?;
+    Some(total(&row))
+}
+
+#[test]
+fn a_moved_source_is_heard_where_it_stands(rt: HostRuntime) {
+    let expected = (Some(201_137_171_430), Some(201_137_171_470));
+    assert_eq!(rt; total_after_move(rt.alloc()), Some(expected));
 }

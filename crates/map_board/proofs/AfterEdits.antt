@@ -1,25 +1,26 @@
 -- Rows after an edit: made anew, or gone over to the scene after it.
 use Rattle.std.proofs.Common.{◌≡◌, ℕ, suc, ◌≤◌, Bool, true, cond, List, [], length, Some, None, refl, sym, ap, ◌∙◌, subst, arith}
-use Rattle.std.specs.Prelude.{Option, IsSomeAnd, is_some, not}
+use Rattle.std.specs.Prelude.{Option, IfSome, IsSomeAnd, is_some, not}
 use Rattle.std.specs.Option.{option_map, option_or}
 use Rattle.scene_parts.specs.Views.{Source, Receiver}
 use Rattle.scene_book.specs.declared.edits.Edit.{Edit}
 use Rattle.path_calc.specs.Bundles.{Bundle}
 use Rattle.path_calc.specs.Show.{bundles_of}
 use Rattle.path_cache.specs.Refreshed.{CanRefresh, Stand, is_wanted}
+use Rattle.path_cache.specs.Standing.{AreOfEach}
 use Rattle.touch_test.specs.Touches.{names_receiver, touches_receiver}
 use Rattle.touch_test.proofs.Edits.{answers-old}
 use Rattle.map_board.specs.declared.caches.Cache.{Cache}
 use Rattle.map_board.specs.declared.rows.KeptLevels.{KeptLevels}
 use Rattle.map_board.specs.declared.rows.HeldRow.{HeldRow}
 use Rattle.map_board.specs.declared.renewing.Change.{Change}
-use Rattle.map_board.specs.Journal.{newest_scene, names, touches, first_touching}
+use Rattle.map_board.specs.Journal.{scene_at, newest_scene, names, touches, first_touching}
 use Rattle.map_board.specs.Rows.{Kept}
 use Rattle.map_board.specs.Held.{AreWithin}
 use Rattle.map_board.specs.Facts.{RowIsRight}
 use Rattle.map_board.specs.Machine.{new_row}
 use Rattle.map_board.specs.Marks.{marks_after}
-use Rattle.map_board.specs.Boards.{kept_of, row_of, CacheIsRight, CacheIsThere, ByIsRight, RowHolds, IsEmpty}
+use Rattle.map_board.specs.Boards.{kept_of, row_of, CacheIsRight, CacheIsThere, ByIsRight, RowHolds, HasNone, IsEmpty}
 use Rattle.map_board.specs.Changes.{scene_before, scene_after, journal_after, IsChange, IsFresh, IsRowAfter, NamesNone}
 use Rattle.map_board.proofs.Journals.{newest-more, first-more}
 use Rattle.map_board.proofs.RowsRight.{new-right, more-right}
@@ -41,17 +42,25 @@ module _ (change : Change) (is : IsChange change) where
 
   -- ---- a row made anew
 
-  no-bundles : (r : Receiver) (cache : Cache) → cache.bundles.items ≡ [] → cache.marks.items ≡ [] → CacheIsRight (journal_after change) r None cache
-  no-bundles r cache none_kept none_marked = record {
+  no-bundles : (r : Receiver) (cache : Cache) → HasNone cache → CacheIsRight (journal_after change) r None cache
+  no-bundles r cache none = record {
     can = subst (λ (x : List Bundle × List Bool). CanRefresh x.0 x.1) (λ i. (sym none_kept i, sym none_marked i))
         (record { one_each = refl; few = omega arith; apart = tt });
     stand = subst (λ (x : List Bundle × List Bool). Stand (newest_scene (journal_after change)) r x.0 x.1) (λ i. (sym none_kept i, sym none_marked i))
         (λ source bundle inside none. absurd (cc none));
     within = subst (λ (x : List Bundle × List Bool). AreWithin (newest_scene (journal_after change)) r x.0 x.1) (λ i. (sym none_kept i, sym none_marked i))
         (λ name bundle none. absurd (cc none));
+    ordered = subst (λ (o : Option ℕ). IfSome o (λ v. (v ≤ length (journal_after change)) × AreOfEach (scene_at (journal_after change) v).sources cache.bundles.items))
+        (sym none.2) tt;
     due = λ source inside. none_due source;
     fresh = λ of none. absurd (cc none);
   } where
+    none_kept : cache.bundles.items ≡ []
+    none_kept = none.0
+
+    none_marked : cache.marks.items ≡ []
+    none_marked = none.1
+
     none_due : (source : Source) → is_wanted cache.bundles.items cache.marks.items source ≡ true
     none_due source = (λ i. is_wanted (none_kept i) (none_marked i) source)
 
@@ -72,9 +81,9 @@ module _ (change : Change) (is : IsChange change) where
         (there held.cache empty.bundles);
     stale = λ version kept out. absurd (cc (out, empty.out));
   } where
-    there : (cache : Option Cache) → IsSomeAnd cache (λ c. (c.bundles.items ≡ []) × (c.marks.items ≡ [])) → IsSomeAnd cache (CacheIsRight (journal_after change) r None)
+    there : (cache : Option Cache) → IsSomeAnd cache HasNone → IsSomeAnd cache (CacheIsRight (journal_after change) r None)
     there None empty = empty
-    there (Some cache) empty = no-bundles r cache empty.0 empty.1
+    there (Some cache) empty = no-bundles r cache empty
 
   pub fresh-holds : (r : Receiver) (held : HeldRow) → IsFresh change.version held → RowHolds (journal_after change) r held
   fresh-holds r held fresh = empty-right r held fresh.empty (subst (RowIsRight (journal_after change)) (sym (fresh-row r held fresh)) (new-right past edit r))
@@ -178,9 +187,9 @@ module _ (change : Change) (is : IsChange change) where
 
     -- with its bundles, it gets their marks
     pub marked-holds : (kept : Option KeptLevels) (cache more : Cache) → held.cache ≡ Some cache → option_map kept_of kept ≡ option_map kept_of held.kept → ByIsRight (journal_after change) r kept
-        → more.bundles.items ≡ cache.bundles.items → more.marks.items ≡ marks_after edit change.logged.old r cache.bundles.items cache.marks.items
+        → more.bundles.items ≡ cache.bundles.items → more.order ≡ cache.order → more.marks.items ≡ marks_after edit change.logged.old r cache.bundles.items cache.marks.items
         → RowHolds (journal_after change) r (record { since = held.since; kept = kept; out = held.out; cache = Some more })
-    marked-holds kept cache more some levels by bundles marks = record {
+    marked-holds kept cache more some levels by bundles order marks = record {
       right = more-row (record { since = held.since; kept = kept; out = held.out; cache = Some more }) (λ i. record { receiver = r; since = held.since; kept = levels i; out = held.out });
       by = by;
       bundles = subst (λ (o : Option ℕ). CacheIsThere (journal_after change) r (option_map kept_of kept) o (Some more)) (sym (free-of cache some)) right;
@@ -190,4 +199,4 @@ module _ (change : Change) (is : IsChange change) where
       right =
           subst (λ (k : Option Kept). CacheIsRight (journal_after change) r k more) (sym levels)
           (right-more edit past (scene_after change) change.logged.old is.accepted r (option_map kept_of held.kept)
-          (λ of some_of. (holds.right.kept of some_of).past) cache more (right-of cache some) bundles marks)
+          (λ of some_of. (holds.right.kept of some_of).past) cache more (right-of cache some) bundles order marks)

@@ -30,6 +30,7 @@ use Rattle.map_board.proofs.Naming.{named-is, same-name}
 use Rattle.map_board.proofs.Keeping.{none-of}
 use Rattle.map_board.proofs.Journals.{newest-more, at-more, through, some-more}
 use Rattle.map_board.proofs.Unmarked.{left, length-marks, unmarked-after}
+use Rattle.map_board.proofs.Ordered.{ordered-more}
 use Rattle.map_board.proofs.Apart.{found-named, some-named, same-thing, within-apart, newest-apart, accepted-apart}
 
 path-stays : UntouchedPathsStay
@@ -270,9 +271,9 @@ bundles-stay edit a b old r accepted h =
 -- bundles that are right for a journal are so with one edit more, where they have its marks
 pub right-more : (edit : Edit) (journal : List Edit) (b : Book) (old : Option Part) → apply_of edit (newest_scene journal) ≡ Ok (b, old)
     → (r : Receiver) (kept : Option Kept) → ((of : Kept) → kept ≡ Some of → of.version ≤ length journal) → (cache more : Cache) → CacheIsRight journal r kept cache
-    → more.bundles.items ≡ cache.bundles.items → more.marks.items ≡ marks_after edit old r cache.bundles.items cache.marks.items
+    → more.bundles.items ≡ cache.bundles.items → more.order ≡ cache.order → more.marks.items ≡ marks_after edit old r cache.bundles.items cache.marks.items
     → CacheIsRight (journal ++ edit ∷ []) r kept more
-right-more edit journal b old accepted r kept past cache more right same set =
+right-more edit journal b old accepted r kept past cache more right same order set =
     let before : AreRight journal r kept cache.bundles.items cache.marks.items =
     record { can = right.can; stand = right.stand; within = right.within; due = right.due } in
     let all = subst (λ (x : List Bundle × List Bool). AreRight (journal ++ edit ∷ []) r kept x.0 x.1) (λ i. (sym same i, sym set i))
@@ -281,6 +282,7 @@ right-more edit journal b old accepted r kept past cache more right same set =
       can = all.can;
       stand = all.stand;
       within = all.within;
+      ordered = ordered-more journal edit cache more order same right.ordered;
       due = all.due;
       fresh = λ of is none.
           let more = some-more (touches r) journal edit of.version (past of is) in

@@ -12,6 +12,7 @@ use Rattle.scene_book.specs.declared.edits.Edit.{Edit}
 use Rattle.path_calc.specs.Bundles.{Bundle}
 use Rattle.path_calc.specs.Show.{sources_within, bundles_of}
 use Rattle.path_cache.specs.Refreshed.{CanRefresh, Stand, is_wanted}
+use Rattle.path_cache.specs.Standing.{AreOfEach}
 use Rattle.map_board.specs.declared.log.LogEntry.{LogEntry}
 use Rattle.map_board.specs.declared.state.Board.TheInside.{Inside}
 use Rattle.map_board.specs.declared.rows.Back.{Back}
@@ -31,12 +32,14 @@ use Rattle.map_board.proofs.Naming.{named-is, itself}
 use Rattle.map_board.proofs.Logging.{entries-length, later as logged-later}
 use Rattle.map_board.proofs.Places.{At, at-place, none-here, board-set, rows-set}
 use Rattle.map_board.proofs.RowsRight.{kept-right, freed-right}
+use Rattle.map_board.specs.Standing.{IsOrdered}
 use Rattle.map_board.proofs.Caching.{AreRight}
+use Rattle.map_board.proofs.Ordered.{ordered-back}
 use Rattle.map_board.proofs.Since.{right-later, touching-later, fresh-later, answer-right}
 
 -- what contracts see of a board
 abbrev pub seen : Inside → State
-seen b = record { journal = b.past; rows = rows_of b.hold.value.scene.receivers b.rows.items; finished = b.finished; counts = counts_of b.counts }
+seen b = record { journal = b.past; rows = rows_of b.hold.scene.receivers b.rows.items; finished = b.finished; counts = counts_of b.counts }
 
 -- ---- where it comes back
 
@@ -120,10 +123,10 @@ pub record IsReached (journal : List Edit) (entries : List LogEntry) (version : 
   pub later : drop (length entries - (length journal - version)) entries ≡ entries_after journal version
 
 -- the log reaches back to a version that is out
-pub reached : (b : Inside) → IsBoard b.version b.past b.hold.value.scene b.rows.items b.log b.namings.items → (name : List ℕ) (version : ℕ)
+pub reached : (b : Inside) → IsBoard b.version b.past b.hold.scene b.rows.items b.log b.namings.items → (name : List ℕ) (version : ℕ)
     → version_out name (seen b).rows ≡ Some version → IsReached b.past b.log.entries.items version
 reached b board name version out =
-    let within = out-within b.past b.hold.value.scene.receivers b.rows.items b.log.start version name board.each board.reaches out in
+    let within = out-within b.past b.hold.scene.receivers b.rows.items b.log.start version name board.each board.reaches out in
     let all = length-after b.past b.log.start board.logged.past in
     let count = ap length board.logged.entries in
     let before : length b.log.entries.items - (length b.past - version) ≡ version - b.log.start = omega (arith, all, count, within.from, within.past) in
@@ -138,11 +141,12 @@ reached b board name version out =
 cache-right : (journal : List Edit) (r : Receiver) (kept : Option Kept) (bundles : List Bundle) (marks : List Bool) (cache : Cache)
     → cache.bundles.items ≡ bundles → cache.marks.items ≡ marks → AreRight journal r kept bundles marks
     → ((of : Kept) → kept ≡ Some of → first_touching journal of.version r ≡ None → bundles ≡ bundles_of (newest_scene journal) r)
-    → CacheIsRight journal r kept cache
-cache-right journal r kept bundles marks cache same set right fresh = record {
+    → IsOrdered journal cache → CacheIsRight journal r kept cache
+cache-right journal r kept bundles marks cache same set right fresh ordered = record {
   can = subst (λ (x : List Bundle × List Bool). CanRefresh x.0 x.1) (λ i. (sym same i, sym set i)) right.can;
   stand = subst (λ (x : List Bundle × List Bool). Stand (newest_scene journal) r x.0 x.1) (λ i. (sym same i, sym set i)) right.stand;
   within = subst (λ (x : List Bundle × List Bool). AreWithin (newest_scene journal) r x.0 x.1) (λ i. (sym same i, sym set i)) right.within;
+  ordered = ordered;
   due = λ source inside. (λ i. is_wanted (same i) (set i) source) ∙ right.due source inside;
   fresh = λ of is none. same ∙ fresh of is none;
 }
@@ -153,7 +157,8 @@ module _ (journal : List Edit) (r : Receiver) (held : HeldRow) (back : Back) (ac
   module _ (answer : Answer) (same : answer.receiver ≡ r) (right : IsRight journal answer) (few : length answer.bundles ≤ 128) (out : held.out ≡ Some answer.version)
       (later : List LogEntry) (later_is : later ≡ entries_after journal answer.version)
       (levels : back.kept ≡ Some (record { version = answer.version; by = first_entry_touching answer.receiver answer.bundles answer.version later; levels = answer.levels }))
-      (bundles : back.cache.bundles.items ≡ answer.bundles) (marks : back.cache.marks.items ≡ marks_after_all later answer.receiver answer.bundles (no_marks answer.bundles)) where
+      (bundles : back.cache.bundles.items ≡ answer.bundles) (marks : back.cache.marks.items ≡ marks_after_all later answer.receiver answer.bundles (no_marks answer.bundles))
+      (order : IfSome back.cache.order (λ v. (v ≡ answer.version) × AreOfEach answer.scene.sources answer.bundles)) where
     abbrev kept : Kept
     kept = record { version = answer.version; levels = answer.levels }
 
@@ -189,7 +194,8 @@ module _ (journal : List Edit) (r : Receiver) (held : HeldRow) (back : Back) (ac
         (record {
           right = kept-right journal (row_of r held) answer past out same right holds.right;
           by = touching-later journal answer.version accepted r answer.bundles are;
-          bundles = cache-right journal r (Some kept) answer.bundles marks_since back.cache bundles marked after fresh;
+          bundles = cache-right journal r (Some kept) answer.bundles marks_since back.cache bundles marked after fresh
+              (ordered-back journal answer.version answer.scene answer.bundles back.cache past right.scene bundles order);
           stale = λ version kept none is. absurd (cc none);
         })
 
@@ -198,7 +204,8 @@ module _ (journal : List Edit) (r : Receiver) (held : HeldRow) (back : Back) (ac
   module _ (job : Job) (same : job.receiver ≡ r) (place : ℕ) (is_job : IsJob place job) (rows : List Row) (fit : IsFit journal rows job)
       (found : row_named job.receiver.name rows ≡ Some (row_of r held)) (out : held.out ≡ Some job.version)
       (later : List LogEntry) (later_is : later ≡ entries_after journal job.version) (levels : back.kept ≡ None) (bundles : back.cache.bundles.items ≡ job.kept)
-      (marks : back.cache.marks.items ≡ marks_after_all later job.receiver job.kept job.marks) where
+      (marks : back.cache.marks.items ≡ marks_after_all later job.receiver job.kept job.marks)
+      (order : IfSome back.cache.order (λ v. (v ≡ job.version) × AreOfEach job.scene.sources job.kept)) where
     abbrev of_row : Option Kept
     of_row = option_map kept_of held.kept
 
@@ -234,7 +241,8 @@ module _ (journal : List Edit) (r : Receiver) (held : HeldRow) (back : Back) (ac
         (record {
           right = freed-right journal (row_of r held) holds.right;
           by = holds.by;
-          bundles = cache-right journal r of_row job.kept job_marks back.cache bundles marked job_after (job_fresh held.kept refl);
+          bundles = cache-right journal r of_row job.kept job_marks back.cache bundles marked job_after (job_fresh held.kept refl)
+              (ordered-back journal job.version job.scene job.kept back.cache (holds.right.out job.version out).past fit.scene bundles order);
           stale = λ version kept none is. absurd (cc none);
         })
 
@@ -245,25 +253,26 @@ pub answer-suits : (state : State) (place : ℕ) (back : Back) (answer : Answer)
     → (later : List LogEntry) → later ≡ entries_after state.journal answer.version
     → back.kept ≡ Some (record { version = answer.version; by = first_entry_touching answer.receiver answer.bundles answer.version later; levels = answer.levels })
     → back.cache.bundles.items ≡ answer.bundles → back.cache.marks.items ≡ marks_after_all later answer.receiver answer.bundles (no_marks answer.bundles)
-    → SuitsAt state place back
-answer-suits state place back answer out there right few later later_is levels bundles marks = record {
+    → IfSome back.cache.order (λ v. (v ≡ answer.version) × AreOfEach answer.scene.sources answer.bundles) → SuitsAt state place back
+answer-suits state place back answer out there right few later later_is levels bundles marks order = record {
   row = out.row;
   there = there;
   holds = λ held accepted is holds.
       holds-kept state.journal out.row.receiver held back accepted holds answer (sym out.receiver) right few (ap (λ (row : Row). row.out) is ∙ out.out)
-      later later_is levels bundles marks;
+      later later_is levels bundles marks order;
 }
 
 pub job-suits : (state : State) (place : ℕ) (back : Back) (job : Job) (out : IsOutFor state.rows job.version job.receiver)
     → slice_get state.rows place ≡ Some out.row → (job_place : ℕ) → IsJob job_place job → IsFit state.journal state.rows job
     → (later : List LogEntry) → later ≡ entries_after state.journal job.version → back.kept ≡ None → back.cache.bundles.items ≡ job.kept
-    → back.cache.marks.items ≡ marks_after_all later job.receiver job.kept job.marks → SuitsAt state place back
-job-suits state place back job out there job_place is_job fit later later_is levels bundles marks = record {
+    → back.cache.marks.items ≡ marks_after_all later job.receiver job.kept job.marks
+    → IfSome back.cache.order (λ v. (v ≡ job.version) × AreOfEach job.scene.sources job.kept) → SuitsAt state place back
+job-suits state place back job out there job_place is_job fit later later_is levels bundles marks order = record {
   row = out.row;
   there = there;
   holds = λ held accepted is holds.
       holds-freed state.journal out.row.receiver held back accepted holds job (sym out.receiver) job_place is_job state.rows fit
-      (out.found ∙ ap (λ row. Some row) (sym is)) (ap (λ (row : Row). row.out) is ∙ out.out) later later_is levels bundles marks;
+      (out.found ∙ ap (λ row. Some row) (sym is)) (ap (λ (row : Row). row.out) is ∙ out.out) later later_is levels bundles marks order;
 }
 
 -- ---- a board with it
@@ -275,10 +284,10 @@ held-row r back held = go back.kept held.kept where
   go None o = refl
   go (Some k) o = refl
 
-module _ (b : Inside) (board : IsBoard b.version b.past b.hold.value.scene b.rows.items b.log b.namings.items) (place : ℕ) (back : Back)
+module _ (b : Inside) (board : IsBoard b.version b.past b.hold.scene b.rows.items b.log b.namings.items) (place : ℕ) (back : Back)
     (suits : SuitsAt (seen b) place back) where
-  pub at : At b.past b.hold.value.scene.receivers b.rows.items place
-  at = at-place b.past b.hold.value.scene.receivers b.rows.items place suits.row board.each suits.there
+  pub at : At b.past b.hold.scene.receivers b.rows.items place
+  at = at-place b.past b.hold.scene.receivers b.rows.items place suits.row board.each suits.there
 
   row-is : row_of at.r at.held ≡ suits.row
   row-is = cc (at.row, suits.there)
@@ -297,16 +306,16 @@ module _ (b : Inside) (board : IsBoard b.version b.past b.hold.value.scene b.row
       (suits.holds at.held board.accepted ((λ i. row_of (sym r_is i) at.held) ∙ row-is) (subst (λ (r : Receiver). RowHolds b.past r at.held) r_is at.holds))
 
   -- another row stands there
-  pub board-with : IsBoard b.version b.past b.hold.value.scene rows-back b.log b.namings.items
+  pub board-with : IsBoard b.version b.past b.hold.scene rows-back b.log b.namings.items
   board-with =
-      board-set b.version b.past b.hold.value.scene b.rows.items b.log b.namings.items place at.r (held_with back at.held) board at.receiver holds tt
+      board-set b.version b.past b.hold.scene b.rows.items b.log b.namings.items place at.r (held_with back at.held) board at.receiver holds tt
 
   -- contracts see the row of that place changed
   pub rows-with : (row : Row) → slice_get (seen b).rows place ≡ Some row
-      → record (seen b) { rows = rows_of b.hold.value.scene.receivers rows-back }
+      → record (seen b) { rows = rows_of b.hold.scene.receivers rows-back }
       ≡ record (seen b) { rows = with_row row.receiver.name (row_with back.kept) (seen b).rows }
   rows-with row there =
       let same : row_of at.r at.held ≡ row = cc (at.row, there) in
       let changed : row_of at.r (held_with back at.held) ≡ row_with back.kept (row_of at.r at.held) = held-row at.r back at.held in
-      ap (λ rows. record (seen b) { rows = rows }) (rows-set b.hold.value.scene.receivers b.rows.items place at.r at.held (held_with back at.held) (row_with back.kept) board.apart at.receiver at.there changed)
+      ap (λ rows. record (seen b) { rows = rows }) (rows-set b.hold.scene.receivers b.rows.items place at.r at.held (held_with back at.held) (row_with back.kept) board.apart at.receiver at.there changed)
       ∙ ap (λ (y : Row). record (seen b) { rows = with_row y.receiver.name (row_with back.kept) (seen b).rows }) same

@@ -13,6 +13,7 @@ pub mod InTurn
 pub mod Unmarked
 pub mod PathTests
 pub mod Apart
+pub mod Ordered
 pub mod Caching
 pub mod SeenRows
 pub mod Logging
@@ -25,6 +26,7 @@ pub mod Emptiness
 pub mod BoardAfter
 pub mod Receivers
 pub mod Staying
+pub mod LeftNames
 pub mod LeftSources
 pub mod LeftObstacles
 pub mod Showing
@@ -34,3 +36,4 @@ pub mod OnePut
 pub mod First
 pub mod AnyCalls
 pub mod FarMarks
+pub mod OnePath

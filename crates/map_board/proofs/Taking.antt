@@ -1,5 +1,5 @@
 -- A job for a needy row, and the row after it was taken.
-use Rattle.std.proofs.Common.{◌≡◌, ℕ, suc, ◌+◌, ◌<◌, Bool, true, false, cond, List, [], ◌∷◌, length, take, set, Some, None, refl, sym, ap, ◌∙◌, subst, arith}
+use Rattle.std.proofs.Common.{◌≡◌, ℕ, suc, ◌+◌, ◌<◌, ◌≤◌, Bool, true, false, cond, List, [], ◌∷◌, length, take, set, Some, None, refl, sym, ap, ◌∙◌, subst, arith}
 use Rattle.std.specs.Prelude.{Option, Contains, IsSomeAnd, slice_get, is_some, not, ◌&&◌, count_by}
 use Rattle.std.specs.List.{list_any}
 use Rattle.std.specs.Option.{option_map}
@@ -12,6 +12,7 @@ use Rattle.scene_book.specs.declared.edits.Edit.{Edit}
 use Rattle.path_calc.specs.Bundles.{Bundle}
 use Rattle.path_calc.specs.Show.{sources_within}
 use Rattle.path_cache.specs.Refreshed.{CanRefresh, Stand, is_wanted}
+use Rattle.path_cache.specs.Standing.{AreOfEach}
 use Rattle.map_board.specs.declared.log.Log.{Log}
 use Rattle.map_board.specs.declared.namings.Naming.{Naming}
 use Rattle.map_board.specs.declared.caches.Cache.{Cache}
@@ -28,7 +29,9 @@ use Rattle.map_board.specs.Machine.{with_out, TakesJob, IsIdle}
 use Rattle.map_board.specs.Boards.{kept_of, row_of, rows_of, counts_of, shown_by, row_out, is_held_needy, is_held_out, CacheIsRight, CacheIsThere, RowHolds, EachHolds, IsBoard, NeedyAt, IsNeedyAt}
 use Rattle.map_board.proofs.Keeping.{none-of, this-row}
 use Rattle.map_board.proofs.Places.{At, at-place, held-at, held-needy, any-needy, count-held, each-lengths, rows-lengths, board-set, row-at, rows-set}
+use Rattle.map_board.specs.Standing.{NamesStand, IsOrdered}
 use Rattle.map_board.proofs.RowsRight.{taken-right}
+use Rattle.map_board.proofs.Ordered.{ordered-newest}
 
 -- ---- what a needy row has
 
@@ -160,6 +163,12 @@ module _ (journal : List Edit) (scene : Book) (hs : List HeldRow) (place : ℕ) 
       let r_is : rdy.at.r ≡ r = cc (there, rdy.at.receiver) in
       subst (λ (y : Book × Receiver × Cache). AreWithin y.0 y.1 y.2.bundles.items y.2.marks.items)
       (λ i. (sym same i, r_is i, cache-is cache cached i)) rdy.right.within
+
+  -- where they are known to be of each source since a version since which the names stand, they are so in this scene
+  pub of-each : (cache : Cache) → rdy.at.held.cache ≡ Some cache → (since : ℕ) → NamesStand journal since → IsSomeAnd cache.order (λ v. since ≤ v)
+      → AreOfEach scene.sources cache.bundles.items
+  of-each cache found since stand known =
+      ordered-newest journal scene since cache same stand (subst (λ (c : Cache). IsOrdered journal c) (cache-is cache found) rdy.right.ordered) known
 
 -- ---- the job
 

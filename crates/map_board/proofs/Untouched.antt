@@ -138,5 +138,5 @@ module _ (change : Change) (is : IsChange change) (r : Receiver) (unnamed : is_u
       go (Some cache) some =
           let count = (right-of change is r held holds cache some).can.one_each in
           subst (RowHolds (journal_after change) r) (λ i. record { since = held.since; kept = held.kept; out = held.out; cache = sym some i })
-          (marked-holds change is r held holds held.kept cache cache some refl (by-stays held.kept refl) refl
+          (marked-holds change is r held holds held.kept cache cache some refl (by-stays held.kept refl) refl refl
           (sym (marks-stay cache.bundles.items cache.marks.items (omega (arith, count)))))

@@ -25,6 +25,7 @@ use Rattle.map_board.specs.Namings.{namings_of}
 use Rattle.map_board.specs.Due.{is_due}
 use Rattle.map_board.specs.Held.{AreWithin}
 use Rattle.map_board.specs.Facts.{RowIsRight}
+use Rattle.map_board.specs.Standing.{IsOrdered}
 
 -- ---- what a board's fields stand for
 
@@ -75,11 +76,12 @@ held_looks rs helds = map (λ pair. held_look pair.0 pair.1) (zip rs helds)
 -- ---- what a board keeps
 
 -- Bundles are right for a row in the newest scene: unmarked ones are the scene's and of sources within reach, and those
--- that are marked or missing are due
+-- that are marked or missing are due; what is noted of their order holds
 pub record CacheIsRight (journal : List Edit) (r : Receiver) (kept : Option Kept) (cache : Cache) : Type 0 where
   pub can : CanRefresh cache.bundles.items cache.marks.items
   pub stand : Stand (newest_scene journal) r cache.bundles.items cache.marks.items
   pub within : AreWithin (newest_scene journal) r cache.bundles.items cache.marks.items
+  pub ordered : IsOrdered journal cache
   pub due : (source : Source) → Contains (sources_within (newest_scene journal) r) source
       → is_wanted cache.bundles.items cache.marks.items source ≡ is_due journal kept r source
   -- while no edit touches the receiver, all of them are the scene's
@@ -145,11 +147,15 @@ IsNeedyAt helds place = IsSomeAnd (slice_get helds place) (λ held. is_held_need
 abbrev pub NoneNeedyBefore : ℕ → List HeldRow → Type 0
 NoneNeedyBefore place helds = list_any is_held_needy (take place helds) ≡ false
 
+-- a row has no bundles
+abbrev pub HasNone : Cache → Type 0
+HasNone cache = (cache.bundles.items ≡ []) × (cache.marks.items ≡ []) × (cache.order ≡ None)
+
 -- a row is empty: nothing is kept or out
 pub record IsEmpty (held : HeldRow) : Type 0 where
   pub kept : held.kept ≡ None
   pub out : held.out ≡ None
-  pub bundles : IsSomeAnd held.cache (λ cache. (cache.bundles.items ≡ []) × (cache.marks.items ≡ []))
+  pub bundles : IsSomeAnd held.cache HasNone
 
 -- so is each row from a place on
 abbrev pub EmptyFrom : ℕ → List HeldRow → Type 0

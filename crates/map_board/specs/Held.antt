@@ -1,13 +1,12 @@
 -- What jobs and answers keep.
-use Rattle.std.specs.Prelude.{◌≡◌, ℕ, ◌≤◌, Bool, true, false, List, length, map, slice_get, Option, Some, is_some, IfSome}
-use Rattle.std.specs.declared.sync.Arc.{Arc}
-use Rattle.std.specs.declared.alloc.Global.{Global}
+use Rattle.std.specs.Prelude.{◌≡◌, ℕ, ◌≤◌, Bool, true, false, List, [], length, map, slice_get, Option, Some, is_some, IfSome}
 use Rattle.path_calc.specs.Levels.{levels_of}
 use Rattle.scene_parts.specs.Views.{Receiver}
 use Rattle.scene_book.specs.Book.{Book}
 use Rattle.path_calc.specs.Bundles.{Bundle}
 use Rattle.path_cache.specs.declared.sums.RowSums.{RowSums}
 use Rattle.path_cache.specs.Refreshed.{CanRefresh, count_wanted, unmarked}
+use Rattle.path_cache.specs.Standing.{AreOfEach}
 use Rattle.path_cache.specs.Sums.{Fits}
 use Rattle.map_board.specs.declared.scenes.PreparedScene.{PreparedScene}
 use Rattle.map_board.specs.Due.{source_within}
@@ -26,12 +25,12 @@ pub record IsJob (place : ℕ) (job : Job) : Type 0 where
   pub within : AreWithin job.scene job.receiver job.kept job.marks
   pub due : job.due ≡ count_wanted job.scene job.receiver job.kept job.marks
 
--- a job's name is its receiver's, what it has of a scene is of its own, and its sums are those of its kept bundles
-pub record IsAtHand (bytes : List ℕ) (shared : Option (Arc PreparedScene Global)) (sums : RowSums) (job : Job) : Type 0
-  where
-    pub name : bytes ≡ job.receiver.name
-    pub hold : IfSome shared (λ prepared. prepared.value.scene ≡ job.scene)
-    pub fit : Fits sums job.kept
+-- what a job has of a scene is its own but for the receivers, its sums are those of its kept bundles, and it may know that
+-- these are of each source of its scene, in their order
+pub record IsAtHand (shared : Option PreparedScene) (sums : RowSums) (stand : Bool) (job : Job) : Type 0 where
+  pub hold : IfSome shared (λ prepared. prepared.scene ≡ record job.scene { receivers = [] })
+  pub fit : Fits sums job.kept
+  pub of_each : stand ≡ true → AreOfEach job.scene.sources job.kept
 
 -- a job of a version for the receiver at a place in a scene
 pub record IsJobOf (version place : ℕ) (scene : Book) (kept : List Bundle) (marks : List Bool) (job : Job) : Type 0
@@ -47,11 +46,11 @@ pub record IsJobOf (version place : ℕ) (scene : Book) (kept : List Bundle) (ma
 abbrev pub no_marks : List Bundle → List Bool
 no_marks bundles = map (λ bundle. false) bundles
 
--- an answer keeps: the name is its receiver's, there is a mark of each bundle and none is set, there are few bundles,
--- and the levels and the sums are theirs
-pub record IsAnswer (bytes : List ℕ) (marks : List Bool) (sums : RowSums) (answer : Answer) : Type 0 where
-  pub name : bytes ≡ answer.receiver.name
+-- an answer keeps: there is a mark of each bundle and none is set, there are few bundles, the levels and the sums are theirs,
+-- and it may know that they are of each source of its scene, in their order
+pub record IsAnswer (marks : List Bool) (sums : RowSums) (stand : Bool) (answer : Answer) : Type 0 where
   pub plain : marks ≡ no_marks answer.bundles
   pub few : length answer.bundles ≤ 128
   pub levels : answer.levels ≡ levels_of answer.bundles
   pub fit : Fits sums answer.bundles
+  pub of_each : stand ≡ true → AreOfEach answer.scene.sources answer.bundles

@@ -15,6 +15,7 @@ pub mod Log
 pub mod Namings
 pub mod Later
 pub mod FirstNaming
+pub mod Standing
 pub mod Boards
 pub mod Back
 pub mod Calculated

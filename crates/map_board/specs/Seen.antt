@@ -6,7 +6,7 @@ use Rattle.map_board.specs.Views.{Job, Answer}
 
 abbrev pub job_seen : JobInside → Job
 job_seen j =
-    let r = j.receiver.value in
+    let r = j.receiver in
     let scene = j.scene.value in
     let due = count_wanted scene r j.kept.items j.marks.items in
     record { version = j.version; receiver = r; scene = scene; kept = j.kept.items; marks = j.marks.items; due = due }
@@ -14,7 +14,7 @@ job_seen j =
 abbrev pub answer_seen : AnswerInside → Answer
 answer_seen a = record {
   version = a.version;
-  receiver = a.receiver.value;
+  receiver = a.receiver;
   scene = a.scene.value;
   bundles = a.bundles.items;
   levels = a.levels;

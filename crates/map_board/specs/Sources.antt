@@ -1,5 +1,5 @@
 -- Edits that leave sources, or obstacles, as they are.
-use Rattle.std.specs.Prelude.{◌≡◌, Bool, true, false, Option, Ok}
+use Rattle.std.specs.Prelude.{◌≡◌, Bool, true, false, map, Option, Ok}
 use Rattle.scene_parts.specs.declared.parts.Part.{Part}
 use Rattle.scene_parts.specs.declared.parts.Part.TheVariants as parts
 use Rattle.scene_book.specs.Book.{Book}
@@ -11,6 +11,12 @@ use Rattle.scene_book.specs.declared.edits.Edit.TheVariants as edits
 abbrev pub LeavesSources : Edit → Book → Type 0
 LeavesSources edit book =
     (after : Book) (old : Option Part) → apply_of edit book ≡ Ok (after, old) → after.sources ≡ book.sources
+
+-- an edit with its old part leaves the names of the sources as they are, and their order, in every scene that accepts it
+abbrev pub LeavesSourceNames : Edit → Option Part → Type 0
+LeavesSourceNames edit old =
+    (book after : Book) → apply_of edit book ≡ Ok (after, old)
+    → map (λ s. s.name) after.sources ≡ map (λ s. s.name) book.sources
 
 abbrev pub is_source : Part → Bool
 is_source (parts.Source source) = true

@@ -9,8 +9,9 @@ use crate::held_rows::HeldRows;
 use crate::log::Log;
 use crate::namings::{Naming, grid_of, named_receivers, note, room_for_naming};
 use crate::past::Past;
-use crate::renewing::{Change, place_removed, place_to_go, rows_more};
+use crate::renewing::{Change, place_removed, place_to_go, rows_more, source_place};
 use crate::scenes::{PreparedScene, edit_scene};
+use crate::standing::named_since;
 use crate::state::Board;
 use crate::testing::{InOneThread, InThreads, PathTest};
 use scene_book::{Edit, EditFault, Logged};
@@ -18,7 +19,6 @@ use scene_parts::{Globals, GridSpec, NoMemory, Part};
 use std::alloc::Global;
 use std::mem;
 use std::snapshot::Snapshot;
-use std::sync::Arc;
 use std::thread::Threads;
 
 impl Board {
@@ -72,13 +72,16 @@ impl Board {
             globals,
         } = applied;
         self.version += 1;
+        let first = source_place(&edit, &self.hold.scene);
         let change = Change {
             logged: Logged { edit, old },
             globals,
             version: self.version,
             past: Snapshot::of(&self.past),
+            first,
         };
         let gone = place_removed(&change.logged, place);
+        self.named_since = named_since(self.named_since, &change.logged, self.version);
         self.rows
             .carry_over(alloc, gone, &self.hold.scene, &change, test);
         let Change {
@@ -86,6 +89,7 @@ impl Board {
             globals,
             version,
             past: _,
+            first: _,
         } = change;
         let named = named_receivers(&edit, &old, grid);
         let (past, edit) = mem::replace(&mut self.past, Past::none()).and(edit);
@@ -114,7 +118,7 @@ fn apply_with_room(
     log: &mut Log,
     namings: &mut Vec<Naming>,
     rows: &mut HeldRows,
-    hold: &mut Arc<PreparedScene>,
+    hold: &mut PreparedScene,
     edit: &Edit,
 ) -> Result<Applied, EditFault>
     ensures fits { OnOk result (suc version < 2 ^ 64) }
@@ -126,15 +130,15 @@ fn apply_with_room(
     ensures same { rows.new.items ≡ rows.old.items }
     ensures room { OnOk result
         (vec_len rows.new + most_more edit.now (length rows.old.items) ≤ vec_capacity rows.new) }
-    ensures made { IfOk result (λ applied. apply_of edit.now hold.old.value.scene
-        ≡ Ok (hold.new.value.scene, applied.old)) }
+    ensures made { IfOk result (λ applied. apply_of edit.now hold.old.scene
+        ≡ Ok (hold.new.scene, applied.old)) }
     ensures grid { IfOk result (λ applied. applied.grid ≡ grid_put edit.now) }
     ensures place { IfOk result (λ applied. applied.place
-        ≡ named_place edit.now hold.old.value.scene.receivers) }
-    ensures globals { IfOk result (λ applied. applied.globals ≡ hold.old.value.scene.globals) }
+        ≡ named_place edit.now hold.old.scene.receivers) }
+    ensures globals { IfOk result (λ applied. applied.globals ≡ hold.old.scene.globals) }
     ensures fault { IfErr result (λ fault.
-        Unless (lacks_memory fault) (apply_of edit.now hold.old.value.scene ≡ Err fault)) }
-    ensures unchanged { OnErr result (hold.new.value.scene ≡ hold.old.value.scene) }
+        Unless (lacks_memory fault) (apply_of edit.now hold.old.scene ≡ Err fault)) }
+    ensures unchanged { OnErr result (hold.new.scene ≡ hold.old.scene) }
 {
     let grid = grid_to_put(version, edit)?;
     make_room(log, namings, rows, edit)?;

@@ -1,23 +1,25 @@
 //! Jobs that are taken from a board, and the answers that solving them gives.
-ghost use Rattle.std.specs.Prelude.{◌≡◌, ◌+◌, ◌<◌, length, slice_get, Some, IfOk, IfErr, OnOk};
+ghost use Rattle.std.specs.Prelude.{◌≡◌, ◌+◌, ◌<◌, true, List, [], length, slice_get, Some, IfOk, IfErr, IfSome, OnOk};
+ghost use Rattle.path_calc.specs.Bundles.{Bundle as BundleSeen};
 ghost use Rattle.path_cache.specs.Refreshed.{CanRefresh};
+ghost use Rattle.path_cache.specs.Renewals.{Gives, with_each};
+ghost use Rattle.path_cache.specs.Standing.{AreOfEach, StandAsSources};
 ghost use Rattle.touch_test.specs.Envelopes.{TellsOf};
 ghost use Rattle.map_board.specs.Calculated.{IsCalculated};
 ghost use Rattle.map_board.specs.Held.{AreWithin, IsJobOf};
 ghost use Rattle.map_board.specs.Jobs.{Answers};
 
-use crate::name_copies::NameCopy;
+use crate::receiver_copies::ReceiverCopy;
 use crate::rows::Cache;
 use crate::scenes::PreparedScene;
-use path_cache::{Bundle, Renewed, RowSums, Steps, WithSums, renew};
+use path_cache::{Bundle, Renewed, Replaced, RowSums, Steps, WithSums, renew};
 use path_calc::Levels;
 use scene_book::Scene;
 use scene_geom::Pt;
-use scene_parts::{NoMemory, Receiver};
+use scene_parts::NoMemory;
 use std::alloc::Global;
 use std::marker::Model;
 use std::snapshot::Snapshot;
-use std::sync::Arc;
 use std::sync::ledger::Ledger;
 use touch_test::Envelope;
 
@@ -25,19 +27,20 @@ use touch_test::Envelope;
 /// which some are marked. Contracts see it as a record of the version, the receiver, the scene, the kept bundles with their
 /// marks, and the number of bundles that have to be calculated.
 ///
-/// Where a scene has as many owners as it can have, a job has none of it, and can't be solved.
+/// It has all of its scene but the receivers, and shares it. Where a list has as many owners as it can have, a job has none of
+/// the scene, and can't be solved.
 #[derive(Drop)]
 pub struct Job {
     pub(crate) version: u64,
     pub(crate) place: u32,
-    pub(crate) name: NameCopy,
-    pub(crate) receiver: Snapshot<Receiver>,
+    pub(crate) receiver: ReceiverCopy,
     pub(crate) scene: Snapshot<Scene>,
-    pub(crate) hold: Option<Arc<PreparedScene>>,
+    pub(crate) hold: Option<PreparedScene>,
     pub(crate) kept: Vec<Bundle>,
     pub(crate) marks: Vec<bool>,
     pub(crate) sums: RowSums,
     pub(crate) envelope: Envelope,
+    pub(crate) stand: bool,
     ghost tells: { TellsOf envelope kept.items },
 }
 
@@ -51,7 +54,7 @@ impl Model for Job {
 
     ghost view = { job_seen };
 
-    ghost invariant = { λ j. IsJob j.place (job_seen j) × IsAtHand j.name j.hold j.sums (job_seen j) };
+    ghost invariant = { λ j. IsJob j.place (job_seen j) × IsAtHand j.hold j.sums j.stand (job_seen j) };
 }
 
 /// What was calculated for a job. Contracts see it as a record of the version, the receiver, the scene, the bundles and
@@ -59,14 +62,14 @@ impl Model for Job {
 #[derive(Drop)]
 pub struct Answer {
     pub(crate) version: u64,
-    pub(crate) name: NameCopy,
-    pub(crate) receiver: Snapshot<Receiver>,
+    pub(crate) receiver: ReceiverCopy,
     pub(crate) scene: Snapshot<Scene>,
     pub(crate) bundles: Vec<Bundle>,
     pub(crate) marks: Vec<bool>,
     pub(crate) levels: Levels,
     pub(crate) sums: RowSums,
     pub(crate) envelope: Envelope,
+    pub(crate) stand: bool,
     ghost tells: { TellsOf envelope bundles.items },
 }
 
@@ -80,38 +83,46 @@ impl Model for Answer {
 
     ghost view = { answer_seen };
 
-    ghost invariant = { λ a. IsAnswer a.name a.marks.items a.sums (answer_seen a) };
+    ghost invariant = { λ a. IsAnswer a.marks.items a.sums a.stand (answer_seen a) };
 }
 
-/// The refreshed bundles that a job asks for, as far as they are calculated before its kept ones move, a mark of each, and
-/// the place of their receiver.
+/// The refreshed bundles that a job asks for, as far as they are calculated before its kept ones move, a mark of each,
+/// whether it is known that they are of each source, in their order, and the place of their receiver.
 struct Calculation {
     renewed: Renewed,
     marks: Vec<bool>,
+    stand: bool,
     to: Pt,
 }
 
 impl Job {
-    /// The job for the receiver at a place in a scene, of the bundles that its row kept.
-    pub(crate) fn of(version: u64, place: u32, hold: &Arc<PreparedScene>, cache: Cache) -> Job
-        requires place { place < length hold.now.value.scene.receivers }
+    /// The job for the receiver at a place in a scene, of the bundles that its row kept, where it may be known that they are of
+    /// each source of the scene, in their order.
+    pub(crate) fn of(
+        version: u64,
+        place: u32,
+        hold: &PreparedScene,
+        cache: Cache,
+        stand: bool,
+    ) -> Job
+        requires place { place < length hold.now.scene.receivers }
         requires kept { CanRefresh cache.bundles.items cache.marks.items }
-        requires within { (r : _) → slice_get hold.now.value.scene.receivers place ≡ Some r
-            → AreWithin hold.now.value.scene r cache.bundles.items cache.marks.items }
-        ensures { IsJobOf version place hold.now.value.scene cache.bundles.items cache.marks.items result }
+        requires within { (r : _) → slice_get hold.now.scene.receivers place ≡ Some r
+            → AreWithin hold.now.scene r cache.bundles.items cache.marks.items }
+        requires stand { stand ≡ true → AreOfEach hold.now.scene.sources cache.bundles.items }
+        ensures { IsJobOf version place hold.now.scene cache.bundles.items cache.marks.items result }
     {
-        let receiver = &hold.scene.receivers()[place as usize];
         Job {
             version,
             place,
-            name: NameCopy::of(&receiver.name),
-            receiver: Snapshot::of(receiver),
+            receiver: ReceiverCopy::of(&hold.scene.receivers()[place as usize]),
             scene: Snapshot::of(&hold.scene),
-            hold: hold.clone().ok(),
+            hold: hold.without_receivers().ok(),
             kept: cache.bundles,
             marks: cache.marks,
             sums: cache.sums,
             envelope: cache.envelope,
+            stand,
         }
     }
 
@@ -154,38 +165,42 @@ impl Job {
         let Some(hold) = &self.hold else {
             return Err(NoMemory);
         };
-        let hold: &PreparedScene = hold;
+        let receiver = self.receiver.to_receiver(alloc)?;
         let renewed = renew(
             alloc,
             &hold.indexed(),
             &hold.prepared,
-            self.receiver_in(&hold.scene),
+            &receiver,
             &self.kept,
             &self.marks,
             &self.sums,
+            self.stands_within(hold),
             steps,
         )?;
         let marks = vec![in alloc; false; renewed.len()]?;
+        let stand = renewed.len() == hold.scene.sources().len();
         Ok(Calculation {
             renewed,
             marks,
-            to: self.receiver_in(&hold.scene).at,
+            stand,
+            to: receiver.at,
         })
+    }
+
+    /// Whether the kept bundles are known to be of each source of the scene, in their order, and each source surely reaches the
+    /// receiver.
+    fn stands_within(&self, hold: &PreparedScene) -> bool
+        requires { hold.now.scene ≡ record self.now.scene { receivers = [] } }
+        ensures { result ≡ true → StandAsSources hold.now.scene self.now.receiver self.now.kept }
+    {
+        self.stand && hold.reaches(self.receiver.at)
     }
 
     /// The name of its receiver.
     pub(crate) fn name(&self) -> &[u8]
         ensures { result.now ≡ self.now.receiver.name }
     {
-        self.name.items()
-    }
-
-    /// The job's receiver in its scene.
-    fn receiver_in<'a>(&self, scene: &'a Scene) -> &'a Receiver
-        requires { scene.now ≡ self.now.scene }
-        ensures { result.now ≡ self.now.receiver }
-    {
-        &scene.receivers()[self.place as usize]
+        self.receiver.name()
     }
 
     /// The answer to the job, into which its kept bundles move where they stand.
@@ -196,21 +211,30 @@ impl Job {
         let Job {
             version,
             place: _,
-            name,
             receiver,
             scene,
-            hold: _,
+            hold,
             kept,
             marks: _,
             sums: _,
-            envelope: _,
+            envelope,
+            stand: _,
         } = self;
-        let Calculation { renewed, marks, to } = calculation;
+        let Calculation {
+            renewed,
+            marks,
+            stand,
+            to,
+        } = calculation;
+        drop(hold);
+        let widened = widened(envelope, &renewed);
         let WithSums { bundles, sums } = renewed.with_kept(kept);
-        let envelope = Envelope::of(to, &bundles);
+        let envelope = match widened {
+            Some(envelope) => envelope,
+            None => Envelope::of(to, &bundles),
+        };
         Answer {
             version,
-            name,
             receiver,
             scene,
             levels: sums.levels(),
@@ -218,6 +242,7 @@ impl Job {
             marks,
             sums,
             envelope,
+            stand,
         }
     }
 }
@@ -227,6 +252,30 @@ impl Answer {
     pub(crate) fn name(&self) -> &[u8]
         ensures { result.now ≡ self.now.receiver.name }
     {
-        self.name.items()
+        self.receiver.name()
     }
+}
+
+/// The box round a row's paths with those of its new bundles in it besides, where each other bundle stays in its place. So the
+/// box of a row of which few bundles are new costs what these cost; it doesn't shrink.
+fn widened(envelope: Envelope, renewed: &Renewed) -> Option<Envelope>
+    ensures { (kept bundles : List BundleSeen) → Gives renewed.now kept bundles → TellsOf envelope kept
+        → IfSome result (λ wide. TellsOf wide bundles) }
+{
+    match renewed.replaced() {
+        Some(news) => Some(with_paths(envelope, news)),
+        None => None,
+    }
+}
+
+/// A box with the paths of new bundles in it besides.
+fn with_paths(envelope: Envelope, news: &[Replaced]) -> Envelope
+    ensures { (kept : List BundleSeen) → TellsOf envelope kept
+        → TellsOf result (with_each news.now kept) }
+{
+    let mut wide = envelope;
+    for new in news {
+        wide = wide.with_path(&new.bundle);
+    }
+    wide
 }

@@ -1,5 +1,6 @@
 //! Answers that land on a board.
-ghost use Rattle.std.specs.Prelude.{◌≡◌, ◌+◌, ◌<◌, ◌^◌, Some, length};
+ghost use Rattle.std.specs.Prelude.{◌≡◌, ◌+◌, ◌<◌, ◌^◌, Some, IfSome, length};
+ghost use Rattle.path_cache.specs.Standing.{AreOfEach};
 ghost use Rattle.map_board.specs.Held.{no_marks};
 ghost use Rattle.map_board.specs.Jobs.{IsOutFor, IsRight, MayReturn};
 ghost use Rattle.map_board.specs.Later.{first_entry_touching, marks_after_all};
@@ -12,6 +13,7 @@ use crate::jobs::Answer;
 use crate::later::{first_touching, mark_by_all};
 use crate::log::LogEntry;
 use crate::rows::{Back, Cache, KeptLevels};
+use crate::standing::version_if;
 use crate::state::Board;
 use scene_parts::Receiver;
 
@@ -69,10 +71,11 @@ impl Answer {
         ensures bundles { result.cache.bundles.items ≡ self.bundles }
         ensures marks { result.cache.marks.items
             ≡ marks_after_all later.now self.receiver self.bundles (no_marks self.bundles) }
+        ensures order { IfSome result.cache.order (λ version. (version ≡ self.version)
+            × AreOfEach self.scene.sources self.bundles) }
     {
         let Answer {
             version,
-            name: _,
             receiver: _,
             scene: _,
             bundles,
@@ -80,6 +83,7 @@ impl Answer {
             levels,
             sums,
             envelope,
+            stand,
         } = self;
         let by = first_touching(later, version, bundles.as_slice(), receiver);
         let mut cache = Cache {
@@ -87,6 +91,7 @@ impl Answer {
             marks,
             sums,
             envelope,
+            order: version_if(stand, version),
         };
         mark_by_all(&mut cache, later, receiver);
         let kept = KeptLevels {

@@ -13,6 +13,7 @@ use touch_test::touches_row;
 pub(crate) fn mark_by_all(cache: &mut Cache, later: &[LogEntry], receiver: &Receiver)
     requires { length cache.old.marks.items ≡ length cache.old.bundles.items }
     ensures bundles { cache.new.bundles ≡ cache.old.bundles }
+    ensures order { cache.new.order ≡ cache.old.order }
     ensures marks { cache.new.marks.items ≡ marks_after_all later.now receiver.now
         cache.old.bundles.items cache.old.marks.items }
 {

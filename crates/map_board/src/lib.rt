@@ -19,10 +19,12 @@ mod marking;
 mod name_copies;
 mod namings;
 mod past;
+mod receiver_copies;
 mod renewing;
 mod returning;
 mod rows;
 mod scenes;
+mod standing;
 mod state;
 mod testing;
 

@@ -20,6 +20,7 @@ pub(crate) fn mark(
 ) -> bool
     requires { length cache.old.marks.items ≡ length cache.old.bundles.items }
     ensures bundles { cache.new.bundles ≡ cache.old.bundles }
+    ensures order { cache.new.order ≡ cache.old.order }
     ensures marks { cache.new.marks.items ≡ marks_after logged.now.edit logged.now.old receiver.now
         cache.old.bundles.items cache.old.marks.items }
     ensures one { result
@@ -117,6 +118,7 @@ pub(crate) fn mark_known(
     requires tests { IfSome tests (λ tests. tests.now
         ≡ tests_to logged.now receiver.now (counted counts cache.old)) }
     ensures bundles { cache.new.bundles ≡ cache.old.bundles }
+    ensures order { cache.new.order ≡ cache.old.order }
     ensures marks { cache.new.marks.items ≡ marks_after logged.now.edit logged.now.old receiver.now
         cache.old.bundles.items cache.old.marks.items }
     ensures one { counts ≡ false → result

@@ -1,19 +1,21 @@
 //! Rows that go over to the scene after an edit.
-ghost use Rattle.std.specs.Prelude.{◌≡◌, ◌≤◌, ◌<◌, ℕ, Some, None, length, slice_get, All, IfSome, IsSomeAnd, vec_capacity};
+ghost use Rattle.std.specs.Prelude.{◌≡◌, ◌≤◌, ◌<◌, ℕ, Some, None, false, length, slice_get, All, IfSome, IsSomeAnd, vec_capacity};
 ghost use Rattle.std.specs.Option.{option_map};
 ghost use Rattle.scene_book.specs.Lists.{AreApart};
+ghost use Rattle.path_cache.specs.Refreshed.{CanRefresh};
 ghost use Rattle.touch_test.specs.Touches.{touches_receiver};
 ghost use Rattle.map_board.specs.declared.rows.KeptLevels.{KeptLevels};
 ghost use Rattle.map_board.specs.Machine.{rows_after};
 ghost use Rattle.map_board.specs.Boards.{kept_of, row_of, rows_of, ByIsRight, RowHolds, EachHolds, IsOutSince, IsEmpty, EmptyFrom};
-ghost use Rattle.map_board.specs.Paths.{kept_at, kept_of_row, tests_of, tests_to};
+ghost use Rattle.map_board.specs.Marks.{marks_after, touches_one, TouchesFrom};
+ghost use Rattle.map_board.specs.Paths.{counted, kept_at, kept_of_row, tests_of, tests_to};
 ghost use Rattle.map_board.specs.Changes.{scene_before, scene_after, journal_after, touches_a_path, most_more, named_place, gone_from, removed_place, put_place, placed, without_place, changes_receivers_alone as receivers_alone, is_receiver_if_any as receiver_if_any, is_receiver_part, was_receiver_part, may_name_any, IsChange, IsFresh, HasRow, IsRowAfter, AreRenewed, NamesNone};
 
-use crate::marking::mark_known;
+use crate::marking::{mark_known, source_changed};
 use crate::past::Past;
 use crate::rows::{Cache, HeldRow, KeptLevels};
 use crate::testing::{PathTest, count_at, cut, slice_if_any};
-use path_cache::RowSums;
+use path_cache::{Bundle, RowSums};
 use scene_book::limits::MOST_RECEIVERS;
 use scene_book::{Edit, Logged, Scene};
 use scene_parts::{Globals, Part, Receiver};
@@ -22,12 +24,25 @@ use std::snapshot::Snapshot;
 use touch_test::{Envelope, names_receiver, touches_row};
 
 /// An edit that the newest scene accepts, what held of that whole scene, the edit's version, and the journal before it,
-/// which contracts alone see.
+/// which contracts alone see. Where the edit puts a source, its bundle is looked for first at the place of the source.
 pub(crate) struct Change {
     pub logged: Logged,
     pub globals: Globals,
     pub version: u64,
     pub past: Snapshot<Past>,
+    pub first: Option<usize>,
+}
+
+/// The place of the source that an edit has put. It only tells where a bundle is looked for first, so no contract says it.
+pub(crate) fn source_place(edit: &Edit, scene: &Scene) -> Option<usize> {
+    let Edit::Put(Part::Source(new)) = edit else {
+        return None;
+    };
+    let name = new.name.items();
+    scene
+        .sources()
+        .iter()
+        .position(|source| source.name.items() == name)
 }
 
 /// How many rows an edit may add to so many.
@@ -303,6 +318,7 @@ fn fresh_row(alloc: Global, version: u64) -> HeldRow
         marks: Vec::new(alloc),
         sums: RowSums::zero(),
         envelope: Envelope::empty(),
+        order: None,
     };
     HeldRow {
         since: version,
@@ -325,15 +341,59 @@ fn renew(row: &mut HeldRow, receiver: &Receiver, change: &Change, tests: Option<
 {
     let counts = !row.is_current();
     if let Some(cache) = &mut row.cache {
-        let one = mark_known(
+        let one = mark_row(cache, counts, tests, receiver, change);
+        touch(&mut row.kept, one, receiver, change);
+    }
+}
+
+/// Marks a row as `mark_known` does. Where the edit changes a source whose bundle stands where it is looked for first, no other
+/// bundle is looked at.
+fn mark_row(
+    cache: &mut Cache,
+    counts: bool,
+    tests: Option<&[bool]>,
+    receiver: &Receiver,
+    change: &Change,
+) -> bool
+    requires kept { CanRefresh cache.old.bundles.items cache.old.marks.items }
+    requires tests { IfSome tests (λ tests. tests.now
+        ≡ tests_to change.now.logged receiver.now (counted counts cache.old)) }
+    ensures bundles { cache.new.bundles ≡ cache.old.bundles }
+    ensures order { cache.new.order ≡ cache.old.order }
+    ensures marks { cache.new.marks.items ≡ marks_after change.now.logged.edit change.now.logged.old receiver.now
+        cache.old.bundles.items cache.old.marks.items }
+    ensures one { counts ≡ false → result ≡ touches_one change.now.logged.edit change.now.logged.old receiver.now
+        cache.old.bundles.items }
+{
+    match place_touched(cache.bundles.as_slice(), change) {
+        Some(place) => {
+            cache.marks[place] = true;
+            true
+        }
+        None => mark_known(
             cache,
             counts,
             tests,
             &change.logged,
             &change.globals,
             receiver,
-        );
-        touch(&mut row.kept, one, receiver, change);
+        ),
+    }
+}
+
+/// The place of the one bundle that an edit touches, where it changes a source whose bundle stands where it is looked for
+/// first.
+fn place_touched(bundles: &[Bundle], change: &Change) -> Option<usize>
+    ensures { IfSome result (λ place. IsSomeAnd (slice_get bundles.now place)
+        (λ bundle. TouchesFrom bundle.source change.now.logged.edit change.now.logged.old)) }
+{
+    let name = source_changed(&change.logged)?;
+    let place = change.first?;
+    let bundle = bundles.get(place)?;
+    if bundle.source.items() == name.items() {
+        Some(place)
+    } else {
+        None
     }
 }
 

@@ -1,5 +1,6 @@
 //! Jobs that are given back to a board.
-ghost use Rattle.std.specs.Prelude.{◌≡◌, None};
+ghost use Rattle.std.specs.Prelude.{◌≡◌, None, IfSome};
+ghost use Rattle.path_cache.specs.Standing.{AreOfEach};
 ghost use Rattle.map_board.specs.Jobs.{IsFit, IsOutFor, MayReturn};
 ghost use Rattle.map_board.specs.Later.{marks_after_all};
 ghost use Rattle.map_board.specs.Machine.{given_back, with_out};
@@ -10,6 +11,7 @@ use crate::jobs::Job;
 use crate::later::mark_by_all;
 use crate::log::LogEntry;
 use crate::rows::{Back, Cache};
+use crate::standing::version_if;
 use crate::state::Board;
 use scene_parts::Receiver;
 
@@ -54,12 +56,17 @@ impl Job {
         ensures bundles { result.cache.bundles.items ≡ self.kept }
         ensures marks { result.cache.marks.items
             ≡ marks_after_all later.now self.receiver self.kept self.marks }
+        ensures order { IfSome result.cache.order (λ version. (version ≡ self.version)
+            × AreOfEach self.scene.sources self.kept) }
     {
+        // what it had of its scene is let go whole, in one call
+        drop(self.hold);
         let mut cache = Cache {
             bundles: self.kept,
             marks: self.marks,
             sums: self.sums,
             envelope: self.envelope,
+            order: version_if(self.stand, self.version),
         };
         mark_by_all(&mut cache, later, receiver);
         Back { kept: None, cache }

@@ -1,8 +1,10 @@
-//! A scene that a board and its jobs hold together.
-ghost use Rattle.std.specs.Prelude.{◌≡◌, true, Ok, Err, IfOk, IfErr, IfSome, OnErr, bytes_eq, map};
+//! A scene with what is prepared of it, as a board holds it and its jobs share it.
+ghost use Rattle.std.specs.Prelude.{◌≡◌, true, [], All, Ok, Err, IfOk, IfErr, IfSome, OnErr, bytes_eq, map};
 ghost use Rattle.std.proofs.Props.{props};
 ghost use Rattle.std.specs.List.{list_any};
+ghost use Rattle.path_calc.specs.Lengths.{is_within};
 ghost use Rattle.path_calc.specs.Prepared.{prepared_of};
+ghost use Rattle.path_cache.specs.Frames.{Holds};
 ghost use Rattle.scene_parts.specs.Answers.{Unless};
 ghost use Rattle.scene_book.specs.Applying.{apply_of, lacks_memory};
 ghost use Rattle.scene_parts.specs.Sides.{sides_of};
@@ -10,24 +12,27 @@ ghost use Rattle.part_grid.specs.Numbered.{numbered};
 ghost use Rattle.map_board.specs.Sources.{LeavesSources, LeavesObstacles, puts_any_receiver};
 ghost use Rattle.map_board.specs.Sources.{is_source as is_source_part, is_obstacle as is_obstacle_part};
 
-use path_cache::{PreparedSource, prepare};
+use path_cache::{Frame, PreparedSource, prepare};
 use path_calc::{Grid, IndexedScene};
 use scene_book::{Edit, EditFault, Scene};
+use scene_geom::Pt;
 use scene_parts::{NoMemory, Part};
 use sight_cut::grid_of;
 use std::alloc::Global;
 use std::sync::Arc;
 
 /// A scene whose sources are prepared and whose obstacles have an index, once for all jobs that are of it. Later scenes
-/// share both until an edit changes a source, or an obstacle. Without receivers or sources no path is looked for, and no
-/// index is made.
+/// and jobs share both until an edit changes a source, or an obstacle. Without receivers or sources no path is looked for,
+/// and no index is made. A box round the sources tells at once of most receivers that each source reaches them.
 #[derive(Drop)]
 pub struct PreparedScene {
     pub scene: Scene,
     pub prepared: Arc<Vec<PreparedSource>>,
     pub grid: Option<Arc<Grid>>,
+    pub frame: Frame,
     ghost ready: { prepared.value.items ≡ map prepared_of scene.sources },
     ghost stands: { IfSome grid (λ grid. grid.value ≡ numbered (map sides_of scene.obstacles)) } by { Prim.hlevel props },
+    ghost framed: { Holds frame scene.sources },
 }
 
 impl PreparedScene {
@@ -37,10 +42,31 @@ impl PreparedScene {
     {
         let prepared = sources_of(alloc, &scene)?;
         let grid = index(alloc, &scene)?;
+        let frame = Frame::of(scene.sources());
         Ok(PreparedScene {
             scene,
             prepared,
             grid,
+            frame,
+        })
+    }
+
+    /// What a job needs of it: the scene without its receivers, and what is prepared of it. All of it is shared, and an edit of
+    /// receivers copies no list, also while jobs have the rest.
+    pub(crate) fn without_receivers(&self) -> Result<PreparedScene, NoMemory>
+        ensures { IfOk result (λ other. other.scene ≡ record self.now.scene { receivers = [] }) }
+    {
+        let scene = self.scene.without_receivers()?;
+        let prepared = self.prepared.clone()?;
+        let grid = match &self.grid {
+            Some(grid) => Some(grid.clone()?),
+            None => None,
+        };
+        Ok(PreparedScene {
+            scene,
+            prepared,
+            grid,
+            frame: self.frame,
         })
     }
 
@@ -52,6 +78,14 @@ impl PreparedScene {
             Some(grid) => IndexedScene::by(&self.scene, grid),
             None => IndexedScene::plain(&self.scene),
         }
+    }
+
+    /// Whether surely each source reaches a receiver at a place.
+    pub(crate) fn reaches(&self, at: Pt) -> bool
+        ensures { result ≡ true
+            → All (λ s. is_within self.now.scene.globals.reach s.at at ≡ true) self.now.scene.sources }
+    {
+        self.frame.is_within(self.scene.globals().reach, at)
     }
 
     /// Applies an edit that leaves the sources as they are, and the obstacles where they have an index.
@@ -70,27 +104,25 @@ impl PreparedScene {
 /// A scene after an edit, and the part that the edit replaced or took out.
 #[derive(Drop)]
 struct EditedScene {
-    hold: Arc<PreparedScene>,
+    hold: PreparedScene,
     old: Option<Part>,
 }
 
-/// Applies an edit to a shared scene, and gives the part that it replaces or takes out. Where nobody else has the scene, and
-/// what is prepared of it stays, it is changed in place; else a copy is, which takes its place. A fault leaves it as it was.
+/// Applies an edit to a scene, and gives the part that it replaces or takes out. Where what is prepared of the scene stays, it
+/// is changed in place, and the one list that the edit changes is copied first where a job shares it; else a copy is changed,
+/// which takes its place. A fault leaves it as it was.
 pub(crate) fn edit_scene(
-    hold: &mut Arc<PreparedScene>,
+    hold: &mut PreparedScene,
     alloc: Global,
     edit: &Edit,
 ) -> Result<Option<Part>, EditFault>
-    ensures made { IfOk result (λ old. apply_of edit.now hold.old.value.scene
-        ≡ Ok (hold.new.value.scene, old)) }
+    ensures made { IfOk result (λ old. apply_of edit.now hold.old.scene ≡ Ok (hold.new.scene, old)) }
     ensures fault { IfErr result (λ fault.
-        Unless (lacks_memory fault) (apply_of edit.now hold.old.value.scene ≡ Err fault)) }
-    ensures unchanged { OnErr result (hold.new.value.scene ≡ hold.old.value.scene) }
+        Unless (lacks_memory fault) (apply_of edit.now hold.old.scene ≡ Err fault)) }
+    ensures unchanged { OnErr result (hold.new.scene ≡ hold.old.scene) }
 {
     if stays_prepared(edit, hold) {
-        if let Some(own) = Arc::get_mut(hold) {
-            return own.apply(alloc, edit);
-        }
+        return hold.apply(alloc, edit);
     }
     let EditedScene { hold: made, old } = edited_copy(alloc, hold, edit)?;
     *hold = made;
@@ -126,7 +158,7 @@ fn puts_receivers(edit: &Edit) -> bool
 /// A copy of a scene after an edit. It shares the lists that the edit leaves as they are, and what is prepared of them.
 fn edited_copy(alloc: Global, hold: &PreparedScene, edit: &Edit) -> Result<EditedScene, EditFault>
     ensures made { IfOk result (λ made. apply_of edit.now hold.now.scene
-        ≡ Ok (made.hold.value.scene, made.old)) }
+        ≡ Ok (made.hold.scene, made.old)) }
     ensures fault { IfErr result (λ fault.
         Unless (lacks_memory fault) (apply_of edit.now hold.now.scene ≡ Err fault)) }
 {
@@ -155,26 +187,20 @@ fn prepared_after(
     after: Scene,
     sources_stay: bool,
     obstacles_stay: bool,
-) -> Result<Arc<PreparedScene>, NoMemory>
+) -> Result<PreparedScene, NoMemory>
     requires sources { sources_stay ≡ true → after.sources ≡ hold.now.scene.sources }
     requires obstacles { obstacles_stay ≡ true → after.obstacles ≡ hold.now.scene.obstacles }
-    ensures { IfOk result (λ made. made.value.scene ≡ after) }
+    ensures { IfOk result (λ made. made.scene ≡ after) }
 {
     let prepared = sources_after(alloc, hold, &after, sources_stay)?;
     let grid = index_after(alloc, hold, &after, obstacles_stay)?;
-    let made = PreparedScene {
+    let frame = Frame::of(after.sources());
+    Ok(PreparedScene {
         scene: after,
         prepared,
         grid,
-    };
-    shared(alloc, made)
-}
-
-/// A prepared scene that is shared.
-fn shared(alloc: Global, scene: PreparedScene) -> Result<Arc<PreparedScene>, NoMemory>
-    ensures { IfOk result (λ hold. hold.value ≡ scene) }
-{
-    Ok(Arc::new(alloc, scene)?)
+        frame,
+    })
 }
 
 /// The prepared sources of the scene after an edit, of which it is known where they stay.

@@ -14,18 +14,22 @@ use crate::namings::Naming;
 use crate::past::Past;
 use crate::rows::{Tally, count_out, is_any_unsettled};
 use crate::scenes::PreparedScene;
+use crate::standing::is_known_since;
 use scene_book::Scene;
 use scene_parts::NoMemory;
 use std::alloc::Global;
 use std::marker::Model;
-use std::sync::Arc;
 
 /// A scene that is edited, and for each of its receivers what was calculated of it. Contracts see it as its journal of
 /// edits, its rows in the order of receivers, whether it is finished, and four counts.
+///
+/// Since a version no edit changed the names of the sources, nor their order. So a row whose bundles were of each source in that
+/// version's scene, or a later one, has them still in that order.
 #[derive(Drop)]
 pub struct Board {
     pub(crate) version: u64,
-    pub(crate) hold: Arc<PreparedScene>,
+    pub(crate) hold: PreparedScene,
+    pub(crate) named_since: u64,
     pub(crate) rows: HeldRows,
     pub(crate) finished: bool,
     pub(crate) counts: Tally,
@@ -37,17 +41,19 @@ pub struct Board {
 impl Model for Board {
     ghost use Rattle.map_board.specs.Rows.{State};
     ghost use Rattle.map_board.specs.Boards.{rows_of, counts_of, IsBoard};
+    ghost use Rattle.map_board.specs.Standing.{NamesStand};
 
     ghost Value = { State };
 
     ghost view = { λ b. record {
       journal = b.past;
-      rows = rows_of b.hold.value.scene.receivers b.rows.items;
+      rows = rows_of b.hold.scene.receivers b.rows.items;
       finished = b.finished;
       counts = counts_of b.counts;
     } };
 
-    ghost invariant = { λ b. IsBoard b.version b.past b.hold.value.scene b.rows.items b.log b.namings.items };
+    ghost invariant = { λ b. IsBoard b.version b.past b.hold.scene b.rows.items b.log b.namings.items
+        × NamesStand b.past b.named_since };
 }
 
 impl Board {
@@ -55,10 +61,10 @@ impl Board {
     pub fn new(alloc: Global) -> Result<Board, NoMemory>
         ensures { IfOk result (λ board. board ≡ start) }
     {
-        let scene = PreparedScene::of(alloc, Scene::empty(alloc)?)?;
         Ok(Board {
             version: 0,
-            hold: Arc::new(alloc, scene)?,
+            hold: PreparedScene::of(alloc, Scene::empty(alloc)?)?,
+            named_since: 0,
             rows: HeldRows::of(Vec::new(alloc)),
             finished: false,
             counts: Tally {
@@ -146,6 +152,7 @@ impl Board {
         let version = self.version;
         let cache = self.rows.take_row(place, version);
         self.counts.taken = self.counts.taken.saturating_add(1);
-        Job::of(version, place as u32, &self.hold, cache)
+        let stand = is_known_since(cache.order, self.named_since);
+        Job::of(version, place as u32, &self.hold, cache, stand)
     }
 }

@@ -19,13 +19,16 @@ use Rattle.map_board.specs.contracts.calls.BoardReply as BoardReply
 use Rattle.turn_lock.specs.contracts.view.View as View
 use Rattle.atomic_table.specs.contracts.shared.Seat as Place
 use Rattle.std.specs.contracts.option.Option as Option
-use Rattle.scene_book.proofs.Crossing.{Scene-send, Scene-sync}
+use Rattle.scene_book.proofs.Crossing.{Scene-send}
 use Rattle.map_board.specs.contracts.past.Past as Past
 use Rattle.map_board.specs.contracts.past.Past.TheKnot as knot
 use Rattle.map_board.specs.declared.past.Past.TheDeep as deep
 use Rattle.map_board.specs.contracts.scenes.PreparedScene as PreparedScene
 use Rattle.map_board.specs.contracts.namings.Naming as Naming
 use Rattle.map_board.specs.contracts.rows.HeldRow as HeldRow
+use Rattle.map_board.specs.contracts.held_rows.HeldRows as HeldRows
+use Rattle.map_board.specs.contracts.log.Log as Log
+use Rattle.map_board.specs.contracts.rows.Tally as Tally
 use Rattle.atomic_table.proofs.shared.Shared.TheSendSync.{the_sync as Table-sync}
 use Rattle.atomic_table.proofs.shared.Seat.TheSendSync.{the_send as Seat-send}
 use Rattle.atomic_table.proofs.send_lease.SendLease.TheSendSync.{the_sync as Lease-sync}
@@ -33,7 +36,7 @@ use Rattle.map_io.specs.contracts.reader.LineReader as LineReader
 use Rattle.noise_map.specs.contracts.step.Shared as Shared
 use Rattle.noise_map.specs.contracts.editor.Editor as Editor
 use Rattle.noise_map.specs.contracts.keeping.KeptVersion as KeptVersion
-use Rattle.std.proofs.Crossing.{crosses}
+use Rattle.std.proofs.Crossing.{crosses, Vec-send}
 
 -- a journal holds nothing but what contracts see, so one layer of it may cross whatever the layers in it are
 layer-fields : (p : Parts knot.frame) → IsSend (knot.at-Past p)
@@ -52,17 +55,57 @@ Past-send = tied_goals knot.frame knot.step knot.sizes alone (λ p all g. layer-
 PreparedScene-send : IsSend PreparedScene.the_row
 PreparedScene-send = search (Scene-send, crosses, sendable) depth 80 fits 100000 steps 1000000
 
-PreparedScene-sync : IsSync PreparedScene.the_row
-PreparedScene-sync = search (Scene-sync, crosses, sendable) depth 80 fits 100000 steps 1000000
-
 HeldRow-send : IsSend HeldRow.the_row
-HeldRow-send = search (PreparedScene-send, PreparedScene-sync, crosses, sendable) depth 80 fits 100000 steps 10000000
+HeldRow-send = search (crosses, sendable) depth 80 fits 100000 steps 10000000
+
+HeldRows-send : IsSend HeldRows.the_row
+HeldRows-send = search (HeldRow-send, crosses, sendable) depth 80 fits 100000 steps 10000000
+
+Log-send : IsSend Log.the_row
+Log-send = search (crosses, sendable) depth 80 fits 100000 steps 10000000
 
 Naming-send : IsSend Naming.the_row
 Naming-send = search (crosses, sendable) depth 80 fits 100000 steps 10000000
 
+Tally-send : IsSend Tally.the_row
+Tally-send = search (crosses, sendable) depth 40 fits 10000 steps 1000000
+
+-- a board by its fields in turn, since one search through all of them ends without an answer
 Board-send : IsSend Board.the_row
-Board-send = search (Past-send, Naming-send, HeldRow-send, PreparedScene-send, PreparedScene-sync, crosses, sendable) depth 80 fits 100000 steps 10000000
+Board-send = record {
+  owned = λ d vs x. (
+    λ parts. (
+      tt,
+      (
+        search (crosses, sendable),
+        (
+          PreparedScene-send.owned x.0.hold parts.1.0,
+          (
+            search (crosses, sendable),
+            (
+              HeldRows-send.owned x.0.rows parts.1.1.1.0,
+              (
+                search (crosses, sendable),
+                (
+                  Tally-send.owned x.0.counts parts.1.1.1.1.1.0,
+                  (
+                    Log-send.owned x.0.log parts.1.1.1.1.1.1.0,
+                    (
+                      (Vec-send Naming.the_row Naming-send).owned x.0.namings parts.1.1.1.1.1.1.1.0,
+                      (Past-send.owned x.0.past parts.1.1.1.1.1.1.1.1.0, tt),
+                    ),
+                  ),
+                ),
+              ),
+            ),
+          ),
+        ),
+      ),
+    ),
+    tt,
+  );
+  leaving = λ k d w. tt;
+}
 
 SharedBoard-send : IsSend SharedBoard.the_row
 SharedBoard-send = search (Board-send, sendable) depth 40 fits 10000 steps 1000000

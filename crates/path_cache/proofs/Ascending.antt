@@ -88,10 +88,10 @@ pub here-new : (origins : List Origin) (i : ℕ) (origin : Origin) (bundle : Box
 here-new origins i origin bundle from to below is new h =
     subst (λ os. Ascend from os to) (drop-here origins i origin below is ∙ ap (λ o. o ∷ drop (i + 1) origins) new) h
 
--- there is a bundle at each place below the length
-pub some-at : (kept : List Bundle) (place : ℕ) → place < length kept → (b : Bundle) × (b ≡ get_or kept place b)
+-- there is an element at each place below the length
+pub some-at : {A : Type 0} (xs : List A) (place : ℕ) → place < length xs → (x : A) × (x ≡ get_or xs place x)
 some-at [] place below = absurd (omega (arith, below))
-some-at (b ∷ bs) place below = (get_or (b ∷ bs) place b, get_or_default (b ∷ bs) place b (get_or (b ∷ bs) place b) below)
+some-at (x ∷ xs) place below = (get_or (x ∷ xs) place x, get_or_default (x ∷ xs) place x (get_or (x ∷ xs) place x) below)
 
 -- ---- lists that are taken one by one from the front
 

@@ -6,3 +6,7 @@ pub mod Summing
 pub mod Ascending
 pub mod InPlace
 pub mod SumLevels
+pub mod Receivers
+pub mod Standing
+pub mod Placing
+pub mod Framing

@@ -1,6 +1,7 @@
 -- Searching bundles and marks, one place after another, for an unmarked bundle.
 use Rattle.std.proofs.Common.{◌≡◌, ℕ, zero, suc, ◌+◌, ◌<◌, Bool, true, false, cond, List, [], ◌∷◌, length, get_or, drop, Some, None, refl, sym, ap, ◌∙◌, subst, arith, add-one}
 use Rattle.std.proofs.lemmas.Slice.Eq.{bytes_eq-Decides}
+use Rattle.std.proofs.lemmas.Option.{same_Some}
 use Rattle.std.specs.Prelude.{bytes_eq}
 use Rattle.std.proofs.Math.Seq.{drop-cons}
 use Rattle.scene_book.specs.Lists.{NoneNamed, AreApart}
@@ -45,6 +46,18 @@ pub past-other : (name : List ℕ) (kept : List Bundle) (marks : List Bool) (i :
     → unmarked name kept marks ≡ unmarked name (drop (i + 1) kept) (drop (i + 1) marks)
 past-other name kept marks i b below same is other so_far =
     rw (add-one) (so_far ∙ (at-place name kept marks i b below same is ∙ first-other name b (drop (suc i) kept) (get_or marks i false) (drop (suc i) marks) other))
+
+-- an unmarked bundle of a name is that of its source
+pub unmarked-named : (name : List ℕ) (kept : List Bundle) (marks : List Bool) (b : Bundle) → unmarked name kept marks ≡ Some b → name ≡ b.source
+unmarked-named name [] marks b is = cc
+unmarked-named name (x ∷ xs) [] b is = cc
+unmarked-named name (x ∷ xs) (true ∷ ms) b is = unmarked-named name xs ms b (sym (first-marked name x xs true ms refl) ∙ is)
+unmarked-named name (x ∷ xs) (false ∷ ms) b is = go (bytes_eq name x.source) refl (unmarked-named name xs ms b) where
+  go : (test : Bool) → bytes_eq name x.source ≡ test → (unmarked name xs ms ≡ Some b → name ≡ b.source) → name ≡ b.source
+  go true same rest =
+      let found : Some x ≡ Some b = sym (first-is name x xs false ms refl same) ∙ is in
+      (bytes_eq-Decides name x.source).0 same ∙ ap (λ (y : Bundle). y.source) (same_Some x b found)
+  go false other rest = rest (sym (first-other name x xs false ms other) ∙ is)
 
 -- ---- where no two bundles are of one source
 

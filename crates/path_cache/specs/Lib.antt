@@ -4,3 +4,5 @@ pub mod Sums
 pub mod TakingOff
 pub mod Origins
 pub mod Renewals
+pub mod Standing
+pub mod Frames

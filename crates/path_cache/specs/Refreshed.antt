@@ -48,3 +48,19 @@ Stand book r kept marks =
 abbrev pub StandingGivesTheScenes : Type 0
 StandingGivesTheScenes = (book : Book) (r : Receiver) (kept : List Bundle) (marks : List Bool)
     → Stand book r kept marks → refreshed book r kept marks ≡ bundles_of book r
+
+-- a scene with other receivers
+abbrev pub with_receivers : List Receiver → Book → Book
+with_receivers others book = record book { receivers = others }
+
+-- with other receivers in the scene, a receiver has the same sources and bundles, and a refresh does the same
+pub record AreAsWith (others : List Receiver) (book : Book) (r : Receiver) (kept : List Bundle) (marks : List Bool) : Type 0 where
+  pub sources : sources_within (with_receivers others book) r ≡ sources_within book r
+  pub bundles : bundles_of (with_receivers others book) r ≡ bundles_of book r
+  pub refreshed : refreshed (with_receivers others book) r kept marks ≡ refreshed book r kept marks
+  pub wanted : count_wanted (with_receivers others book) r kept marks ≡ count_wanted book r kept marks
+
+-- so no refresh reads which receivers a scene has
+abbrev pub ReceiversAreNotRead : Type 0
+ReceiversAreNotRead = (others : List Receiver) (book : Book) (r : Receiver) (kept : List Bundle) (marks : List Bool)
+    → AreAsWith others book r kept marks

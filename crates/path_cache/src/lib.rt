@@ -2,16 +2,20 @@
 //! others are calculated from the scene.
 #![tactic(auto)]
 
+mod frames;
 mod keeping;
 pub mod laws;
 mod origins;
 mod preparing;
 mod refreshing;
 mod renewing;
+mod replacing;
 mod sums;
 
+pub use frames::Frame;
 pub use path_calc::{Bundle, NoMemory, PreparedSource, Steps};
 pub use preparing::prepare;
 pub use refreshing::refresh;
 pub use renewing::{Renewed, WithSums, refresh_sums, renew};
+pub use replacing::Replaced;
 pub use sums::RowSums;

@@ -154,13 +154,13 @@ pub(crate) fn origins_of<L: Ledger>(
 
 /// A receiver in a scene, and what was kept for it.
 #[derive(Drop)]
-struct Renewal<'a> {
-    scene: &'a IndexedScene<'a>,
-    receiver: &'a Receiver,
-    to: PreparedReceiver,
-    kept: &'a [Bundle],
-    marks: &'a [bool],
-    ghost ready: { to ≡ receiver.now.h },
+pub(crate) struct Renewal<'a> {
+    pub scene: &'a IndexedScene<'a>,
+    pub receiver: &'a Receiver,
+    pub to: PreparedReceiver,
+    pub kept: &'a [Bundle],
+    pub marks: &'a [bool],
+    pub ghost ready: { to ≡ receiver.now.h },
 }
 
 impl<'a> Renewal<'a> {
@@ -229,7 +229,7 @@ impl<'a> Renewal<'a> {
     /// The scene's bundle of a source. It isn't put into its callers, since each source whose bundle stands would pay there
     /// for the locals of a calculation.
     #[inline(never)]
-    fn calculated<L: Ledger>(
+    pub(crate) fn calculated<L: Ledger>(
         &self,
         alloc: Global,
         source: &PointSource,

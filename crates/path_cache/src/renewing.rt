@@ -1,17 +1,19 @@
 //! Refreshes of rows that keep the sums of their bundles' energies.
 ghost use Rattle.std.specs.Bool.{OnTrue};
 ghost use Rattle.std.specs.Vec.Iter.{into_iter_items, into_iter_len};
-ghost use Rattle.std.specs.Prelude.{◌≡◌, ◌≤◌, ◌<◌, ◌+◌, ◌∷◌, List, [], IfOk, OnOk, length, map, drop, vec_capacity};
+ghost use Rattle.std.specs.Prelude.{◌≡◌, ◌≤◌, ◌<◌, ◌+◌, ◌∷◌, true, List, [], IfOk, IfSome, OnOk, is_some, length, map, drop, vec_capacity};
 ghost use Rattle.path_calc.specs.Bundles.{Bundle as BundleSeen};
 ghost use Rattle.path_calc.specs.Prepared.{prepared_of};
 ghost use Rattle.path_cache.specs.Refreshed.{CanRefresh, refreshed, count_wanted};
 ghost use Rattle.path_cache.specs.Sums.{Fits};
 ghost use Rattle.path_cache.specs.Origins.{Ascend, StandInPlace, StandsAt, bundles_from, placed_at};
-ghost use Rattle.path_cache.specs.Renewals.{Gives};
+ghost use Rattle.path_cache.specs.Standing.{StandAsSources};
+ghost use Rattle.path_cache.specs.Renewals.{Gives, Leads, with_each, is_in_place};
 
 use crate::origins::{Origin, copied, sums_after};
 use crate::preparing::prepare;
 use crate::refreshing::{needs_a_path, origins_of};
+use crate::replacing::{Replaced, put_each, replace_marked};
 use crate::sums::RowSums;
 use path_calc::{Bundle, IndexedScene, PreparedSource, Steps};
 use scene_book::Scene;
@@ -29,13 +31,20 @@ pub struct WithSums {
     pub ghost fit: { Fits sums bundles.items },
 }
 
-/// A refresh of a receiver's bundles for which all was calculated and all memory taken: where each bundle comes from,
-/// the sums of them all, and room for them.
+/// A refresh of a receiver's bundles for which all was calculated and all memory taken, and the sums of these bundles.
 #[derive(Drop)]
 pub struct Renewed {
-    pub(crate) origins: Vec<Origin>,
+    pub(crate) way: Way,
     pub(crate) sums: RowSums,
-    pub(crate) room: Vec<Bundle>,
+}
+
+/// How the refreshed bundles come from the kept ones.
+#[derive(Drop)]
+pub(crate) enum Way {
+    /// Each has an origin, and there is room for them.
+    Anew(Vec<Origin>, Vec<Bundle>),
+    /// New ones take the places of some of so many kept ones.
+    InPlace(Vec<Replaced>, usize),
 }
 
 /// The bundles of a receiver in a scene as `refresh` gives them, of kept ones that are marked or not, and their sums,
@@ -99,7 +108,8 @@ fn refresh_sums_prepared<L: Ledger>(
 }
 
 /// The same for a row that gives its kept bundles away: here all is done that may fail, and then `Renewed::with_kept`
-/// moves the kept bundles that stand to where they stay.
+/// moves the kept bundles that stand to where they stay. Where the kept bundles are known to stand as the sources of the
+/// scene do, all within reach, only the marked ones are looked at.
 pub fn renew<L: Ledger>(
     alloc: Global,
     scene: &IndexedScene<'_>,
@@ -108,26 +118,35 @@ pub fn renew<L: Ledger>(
     kept: &[Bundle],
     marks: &[bool],
     sums: &RowSums,
+    stand: bool,
     steps: &mut Steps<L>,
 ) -> Result<Renewed, NoMemory>
     requires prepared { prepared.now ≡ map prepared_of scene.now.sources }
     requires kept { CanRefresh kept.now marks.now }
     requires fit { Fits sums.now kept.now }
+    requires stand { stand ≡ true → StandAsSources scene.now receiver.now kept.now }
     ensures value { IfOk result (λ renewed. Gives renewed kept.now
         (refreshed scene.now receiver.now kept.now marks.now)) }
+    ensures in_place { IfOk result (λ renewed. is_in_place renewed ≡ stand) }
     ensures few { IfOk result (λ renewed.
         length (refreshed scene.now receiver.now kept.now marks.now) ≤ 128) }
     ensures steps { OnOk result (steps.new
         ≡ steps.old + count_wanted scene.now receiver.now kept.now marks.now) }
     ensures most { steps.new ≤ steps.old + count_wanted scene.now receiver.now kept.now marks.now }
 {
+    if stand {
+        let row = replace_marked(alloc, scene, prepared, receiver, kept, marks, sums, steps)?;
+        return Ok(Renewed {
+            way: Way::InPlace(row.news, kept.len()),
+            sums: row.sums,
+        });
+    }
     let origins = origins_of(alloc, scene, prepared, receiver, kept, marks, steps)?;
     let sums = sums_after(kept, origins.as_slice(), sums);
     let room = Vec::with_capacity(alloc, origins.len())?;
     Ok(Renewed {
-        origins,
+        way: Way::Anew(origins, room),
         sums,
-        room,
     })
 }
 
@@ -137,7 +156,22 @@ impl Renewed {
         ensures { (kept : List BundleSeen) (bundles : List BundleSeen) → Gives self.now kept bundles
             → result ≡ length bundles }
     {
-        self.origins.len()
+        match &self.way {
+            Way::Anew(origins, _) => origins.len(),
+            Way::InPlace(_, count) => *count,
+        }
+    }
+
+    /// The new bundles with their places, where each kept bundle that stands stays in its place.
+    pub fn replaced(&self) -> Option<&[Replaced]>
+        ensures some { is_some result ≡ is_in_place self.now }
+        ensures news { (kept : List BundleSeen) (bundles : List BundleSeen) → Gives self.now kept bundles
+            → IfSome result (λ news. bundles ≡ with_each news.now kept) }
+    {
+        match &self.way {
+            Way::Anew(_, _) => None,
+            Way::InPlace(news, _) => Some(news.as_slice()),
+        }
     }
 
     /// The refreshed bundles and their sums: kept bundles that stand stay in their places or are moved, the others are dropped.
@@ -146,15 +180,22 @@ impl Renewed {
         requires { (bundles : _) × Gives self kept.items bundles }
         ensures { (bundles : _) → Gives self kept.items bundles → result.bundles.items ≡ bundles }
     {
-        let Renewed {
-            origins,
-            sums,
-            room,
-        } = self;
+        let Renewed { way, sums } = self;
         WithSums {
-            bundles: gathered(origins, kept, room),
+            bundles: led(way, kept),
             sums,
         }
+    }
+}
+
+/// The bundles to which a way leads.
+fn led(way: Way, kept: Vec<Bundle>) -> Vec<Bundle>
+    requires { (bundles : _) × Leads way kept.items bundles }
+    ensures { (bundles : _) → Leads way kept.items bundles → result.items ≡ bundles }
+{
+    match way {
+        Way::Anew(origins, room) => gathered(origins, kept, room),
+        Way::InPlace(news, _) => put_each(news, kept),
     }
 }
 
@@ -167,7 +208,7 @@ fn gathered(origins: Vec<Origin>, kept: Vec<Bundle>, room: Vec<Bundle>) -> Vec<B
     ensures { result.items ≡ bundles_from kept.items origins.items }
 {
     if origins.len() == kept.len() && stand_in_place(origins.as_slice()) {
-        replaced(origins, kept)
+        put_in_place(origins, kept)
     } else {
         moved(origins, kept, room)
     }
@@ -196,7 +237,7 @@ fn stands_at(origin: &Origin, place: usize) -> bool
 }
 
 /// The bundles of some origins, where each kept one that goes over stands in its place already.
-fn replaced(origins: Vec<Origin>, kept: Vec<Bundle>) -> Vec<Bundle>
+fn put_in_place(origins: Vec<Origin>, kept: Vec<Bundle>) -> Vec<Bundle>
     requires places { StandInPlace origins.items }
     requires count { length origins.items ≡ length kept.items }
     ensures { result.items ≡ bundles_from kept.items origins.items }

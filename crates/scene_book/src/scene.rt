@@ -1,5 +1,5 @@
 //! The scene.
-ghost use Rattle.std.specs.Prelude.{◌≡◌, ◌≤◌, length, Ok, Err, IfOk, IfErr, OnOk, OnErr, option_map};
+ghost use Rattle.std.specs.Prelude.{◌≡◌, ◌≤◌, [], length, Ok, Err, IfOk, IfErr, OnOk, OnErr, option_map};
 ghost use Rattle.scene_parts.specs.Answers.{Unless};
 ghost use Rattle.scene_parts.specs.declared.parts.Part.TheVariants as parts;
 ghost use Rattle.scene_book.specs.Limits.{most_obstacles, most_sides};
@@ -129,17 +129,25 @@ impl Scene {
     pub fn copy(&self) -> Result<Self, NoMemory>
         ensures { IfOk result (λ copied. copied ≡ self.now) }
     {
+        let mut copied = self.without_receivers()?;
+        copied.receivers = self.receivers.share()?;
+        Ok(copied)
+    }
+
+    /// The same scene without its receivers. It shares each other list with this one until either changes it.
+    pub fn without_receivers(&self) -> Result<Self, NoMemory>
+        ensures { IfOk result (λ other. other ≡ record self.now { receivers = [] }) }
+    {
         let sources = self.sources.share()?;
         let obstacles = self.obstacles.share()?;
         let zones = self.zones.share()?;
         let foliage = self.foliage.share()?;
-        let receivers = self.receivers.share()?;
         Ok(Scene {
             sources,
             obstacles,
             zones,
             foliage,
-            receivers,
+            receivers: Shared::new(),
             sides: self.sides,
             globals: self.globals,
         })

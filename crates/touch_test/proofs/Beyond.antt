@@ -1,11 +1,10 @@
 -- Sides and outlines that lie beyond an edge of a box, and the ways that the box holds: none of the sides crosses a way,
 -- and no outline is met.
-use Rattle.std.proofs.Common.{◌≡◌, ℕ, zero, suc, ◌*◌, ◌<◌, arith, ap, subst, ◌∙◌, sym, refl, Bool, true, false, ◌||◌, ◌⊎◌, inl, inr, List, [], ◌∷◌, ◌++◌}
-use Rattle.std.specs.Prelude.{ℤ, pos, negsuc, ◌+ℤ◌, ◌-ℤ◌, ◌*ℤ◌, ◌<ℤ◌, ◌≤ℤ◌, neg_ℤ, int_lt, ◌&&◌, not, Option, None, Some, is_some, unsigned_abs, if◌then◌else◌}
+use Rattle.std.proofs.Common.{◌≡◌, ℕ, zero, suc, ◌*◌, arith, ap, subst, ◌∙◌, sym, refl, Bool, true, false, List, [], ◌∷◌, ◌++◌}
+use Rattle.std.specs.Prelude.{ℤ, pos, negsuc, ◌+ℤ◌, ◌-ℤ◌, ◌*ℤ◌, ◌<ℤ◌, ◌≤ℤ◌, neg_ℤ, int_lt, ◌&&◌, Option, None, Some, is_some, if◌then◌else◌}
 use Rattle.std.specs.Bool.{then_some}
 use Rattle.std.specs.Option.{option_map, option_and_then}
 use Rattle.std.specs.List.{list_all, list_any, cons_option}
-use Rattle.std.specs.Ordering.{int_eq}
 use Rattle.std.proofs.lemmas.Int.{ints}
 use Rattle.std.proofs.lemmas.List.Folds.{list_all-append}
 use Rattle.std.proofs.Math.IntN.{+ℤ_idl}
@@ -288,7 +287,7 @@ module _ (test : Pt → Bool) (from : Pt) (dir : Dir) (end : Frac) (fwd : Bool) 
 
 -- ---- corners beyond an edge of what a way lies between
 
-lt-is : (a b : ℤ) → int_lt a b ≡ true → a <ℤ b
+pub lt-is : (a b : ℤ) → int_lt a b ≡ true → a <ℤ b
 lt-is a b h = omega (arith, ints)
 
 -- the end of the way over one divisor

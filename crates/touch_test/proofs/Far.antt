@@ -1,6 +1,6 @@
 -- An edit that lies beyond an edge of the box round some paths touches none of them.
-use Rattle.std.proofs.Common.{◌≡◌, ℕ, refl, sym, ap, subst, ◌∙◌, arith, Bool, true, false, ◌||◌, ◌⊎◌, inl, inr, List, map}
-use Rattle.std.specs.Prelude.{ℤ, int_lt, not, ◌&&◌, ◌==◌, Option, is_some, All, Contains}
+use Rattle.std.proofs.Common.{◌≡◌, refl, sym, subst, ◌∙◌, Bool, true, false, ◌||◌, ◌⊎◌, inl, inr, List}
+use Rattle.std.specs.Prelude.{int_lt, not, ◌&&◌, ◌==◌, is_some, All}
 use Rattle.std.specs.List.{list_any, list_all}
 use Rattle.std.specs.Ordering.{int_eq}
 use Rattle.std.proofs.lemmas.Bool.{eqb-true, and_parts}
@@ -21,18 +21,17 @@ use Rattle.scene_parts.specs.Sides.{sides_in, sides_of}
 use Rattle.scene_parts.specs.declared.ends.Ends.{Ends}
 use Rattle.scene_parts.specs.declared.parts.Part.{Part}
 use Rattle.scene_parts.specs.declared.parts.Part.TheVariants as parts
-use Rattle.scene_book.specs.declared.edits.Edit.{Edit}
 use Rattle.image_source.specs.LegCuts.{place_up_to}
 use Rattle.path_shape.specs.Outlines.{whole}
 use Rattle.path_calc.specs.Bundles.{Bundle}
 use Rattle.path_calc.specs.declared.segments.Seg.{Seg}
 use Rattle.path_calc.specs.declared.segments.Seg.TheVariants.{Straight, Legs}
 use Rattle.touch_test.specs.declared.envelopes.Envelope.{Envelope}
-use Rattle.touch_test.specs.Crossings.{crosses_legs, crosses_segment, meets_leg}
-use Rattle.touch_test.specs.Envelopes.{HoldsWay, HoldsSegment, HoldsPath, HoldsPaths, lies_aside, lies_ahead, lies_beyond, part_may_touch, is_elsewhere, edit_may_touch, FarEditsTouchNoPath}
+use Rattle.touch_test.specs.Crossings.{crosses_segment, meets_leg}
+use Rattle.touch_test.specs.Envelopes.{HoldsWay, HoldsSegment, HoldsPath, lies_aside, lies_ahead, lies_beyond, part_may_touch, is_elsewhere, FarEditsTouchNoPath}
 use Rattle.touch_test.specs.Touches.{bundled, changed_parts, edit_touches, is_set, obstacle_touches, outline_touches, part_touches, puts_by_grid}
 use Rattle.touch_test.proofs.Beyond.{AreOnHand, open-none, ring-none, ring-unmet, beyond-west, beyond-east, beyond-south, beyond-north}
-use Rattle.touch_test.proofs.Lists.{In, here, there, neither, fails-at, none-passes, any-or, any-map, contains}
+use Rattle.touch_test.proofs.Lists.{In, neither, fails-at, none-passes, any-or, any-map, contains}
 use Rattle.touch_test.proofs.Pieces.{absorbs, by-segments}
 
 -- ---- one way and some corners
@@ -97,7 +96,7 @@ each P x xs all i = let at = contains x xs i in subst P at.2 (all at.0 x at.1)
 
 -- ---- parts
 
-not-false : (b : Bool) → not b ≡ false → b ≡ true
+pub not-false : (b : Bool) → not b ≡ false → b ≡ true
 not-false true h = refl
 not-false false h = absurd (cc)
 

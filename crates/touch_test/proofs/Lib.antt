@@ -9,3 +9,4 @@ mod Receivers
 mod Beyond
 mod Widening
 mod Far
+mod Telling

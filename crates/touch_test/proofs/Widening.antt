@@ -9,7 +9,7 @@ use Rattle.scene_geom.specs.declared.plan.Pt.{Pt}
 use Rattle.scene_geom.specs.declared.fraction.Frac.{Frac}
 use Rattle.scene_geom.specs.declared.direction.Dir.{Dir}
 use Rattle.scene_geom.specs.Direction.{direct}
-use Rattle.scene_geom.specs.Fraction.{over, rest_of}
+use Rattle.scene_geom.specs.Fraction.{rest_of}
 use Rattle.scene_geom.specs.Reflection.{unfolded}
 use Rattle.scene_geom.proofs.Whole.{add_mul}
 use Rattle.part_grid.specs.Laws.{LiesBetween}

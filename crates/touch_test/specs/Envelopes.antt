@@ -1,6 +1,6 @@
 -- Boxes in plan round the ways along which the paths of a receiver read obstacles, zones and foliage: what lies beyond
 -- an edge of the box touches none of the paths by crossing them.
-use Rattle.std.specs.Prelude.{◌≡◌, ℤ, ◌≤ℤ◌, int_lt, Bool, true, false, not, ◌&&◌, ◌||◌, ◌==◌, ℕ, List, map, All, Option}
+use Rattle.std.specs.Prelude.{◌≡◌, ◌≤ℤ◌, int_lt, Bool, true, false, not, ◌||◌, ◌==◌, ℕ, List, map, slice_set, All, Option}
 use Rattle.std.specs.List.{list_any, list_all}
 use Rattle.std.specs.Ordering.{int_eq}
 use Rattle.scene_geom.specs.declared.plan.Pt.{Pt}
@@ -41,6 +41,14 @@ pub record HoldsPath (e : Envelope) (bundle : Bundle) : Type 0 where
 
 abbrev pub HoldsPaths : Envelope → List Bundle → Type 0
 HoldsPaths e bundles = All (HoldsPath e) bundles
+
+-- a box that was widened: it is of the same receiver, and holds what the other holds
+pub record IsWider (e f : Envelope) : Type 0 where
+  pub to : f.to ≡ e.to
+  pub west : f.west ≤ℤ e.west
+  pub south : f.south ≤ℤ e.south
+  pub east : e.east ≤ℤ f.east
+  pub north : e.north ≤ℤ f.north
 
 -- ---- what lies beyond
 
@@ -89,17 +97,17 @@ TellsOf e bundles = (r : Receiver) (edit : Edit) (old : Option Part) → edit_ma
 abbrev pub FarEditsTouchNoPath : Type 0
 FarEditsTouchNoPath = (e : Envelope) (bundles : List Bundle) → HoldsPaths e bundles → TellsOf e bundles
 
+-- a box tells of a path in the place of any of those of which another box tells
+abbrev pub TellsInPlace : Envelope → Envelope → Bundle → Type 0
+TellsInPlace e f bundle = (told : List Bundle) (place : ℕ) → TellsOf e told → TellsOf f (slice_set told place bundle)
+
+-- so does a wider one that holds that path
+abbrev pub WiderBoxesTell : Type 0
+WiderBoxesTell = (e f : Envelope) (bundle : Bundle) → IsWider e f → HoldsPath f bundle → TellsInPlace e f bundle
+
 -- ---- between code and definitions
 
 -- a point lies in the box
 pub record HoldsPoint (e : Envelope) (p : Pt) : Type 0 where
   pub x : (e.west ≤ℤ p.x) × (p.x ≤ℤ e.east)
   pub y : (e.south ≤ℤ p.y) × (p.y ≤ℤ e.north)
-
--- a box that was widened: it is of the same receiver, and holds what the other holds
-pub record IsWider (e f : Envelope) : Type 0 where
-  pub to : f.to ≡ e.to
-  pub west : f.west ≤ℤ e.west
-  pub south : f.south ≤ℤ e.south
-  pub east : e.east ≤ℤ f.east
-  pub north : e.north ≤ℤ f.north

@@ -9,7 +9,7 @@ ghost use Rattle.path_shape.specs.Outlines.{whole};
 ghost use Rattle.path_calc.specs.Segments.{FitsSegment};
 ghost use Rattle.path_calc.specs.declared.segments.Seg.TheVariants.{Straight};
 ghost use Rattle.touch_test.specs.Envelopes as form;
-ghost use Rattle.touch_test.specs.Envelopes.{HoldsPath, HoldsPaths, HoldsPoint, HoldsSegment, HoldsWay, IsWider, TellsOf};
+ghost use Rattle.touch_test.specs.Envelopes.{HoldsPath, HoldsPaths, HoldsPoint, HoldsSegment, HoldsWay, IsWider, TellsInPlace, TellsOf};
 
 use part_grid::end_at;
 use path_calc::{Bundle, Seg};
@@ -56,8 +56,7 @@ impl Envelope {
 
     /// The box of a single point.
     fn at(to: Pt) -> Envelope
-        ensures to { result.to ≡ to }
-        ensures point { HoldsPoint result to }
+        ensures { result.to ≡ to }
     {
         Envelope {
             to,
@@ -68,39 +67,18 @@ impl Envelope {
         }
     }
 
-    /// The box with a path in it besides.
-    fn with_path(self, bundle: &Bundle) -> Envelope
-        requires { HoldsPoint self self.to }
+    /// The box with the path of one bundle more in it besides: it tells of that bundle in the place of any of those of which
+    /// it told.
+    pub fn with_path(self, bundle: &Bundle) -> Envelope
         ensures wider { IsWider self result }
         ensures path { HoldsPath result bundle.now }
+        ensures tells { TellsInPlace self result bundle.now }
     {
-        let mut envelope = self.with_line_from(bundle.at);
+        let mut envelope = self.with_line(bundle.at, self.to);
         for segment in bundle.segs.items() {
             envelope = envelope.with_segment_beside(bundle.at, *segment);
         }
         envelope
-    }
-
-    /// The box with the way from a point to the receiver in it besides. Most boxes hold it already, since few sources lie
-    /// farther out than all before them.
-    fn with_line_from(self, from: Pt) -> Envelope
-        requires { HoldsPoint self self.to }
-        ensures wider { IsWider self result }
-        ensures line { HoldsWay result from (direct from result.to) whole }
-    {
-        if self.holds(from) {
-            self
-        } else {
-            self.with_point(from)
-        }
-    }
-
-    /// Whether a point lies in the box.
-    fn holds(&self, p: Pt) -> bool
-        ensures { result ≡ true → HoldsPoint self.now p }
-    {
-        lies_between(p.x.into(), self.west, self.east)
-            && lies_between(p.y.into(), self.south, self.north)
     }
 
     /// The box with a segment in it besides, where it holds the way from a point to the receiver already: in the open, this
@@ -142,12 +120,24 @@ impl Envelope {
         self.with_point(p).with_point(q)
     }
 
-    /// The box with a point in it besides.
+    /// The box with a point in it besides. Most boxes hold it already, since few sources lie farther out than all before them.
     fn with_point(self, p: Pt) -> Envelope
         ensures wider { IsWider self result }
         ensures point { HoldsPoint result p }
     {
-        self.with_reaches(Reach::at(p.x), Reach::at(p.y))
+        if self.holds(p) {
+            self
+        } else {
+            self.with_reaches(Reach::at(p.x), Reach::at(p.y))
+        }
+    }
+
+    /// Whether a point lies in the box.
+    fn holds(&self, p: Pt) -> bool
+        ensures { result ≡ true → HoldsPoint self.now p }
+    {
+        lies_between(p.x.into(), self.west, self.east)
+            && lies_between(p.y.into(), self.south, self.north)
     }
 
     /// The box with a way in it besides, from a point along a direction up to an end.

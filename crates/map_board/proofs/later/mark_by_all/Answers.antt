@@ -27,6 +27,7 @@ loop-entry-preserved c =
     c.loop-entry.invariant.one_each ∙ ap (λ (b : Vec Bundle Global). length b.items) c.loop-entry.invariant.bundles in
     record {
       bundles = bundles;
+      order = c.mark.ensures.order ∙ c.loop-entry.invariant.order;
       one_each = ap length set
           ∙ (length-marks (λ bundle. edit_touches entry.logged.edit entry.logged.old (bundled r bundle)) c.args.cache.now.bundles.items before.marks.items one_each
           ∙ ap (λ (b : Vec Bundle Global). length b.items) (sym bundles));

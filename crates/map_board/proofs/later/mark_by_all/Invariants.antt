@@ -6,6 +6,7 @@ use Rattle.map_board.proofs.later.mark_by_all.Given as goal
 abbrev pub invariant-loop-entry : goal.invariant-loop-entry
 invariant-loop-entry l = record {
   bundles : l.cache.bundles ≡ l.initial.cache.bundles;
+  order : l.cache.order ≡ l.initial.cache.order;
   one_each : length l.cache.marks.items ≡ length l.cache.bundles.items;
   marks : marks_after_all (drop l.entry-index l.later) l.receiver l.initial.cache.bundles.items l.cache.marks.items
       ≡ marks_after_all l.later l.receiver l.initial.cache.bundles.items l.initial.cache.marks.items;

@@ -1,11 +1,11 @@
-use Rattle.std.proofs.Common.{◌≡◌, ℕ, Bool, true, Some, None, [], refl, ap, sym, ◌∙◌, subst}
+use Rattle.std.proofs.Common.{◌≡◌, ℕ, Bool, true, Some, None, refl, ap, sym, ◌∙◌, subst}
 use Rattle.std.specs.Prelude.{Option, IfSome, IsSomeAnd, not}
 use Rattle.std.specs.Option.{option_map}
 use Rattle.map_board.specs.declared.caches.Cache.{Cache}
 use Rattle.map_board.specs.declared.rows.HeldRow.{HeldRow}
 use Rattle.map_board.specs.declared.rows.KeptLevels.{KeptLevels}
 use Rattle.map_board.specs.Rows.{is_current, shown_since}
-use Rattle.map_board.specs.Boards.{is_held_current, kept_of, shown_by}
+use Rattle.map_board.specs.Boards.{is_held_current, kept_of, shown_by, HasNone}
 use Rattle.map_board.specs.Marks.{marks_after, touches_one}
 use Rattle.map_board.specs.Paths.{kept_in, tests_to}
 use Rattle.map_board.proofs.AfterEdits.{kept-past, kept-fresh, out-holds, marked-holds}
@@ -21,8 +21,8 @@ current row levels some none =
     ap (λ (k : Option KeptLevels). is_current (shown_by row.since k)) some
     ∙ ap (λ (by : Option ℕ). is_current (shown_since (kept_of levels) by)) none
 
-pub mark_known-one-requires-clause-tests : goal.mark_known-one-requires-clause-tests
-mark_known-one-requires-clause-tests c =
+pub mark_row-one-requires-clause-tests : goal.mark_row-one-requires-clause-tests
+mark_row-one-requires-clause-tests c =
     subst (λ (x : Bool × Option Cache). IfSome c.args.tests (λ t. t.now ≡ tests_to c.args.change.now.logged c.args.receiver.now (kept_in x.0 x.1)))
     (λ i. (not (sym c.is_current-counts.ensures i), c.in-Some.is i)) c.requires.tests
 
@@ -34,14 +34,14 @@ pub touch-requires-clause-one : goal.touch-requires-clause-one
 touch-requires-clause-one c levels some none =
     let change = c.args.change.now in
     let r = c.args.receiver.now in
-    c.mark_known-one.ensures.one (ap not (c.is_current-counts.ensures ∙ current c.args.row.now levels some none))
+    c.mark_row-one.ensures.one (ap not (c.is_current-counts.ensures ∙ current c.args.row.now levels some none))
     ∙ ap (touches_one change.logged.edit change.logged.old r)
     (kept-fresh change c.requires.change r c.args.row.now c.requires.holds c.in-Some.cache c.in-Some.is levels some none)
 
 pub returns-in-Some-clause-holds : goal.returns-in-Some-clause-holds
 returns-in-Some-clause-holds c =
-    marked-holds c.args.change.now c.requires.change c.args.receiver.now c.args.row.now c.requires.holds c.touch.new.kept c.in-Some.cache c.mark_known-one.new.cache
-    c.in-Some.is c.touch.ensures.same c.touch.ensures.by (ap (λ b. b.items) c.mark_known-one.ensures.bundles) c.mark_known-one.ensures.marks
+    marked-holds c.args.change.now c.requires.change c.args.receiver.now c.args.row.now c.requires.holds c.touch.new.kept c.in-Some.cache c.mark_row-one.new.cache
+    c.in-Some.is c.touch.ensures.same c.touch.ensures.by (ap (λ b. b.items) c.mark_row-one.ensures.bundles) c.mark_row-one.ensures.order c.mark_row-one.ensures.marks
 
 -- ---- an empty row
 
@@ -51,17 +51,18 @@ no-levels (Some levels) is = absurd (cc is)
 
 pub returns-in_default-clause-empty : goal.returns-in_default-clause-empty
 returns-in_default-clause-empty c empty =
-    absurd (subst (λ (o : Option Cache). IsSomeAnd o (λ cache. (cache.bundles.items ≡ []) × (cache.marks.items ≡ []))) c.in_default.is empty.bundles)
+    absurd (subst (λ (o : Option Cache). IsSomeAnd o HasNone) c.in_default.is empty.bundles)
 
 pub returns-in-Some-clause-empty : goal.returns-in-Some-clause-empty
 returns-in-Some-clause-empty c empty =
-    let were = subst (λ (o : Option Cache). IsSomeAnd o (λ cache. (cache.bundles.items ≡ []) × (cache.marks.items ≡ []))) c.in-Some.is empty.bundles in
+    let were = subst (λ (o : Option Cache). IsSomeAnd o HasNone) c.in-Some.is empty.bundles in
     let change = c.args.change.now in
     record {
       kept = no-levels c.touch.new.kept (c.touch.ensures.same ∙ ap (option_map kept_of) empty.kept);
       out = empty.out;
       bundles = (
-        ap (λ b. b.items) c.mark_known-one.ensures.bundles ∙ were.0,
-        c.mark_known-one.ensures.marks ∙ (λ i. marks_after change.logged.edit change.logged.old c.args.receiver.now (were.0 i) (were.1 i)),
+        ap (λ b. b.items) c.mark_row-one.ensures.bundles ∙ were.0,
+        c.mark_row-one.ensures.marks ∙ (λ i. marks_after change.logged.edit change.logged.old c.args.receiver.now (were.0 i) (were.1 i)),
+        c.mark_row-one.ensures.order ∙ were.2,
       );
     }

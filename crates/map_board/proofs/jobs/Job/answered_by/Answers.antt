@@ -3,6 +3,7 @@ use Rattle.std.specs.Prelude.{List}
 use Rattle.path_calc.specs.Bundles.{Bundle}
 use Rattle.path_cache.specs.Refreshed.{refreshed}
 use Rattle.path_cache.specs.Renewals.{Gives}
+use Rattle.path_cache.specs.Standing.{AreOfEach}
 use Rattle.map_board.specs.Held.{no_marks}
 use Rattle.map_board.specs.Views.{Job}
 use Rattle.map_board.proofs.jobs.Job.answered_by.Goals as goal
@@ -22,11 +23,12 @@ invariant_of-result-2 c =
     let same : c.with_kept-bundles.result.bundles.items ≡ wanted = c.with_kept-bundles.ensures wanted gives in
     let few : length c.with_kept-bundles.result.bundles.items ≤ 128 = omega (arith, ap length same, c.requires.few) in
     record {
-      name = c.self.invariant.1.name;
       plain = c.requires.plain ∙ ap no_marks (sym same);
       few = few;
       levels = c.levels.ensures.fitting c.with_kept-bundles.result.bundles.items (omega (arith, few)) c.with_kept-bundles.result.fit;
       fit = c.with_kept-bundles.result.fit;
+      of_each = λ known. subst (λ (j : Job). AreOfEach j.scene.sources c.with_kept-bundles.result.bundles.items) (sym c.self.view_is)
+          (subst (AreOfEach job.scene.sources) (sym same) (c.requires.of_each known));
     }
 
 pub returns : goal.returns

@@ -1,11 +1,13 @@
-use Rattle.std.proofs.Common.{◌≡◌, ◌+◌, ◌∙◌, ap, sym, subst, false}
+use Rattle.std.proofs.Common.{◌≡◌, ◌+◌, ◌≤◌, ◌∙◌, [], eqb, length, ap, sym, subst, false}
 use Rattle.std.specs.Prelude.{Option, IfSome, List}
-use Rattle.std.specs.declared.sync.Arc.{Arc}
-use Rattle.std.specs.declared.alloc.Global.{Global}
+use Rattle.std.proofs.lemmas.Bool.{eqb-true}
 use Rattle.std.proofs.lemmas.Simd.{splat_is_map}
+use Rattle.scene_book.specs.Book.{Book}
 use Rattle.path_calc.specs.Bundles.{Bundle}
-use Rattle.path_cache.specs.Refreshed.{refreshed}
+use Rattle.path_cache.specs.Refreshed.{refreshed, count_wanted}
 use Rattle.path_cache.specs.Renewals.{Gives}
+use Rattle.path_cache.proofs.Receivers.{refreshed-receivers, count_wanted-receivers}
+use Rattle.path_cache.proofs.Standing.{refreshed-stands}
 use Rattle.map_board.specs.declared.jobs.Calculation.{Calculation}
 use Rattle.map_board.specs.declared.scenes.PreparedScene.{PreparedScene}
 use Rattle.map_board.specs.Calculated.{IsCalculated}
@@ -15,27 +17,36 @@ use Rattle.map_board.proofs.jobs.Job.calculate.Goals as goal
 pub returns-clause-made : goal.returns-clause-made
 returns-clause-made g c =
     let b = c.self.inside in
-    let receiver : c.receiver_in.result.now ≡ b.receiver.value = c.receiver_in.ensures ∙ sym (ap (λ (j : Job). j.receiver) c.self.view_is) in
-    let shared : c.in-Some.hold.value.scene ≡ b.scene.value =
-    subst (λ (o : Option (Arc PreparedScene Global)). IfSome o (λ prepared. prepared.value.scene ≡ b.scene.value)) c.in-Some.is c.self.invariant.1.hold in
-    let scene : c.deref-hold.result.now.scene ≡ b.scene.value = ap (λ (prepared : PreparedScene). prepared.scene) c.deref-hold.ensures ∙ shared in
-    let wanted : List Bundle = refreshed b.scene.value b.receiver.value b.kept.items b.marks.items in
-    let made : Calculation = record { renewed = c.in_ok-renewed.renewed; marks = c.in_ok-marks.marks; to = c.behind-self.inside.at } in
+    let book : Book = b.scene.value in
+    let scene : c.in-Some.hold.scene ≡ record book { receivers = [] } =
+    subst (λ (o : Option PreparedScene). IfSome o (λ prepared. prepared.scene ≡ record book { receivers = [] })) c.in-Some.is c.self.invariant.1.hold in
+    let at : c.indexed.result ≡ record book { receivers = [] } = c.indexed.ensures ∙ scene in
+    let wanted : List Bundle = refreshed book b.receiver b.kept.items b.marks.items in
+    let same : refreshed c.indexed.result c.in_ok-receiver.receiver c.deref-3.result.now c.deref-4.result.now ≡ wanted =
+    (λ i. refreshed (at i) (c.in_ok-receiver.ensures i) (c.deref-3.ensures.value i) (c.deref-4.ensures.value i)) ∙ refreshed-receivers [] book b.receiver b.kept.items b.marks.items in
+    let made : Calculation = record { renewed = c.in_ok-renewed.renewed; marks = c.in_ok-marks.marks; stand = eqb c.len-2.result (length c.sources.result.now); to = c.receiver.inside.at } in
     let gives : Gives c.in_ok-renewed.renewed b.kept.items wanted =
-    rw (c.indexed.ensures ∙ scene, receiver, c.deref-3.ensures.value, c.deref-4.ensures.value) at c.in_ok-renewed.ensures.value in
+    subst (λ (x : List Bundle × List Bundle). Gives c.in_ok-renewed.renewed x.0 x.1) (λ i. (c.deref-3.ensures.value i, same i)) c.in_ok-renewed.ensures.value in
     subst (λ (j : Job). IsCalculated j made) c.self.view_is (record {
       gives = gives;
       plain = c.in_ok-marks.ensures.items_if_clones_equal (λ y h. h) ∙ splat_is_map wanted c.len.result false (sym (c.len.ensures b.kept.items wanted gives));
-      few = rw (c.indexed.ensures ∙ scene, receiver, c.deref-3.ensures.value, c.deref-4.ensures.value) at c.in_ok-renewed.ensures.few;
+      few = subst (λ bundles. length bundles ≤ 128) same c.in_ok-renewed.ensures.few;
+      of_each = λ known.
+          let full : length wanted ≡ length book.sources =
+          sym (c.len-2.ensures b.kept.items wanted gives)
+          ∙ (eqb-true c.len-2.result (length c.sources.result.now) known
+          ∙ ap length (c.sources.ensures.value ∙ ap (λ (x : Book). x.sources) scene)) in
+          (refreshed-stands book b.receiver b.kept.items b.marks.items full).of_each;
     })
 
 pub returns-clause-steps : goal.returns-clause-steps
 returns-clause-steps g c =
     let b = c.self.inside in
-    let receiver : c.receiver_in.result.now ≡ b.receiver.value = c.receiver_in.ensures ∙ sym (ap (λ (j : Job). j.receiver) c.self.view_is) in
-    let shared : c.in-Some.hold.value.scene ≡ b.scene.value =
-    subst (λ (o : Option (Arc PreparedScene Global)). IfSome o (λ prepared. prepared.value.scene ≡ b.scene.value)) c.in-Some.is c.self.invariant.1.hold in
-    let scene : c.deref-hold.result.now.scene ≡ b.scene.value = ap (λ (prepared : PreparedScene). prepared.scene) c.deref-hold.ensures ∙ shared in
+    let book : Book = b.scene.value in
+    let scene : c.in-Some.hold.scene ≡ record book { receivers = [] } =
+    subst (λ (o : Option PreparedScene). IfSome o (λ prepared. prepared.scene ≡ record book { receivers = [] })) c.in-Some.is c.self.invariant.1.hold in
+    let at : c.indexed.result ≡ record book { receivers = [] } = c.indexed.ensures ∙ scene in
     c.in_ok-renewed.ensures.steps
     ∙ ap (λ n. c.args.steps.now + n)
-    (rw (c.indexed.ensures ∙ scene, receiver, c.deref-3.ensures.value, c.deref-4.ensures.value) (ap (λ (j : Job). j.due) c.self.view_is))
+    ((λ i. count_wanted (at i) (c.in_ok-receiver.ensures i) (c.deref-3.ensures.value i) (c.deref-4.ensures.value i))
+    ∙ (count_wanted-receivers [] book b.receiver b.kept.items b.marks.items ∙ ap (λ (j : Job). j.due) c.self.view_is))

@@ -21,7 +21,7 @@ land-requires c =
     job-suits c.args.self.now c.landing_of-place.result.place c.returned-back.result c.args.job c.requires.out
     (row-by-name c.landing_of-place.result.place c.requires.out c.name.ensures c.landing_of-place.ensures.place) job_place (subst (IsJob job_place) c.job.view_is c.job.invariant.0) c.requires.fit
     c.landing_of-place.result.later.now (c.landing_of-place.ensures.later ∙ ap (λ (j : Job). entries_after c.args.self.now.journal j.version) c.job.view_is)
-    back.levels back.bundles back.marks
+    back.levels back.bundles back.marks back.order
 
 pub returns : goal.returns
 returns c =

@@ -20,7 +20,7 @@ land-requires c =
     (row-by-name c.landing_of-place.result.place c.requires.out c.name.ensures c.landing_of-place.ensures.place) c.requires.right
     (subst (λ (a : Answer). length a.bundles ≤ 128) c.answer.view_is c.answer.invariant.few) c.landing_of-place.result.later.now
     (c.landing_of-place.ensures.later ∙ ap (λ (a : Answer). entries_after c.args.self.now.journal a.version) c.answer.view_is)
-    back.kept back.bundles back.marks
+    back.kept back.bundles back.marks back.order
 
 pub returns : goal.returns
 returns c =

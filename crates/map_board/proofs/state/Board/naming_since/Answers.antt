@@ -10,5 +10,5 @@ returns c =
     let version = c.args.version in
     let name = c.args.name.now in
     c.first_naming.ensures
-    ∙ (ap (first_noted version name) (c.as_slice.ensures.value ∙ c.self.invariant.named)
+    ∙ (ap (first_noted version name) (c.as_slice.ensures.value ∙ c.self.invariant.0.named)
     ∙ (noted-first c.self.inside.past version name ∙ ap (λ (s : State). first_naming s.journal version name) c.self.view_is))

@@ -10,5 +10,5 @@ pub returns : goal.returns
 returns c =
     ap not (c.is_any_unsettled.ensures
     ∙ (ap (list_any is_held_unsettled) c.as_slice.ensures
-    ∙ (sym (any-unsettled c.self.inside.past c.self.inside.hold.value.scene.receivers c.self.inside.rows.items c.self.invariant.each)
+    ∙ (sym (any-unsettled c.self.inside.past c.self.inside.hold.scene.receivers c.self.inside.rows.items c.self.invariant.0.each)
     ∙ ap (λ (s : State). list_any (is_unsettled s.journal) s.rows) c.self.view_is)))

@@ -1,7 +1,7 @@
-use Rattle.std.proofs.Common.{◌∙◌, subst, sym}
-use Rattle.touch_test.specs.Envelopes.{HoldsPath, HoldsPoint}
+use Rattle.std.proofs.Common.{◌∙◌}
+use Rattle.touch_test.specs.Envelopes.{HoldsPath}
 use Rattle.touch_test.proofs.Far.{far-edits-touch-no-path}
-use Rattle.touch_test.proofs.Widening.{grown, whole-list, wider-path, wider-point}
+use Rattle.touch_test.proofs.Widening.{grown, whole-list, wider-path}
 use Rattle.touch_test.proofs.envelopes.Envelope.of.Goals as goal
 
 pub loop-bundle-preserved : goal.loop-bundle-preserved
@@ -11,15 +11,14 @@ loop-bundle-preserved c =
     let wider = c.with_path-envelope.ensures.wider in
     let so = c.loop-bundle.invariant in (
       wider.to ∙ so.0,
-      subst (HoldsPoint f) (sym wider.to) (wider-point e f e.to wider so.1),
-      grown (HoldsPath e) (HoldsPath f) c.args.bundles.now c.loop-bundle.bundle-index c.bundle-item.result c.loop-bundle-test.true c.bundle-item.is (λ bundle is. wider-path e f bundle wider is) so.2
+      grown (HoldsPath e) (HoldsPath f) c.args.bundles.now c.loop-bundle.bundle-index c.bundle-item.result c.loop-bundle-test.true c.bundle-item.is (λ bundle is. wider-path e f bundle wider is) so.1
           c.with_path-envelope.ensures.path,
     )
 
 pub returns-clause-paths : goal.returns-clause-paths
-returns-clause-paths c = whole-list (HoldsPath c.loop-bundle.envelope) c.args.bundles.now c.loop-bundle.bundle-index c.loop-bundle-test.false c.loop-bundle.invariant.2
+returns-clause-paths c = whole-list (HoldsPath c.loop-bundle.envelope) c.args.bundles.now c.loop-bundle.bundle-index c.loop-bundle-test.false c.loop-bundle.invariant.1
 
 pub returns-clause-tells : goal.returns-clause-tells
 returns-clause-tells c =
     far-edits-touch-no-path c.loop-bundle.envelope c.args.bundles.now
-    (whole-list (HoldsPath c.loop-bundle.envelope) c.args.bundles.now c.loop-bundle.bundle-index c.loop-bundle-test.false c.loop-bundle.invariant.2)
+    (whole-list (HoldsPath c.loop-bundle.envelope) c.args.bundles.now c.loop-bundle.bundle-index c.loop-bundle-test.false c.loop-bundle.invariant.1)

@@ -1,10 +1,22 @@
-use Rattle.std.proofs.Common.{◌≡◌, ◌<◌, ◌≤◌, ap, ◌∙◌, subst, List, length}
+use Rattle.std.proofs.Common.{◌≡◌, ◌<◌, ◌≤◌, ap, ◌∙◌, subst, sym, List, length}
 use Rattle.std.specs.Prelude.{slice_index_or}
+use Rattle.std.proofs.lemmas.List.Elements.{All-nil}
+use Rattle.scene_geom.specs.declared.plan.Pt.{Pt}
+use Rattle.scene_geom.specs.Direction.{direct}
+use Rattle.path_shape.specs.Outlines.{whole}
 use Rattle.path_calc.specs.Bundles.{Bundle}
 use Rattle.path_calc.specs.declared.segments.Seg.{Seg}
-use Rattle.touch_test.specs.Envelopes.{HoldsSegment}
+use Rattle.touch_test.specs.Envelopes.{HoldsSegment, HoldsWay}
+use Rattle.touch_test.proofs.Telling.{wider-boxes-tell}
 use Rattle.touch_test.proofs.Widening.{grown, line-wider, whole-list, wider-both, wider-segment}
 use Rattle.touch_test.proofs.envelopes.Envelope.with_path.Goals as goal
+
+pub loop-segment-init : goal.loop-segment-init
+loop-segment-init c =
+    let e = c.with_line-envelope.result in
+    let wider = c.with_line-envelope.ensures.wider in
+    let line = subst (λ (to : Pt). HoldsWay e c.bundle.inside.at (direct c.bundle.inside.at to) whole) (sym wider.to) c.with_line-envelope.ensures.line in
+    (wider, subst (λ (at : Pt). HoldsWay e at (direct at e.to) whole) (ap (λ (b : Bundle). b.at) c.bundle.view_is) line, All-nil (HoldsSegment e))
 
 pub loop-segment-preserved : goal.loop-segment-preserved
 loop-segment-preserved c =
@@ -31,3 +43,6 @@ returns-clause-path c =
       line = so.1;
       trace = whole-list (HoldsSegment c.loop-segment.envelope) c.args.bundle.now.segs i (subst (λ (l : List Seg). length l ≤ i) segs_is c.loop-segment-test.false) so.2;
     }
+
+pub returns-clause-tells : goal.returns-clause-tells
+returns-clause-tells c = wider-boxes-tell c.args.self c.loop-segment.envelope c.args.bundle.now c.loop-segment.invariant.0 (returns-clause-path c)

@@ -4,7 +4,7 @@ use Rattle.std.proofs.lemmas.List.Concat.{flat_map-cons}
 use Rattle.path_cache.specs.Origins.{bundle_from, bundles_from, StandsAt}
 use Rattle.path_cache.proofs.Ascending.{there-is, behind-it}
 use Rattle.path_cache.proofs.InPlace.{placed, as-many}
-use Rattle.path_cache.proofs.renewing.replaced.Goals as goal
+use Rattle.path_cache.proofs.renewing.put_in_place.Goals as goal
 
 pub loop-origin-preserved : goal.loop-origin-preserved
 loop-origin-preserved c =

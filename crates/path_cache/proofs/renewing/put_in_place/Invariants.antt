@@ -2,7 +2,7 @@
 use Rattle.std.proofs.Common.{◌≡◌, ◌+◌, ◌++◌, take, drop, length}
 use Rattle.std.specs.Vec.Iter.{into_iter_items}
 use Rattle.path_cache.specs.Origins.{bundles_from}
-use Rattle.path_cache.proofs.renewing.replaced.Given as goal
+use Rattle.path_cache.proofs.renewing.put_in_place.Given as goal
 
 abbrev pub invariant-loop-origin : goal.invariant-loop-origin
 invariant-loop-origin l = record {

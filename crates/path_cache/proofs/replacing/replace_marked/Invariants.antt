@@ -1,0 +1,16 @@
+-- The row is refreshed up to the place, its sums fit it, and the steps so far are counted.
+use Rattle.std.proofs.Common.{◌≡◌, ◌+◌, ◌++◌, ◌<◌, take, drop, length}
+use Rattle.std.specs.Prelude.{All, count_by}
+use Rattle.path_cache.specs.declared.replacing.Replaced.{Replaced}
+use Rattle.path_cache.specs.Refreshed.{refreshed, is_wanted}
+use Rattle.path_cache.specs.Sums.{Fits}
+use Rattle.path_cache.specs.Renewals.{with_each}
+use Rattle.path_cache.proofs.replacing.replace_marked.Given as goal
+
+abbrev pub invariant-loop-place : goal.invariant-loop-place
+invariant-loop-place g l = record {
+  row : with_each l.row.news.items l.kept ≡ take l.place (refreshed l.fn.scene l.receiver l.kept l.marks) ++ drop l.place l.kept;
+  places : All (λ (replaced : Replaced). replaced.place < length l.kept) l.row.news.items;
+  fit : Fits l.row.sums (with_each l.row.news.items l.kept);
+  steps : l.steps ≡ l.fn.steps + count_by (is_wanted l.kept l.marks) (take l.place l.fn.scene.sources);
+}
