@@ -1,8 +1,9 @@
-# Sourced by the benchmarks beside it that time the proved program, which is built first where that is needed.
+# Sourced by the benchmarks beside it that time the proved program, which is built first where that is needed and $program
+# names no other.
 root=$(cd "$(dirname "$0")/.." && pwd)
 work=$(mktemp -d)
 trap 'rm -rf "$work"' EXIT
-"$root/noisemap" < /dev/null
+[ -n "${program:-}" ] || "$root/noisemap" < /dev/null
 
 # sources COUNT: so many lines of sources of eight bands, each at another place.
 sources() {

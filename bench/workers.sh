@@ -168,12 +168,16 @@ def look(workers):
     run.communicate()
     return sorted(times[1:])[20]
 
-small = [source(0), grid(8), '{"do":"settle"}\n']
+def settled(columns):
+    """A settled map of a source and so many rows of so many receivers."""
+    return [source(0), grid(columns), '{"do":"settle"}\n']
+
 sources = [source(number) for number in range(20000)]
-print("workers  without a job  an edit each 10 ms  20,000 edits  of 16 rows each  look behind an edit")
-print("         cpu ms of 3 s         cpu ms of 3 s            ms               ms                   ms")
+print("workers  without a job  an edit each 10 ms of 16 rows  of 64 rows  20,000 edits  of 16 rows each  look behind an edit")
+print("         cpu ms of 3 s                   cpu ms of 3 s       the same           ms               ms                   ms")
 for workers in (0, 1, 4, 16):
-    idle, edited = slow(workers, []), slow(workers, small + sources[:280])
+    idle = slow(workers, [])
+    few, more = [slow(workers, settled(columns) + sources[:280]) for columns in (4, 8)]
     bare, touching = quick(workers, sources), quick(workers, [grid(4)] + sources)
-    print(f"{workers:7}  {idle:13.0f}  {edited:18.0f}  {bare:12.0f}  {touching:15.0f}  {look(workers):19.2f}", flush=True)
+    print(f"{workers:7}  {idle:13.0f}  {few:29.0f}  {more:10.0f}  {bare:12.0f}  {touching:15.0f}  {look(workers):19.2f}", flush=True)
 PYTHON

@@ -95,15 +95,19 @@ fn settle(alloc: Global, board: &mut Board) -> Option<()> {
     if board.settled() { Some(()) } else { None }
 }
 
-/// A settled board of so many sources, and receivers in so many columns and rows.
-fn settled(alloc: Global, sources: u8, columns: i64, rows: i64) -> Option<Board> {
-    let mut board = Board::new(alloc).ok()?;
+/// An edit that is accepted.
+fn edit(alloc: Global, board: &mut Board, edit: Edit) -> Option<()> {
+    board.edit(alloc, edit).ok()?;
+    Some(())
+}
+
+/// Puts so many sources, and receivers in so many columns and rows, and answers all jobs.
+fn fill(alloc: Global, board: &mut Board, sources: u8, columns: i64, rows: i64) -> Option<()> {
     for number in 0..sources {
-        board.edit(alloc, source(alloc, number)?).ok()?;
+        edit(alloc, board, source(alloc, number)?)?;
     }
-    board.edit(alloc, receivers(alloc, columns, rows)?).ok()?;
-    settle(alloc, &mut board)?;
-    Some(board)
+    edit(alloc, board, receivers(alloc, columns, rows)?)?;
+    settle(alloc, board)
 }
 
 /// Whether two rows show the same: the version that they are of, and the edit by which they are stale.
@@ -150,6 +154,21 @@ fn take_the_same(alloc: Global, one: &mut Board, other: &mut Board) -> Option<bo
 
 // The barrier put on two like boards, once by the caller alone and once with threads: how many rows are stale by it, and
 // whether the same is taken after it.
+fn put_on_both<R: Threads + Sync>(
+    rt: &R,
+    alloc: Global,
+    one: &mut Board,
+    other: &mut Board,
+) -> Option<(u32, bool)> {
+    edit(alloc, one, barrier(alloc)?)?;
+    other.edit_with(rt, alloc, barrier(alloc)?).ok()?;
+    let stale = stale_in_both(one, other)?;
+    let same = take_the_same(alloc, one, other)?;
+    Some((stale, same))
+}
+
+// The same on settled boards of so many sources, and receivers in so many columns and rows. What may fail borrows the boards,
+// since each way out of a function that owns one is proved for itself.
 fn put_twice<R: Threads + Sync>(
     rt: &R,
     alloc: Global,
@@ -157,13 +176,15 @@ fn put_twice<R: Threads + Sync>(
     columns: i64,
     rows: i64,
 ) -> Option<(u32, bool)> {
-    let mut one = settled(alloc, sources, columns, rows)?;
-    let mut other = settled(alloc, sources, columns, rows)?;
-    one.edit(alloc, barrier(alloc)?).ok()?;
-    other.edit_with(rt, alloc, barrier(alloc)?).ok()?;
-    let stale = stale_in_both(&one, &other)?;
-    let same = take_the_same(alloc, &mut one, &mut other)?;
-    Some((stale, same))
+    let mut one = Board::new(alloc).ok()?;
+    let mut other = Board::new(alloc).ok()?;
+    match (
+        fill(alloc, &mut one, sources, columns, rows),
+        fill(alloc, &mut other, sources, columns, rows),
+    ) {
+        (Some(()), Some(())) => put_on_both(rt, alloc, &mut one, &mut other),
+        _ => None,
+    }
 }
 
 #[test]

@@ -3,8 +3,7 @@
 ghost use Rattle.std.specs.Prelude.{◌≡◌, []};
 ghost use Rattle.map_board.specs.Seats.{owed};
 
-use crate::one_course::{source, take_job, work_once};
-use crate::solving::solve;
+use crate::one_course::{answer, source, take_job, work_once};
 use map_board::{Board, Landed, Shown, Took};
 use map_lock::{EditorSeat, MapLock, WorkerSeat};
 use scene_book::Edit;
@@ -12,7 +11,6 @@ use scene_geom::Pt;
 use scene_parts::{Name, Part, PlainName, RawPart, RawPoints, RawPt, Receiver, check};
 use std::alloc::Global;
 use std::sync::Wait;
-use std::test::Fail;
 use std::thread::Threads;
 
 fn receiver(alloc: Global, x: i64) -> Option<Edit> {
@@ -179,25 +177,54 @@ fn work_late<R: Threads + Wait + Sync>(
     ensures parts_of_worker { worker.new.parts ≡ worker.old.parts }
 {
     let job = take_job(rt, lock, worker)?;
-    put_shed(rt, alloc, lock, editor)?;
-    match solve(alloc, job) {
-        Ok(answer) => Some(lock.offer(rt, worker, answer)),
-        Err(_) => None,
-    }
+    let put = put_shed(rt, alloc, lock, editor);
+    let landed = answer(rt, alloc, lock, worker, job);
+    put?;
+    landed
 }
 
-// A board on which an answer for version 5 landed at version 7, and what became of its two answers.
-fn landed_late<R: Threads + Wait + Sync>(rt: &R, alloc: Global) -> Option<(Board, Landed, Landed)> {
+// An answer of the first worker, and one of the second for version 5 that lands at version 7: whether both are kept.
+fn land_late<R: Threads + Wait + Sync>(
+    rt: &R,
+    alloc: Global,
+    lock: &MapLock,
+    editor: &mut EditorSeat,
+    first: &mut WorkerSeat,
+    second: &mut WorkerSeat,
+) -> Option<(bool, bool)>
+    requires own { editor.old.table ≡ lock.now }
+    requires own_first { first.old.table ≡ lock.now }
+    requires own_second { second.old.table ≡ lock.now }
+    requires free_first { owed first.old.mine ≡ [] }
+    requires free_second { owed second.old.mine ≡ [] }
+    ensures own { editor.new.table ≡ lock.now }
+    ensures parts { editor.new.parts ≡ editor.old.parts }
+    ensures own_first { first.new.table ≡ lock.now }
+    ensures parts_of_first { first.new.parts ≡ first.old.parts }
+    ensures own_second { second.new.table ≡ lock.now }
+    ensures parts_of_second { second.new.parts ≡ second.old.parts }
+{
+    put_three(rt, alloc, lock, editor)?;
+    let early = work_once(rt, alloc, lock, first)?;
+    put_barrier(rt, alloc, lock, editor)?;
+    let late = work_late(rt, alloc, lock, editor, second)?;
+    Some((matches!(early, Landed::Kept), matches!(late, Landed::Kept)))
+}
+
+// A board on which an answer for version 5 landed at version 7: whether its two answers are kept, and what it shows then.
+fn landed_late<R: Threads + Wait + Sync>(
+    rt: &R,
+    alloc: Global,
+) -> Option<((bool, bool), StaleRow)> {
     let (lock, mut editor) = MapLock::start(alloc).ok()?;
     let mut first = lock.worker(rt, &mut editor);
     let mut second = lock.worker(rt, &mut editor);
-    put_three(rt, alloc, &lock, &mut editor)?;
-    let early = work_once(rt, alloc, &lock, &mut first)?;
-    put_barrier(rt, alloc, &lock, &mut editor)?;
-    let late = work_late(rt, alloc, &lock, &mut editor, &mut second)?;
+    let kept = land_late(rt, alloc, &lock, &mut editor, &mut first, &mut second);
     lock.join_worker(&mut editor, first);
     lock.join_worker(&mut editor, second);
-    Some((lock.close(editor), early, late))
+    let board = lock.close(editor);
+    let row = stale_row(alloc, &board);
+    Some((kept?, row))
 }
 
 /// Whether it is stale by edit 6 with the level of version 5, from 35.61 to 35.62 dB, rounded outwards.
@@ -216,12 +243,9 @@ fn is_stale_by_the_sixth(shown: &Shown) -> bool {
     low >> 16 >= 3561 * 65_536 / 100 && high >> 16 <= 3562 * 65_536 / 100
 }
 
-fn first_shown(board: &Board) -> Option<Shown> {
-    if board.rows() == 0 {
-        None
-    } else {
-        Some(board.shown(0))
-    }
+/// Whether the first row is shown as stale by edit 6.
+fn shows_stale(board: &Board) -> bool {
+    board.rows() != 0 && is_stale_by_the_sixth(&board.shown(0))
 }
 
 /// Whether the first row of a look is stale by edit 6.
@@ -231,20 +255,26 @@ fn looks_stale(alloc: Global, board: &Board) -> Option<bool> {
     Some(is_stale_by_the_sixth(&row.shown))
 }
 
-#[test]
-fn an_answer_that_lands_late_is_stale_by_the_first_later_edit(rt: HostRuntime) -> Result<(), Fail> {
-    let (board, early, late) = landed_late(&rt, rt.alloc()).ok_or("there is memory")?;
-    assert!(rt; matches!(early, Landed::Kept));
-    assert!(rt; matches!(late, Landed::Kept));
-    assert_eq!(rt; (board.version(), board.counts()), (7, [2, 2, 0, 0]));
-    let shown = first_shown(&board).ok_or("there is a receiver")?;
-    assert!(rt; is_stale_by_the_sixth(&shown));
-    assert!(rt; looks_stale(rt.alloc(), &board).ok_or("there is memory")?);
-    Ok(())
+/// The version of a board, its counts, and whether its first row is stale by edit 6: as it is shown, and in a look.
+type StaleRow = (u64, [u64; 4], bool, Option<bool>);
+
+fn stale_row(alloc: Global, board: &Board) -> StaleRow {
+    (
+        board.version(),
+        board.counts(),
+        shows_stale(board),
+        looks_stale(alloc, board),
+    )
 }
 
-// Takes a job, which is solved and offered after its receiver was put at another place. Whether the other worker finds one
-// row out meanwhile, and what becomes of the answer.
+#[test]
+fn an_answer_that_lands_late_is_stale_by_the_first_later_edit(rt: HostRuntime) {
+    let expected = ((true, true), (7, [2, 2, 0, 0], true, Some(true)));
+    assert_eq!(rt; landed_late(&rt, rt.alloc()), Some(expected));
+}
+
+// Puts the source and the receiver, and takes a job, which is solved and offered after its receiver was put at another place.
+// Whether the other worker finds one row out meanwhile, and the edit by which the answer is gone, if it is.
 fn work_moved<R: Threads + Wait + Sync>(
     rt: &R,
     alloc: Global,
@@ -252,7 +282,7 @@ fn work_moved<R: Threads + Wait + Sync>(
     editor: &mut EditorSeat,
     worker: &mut WorkerSeat,
     other: &mut WorkerSeat,
-) -> Option<(bool, Landed)>
+) -> Option<(bool, Option<u64>)>
     requires own { editor.old.table ≡ lock.now }
     requires own_worker { worker.old.table ≡ lock.now }
     requires own_other { other.old.table ≡ lock.now }
@@ -264,12 +294,51 @@ fn work_moved<R: Threads + Wait + Sync>(
     ensures own_other { other.new.table ≡ lock.now }
     ensures parts_of_other { other.new.parts ≡ other.old.parts }
 {
+    edit(rt, alloc, lock, editor, source(alloc))?;
+    edit(rt, alloc, lock, editor, receiver(alloc, 100_000))?;
     let job = take_job(rt, lock, worker)?;
-    let is_out = matches!(lock.take(rt, other), Took::Idle { taken: 1 });
-    edit(rt, alloc, lock, editor, receiver(alloc, 120_000))?;
-    match solve(alloc, job) {
-        Ok(answer) => Some((is_out, lock.offer(rt, worker, answer))),
-        Err(_) => None,
+    let is_out = finds_one_out(rt, lock, other);
+    let moved = edit(rt, alloc, lock, editor, receiver(alloc, 120_000));
+    let landed = answer(rt, alloc, lock, worker, job);
+    moved?;
+    Some((is_out, gone_by(landed?)))
+}
+
+// Whether a worker finds no job, since one row is out.
+fn finds_one_out<R: Wait>(rt: &R, lock: &MapLock, worker: &mut WorkerSeat) -> bool
+    requires own { worker.old.table ≡ lock.now }
+    ensures own { worker.new.table ≡ lock.now }
+    ensures parts { worker.new.parts ≡ worker.old.parts }
+{
+    matches!(lock.take(rt, worker), Took::Idle { taken: 1 })
+}
+
+/// The edit by which an answer is gone, if it is.
+fn gone_by(landed: Landed) -> Option<u64> {
+    match landed {
+        Landed::Gone { by } => Some(by),
+        _ => None,
+    }
+}
+
+/// The version since which the first row is new, whether there is a job for it, and whether the board is finished then.
+type NewRow = (Option<u64>, bool, bool);
+
+fn new_row(board: &mut Board) -> NewRow {
+    let since = new_since(board);
+    let is_job = matches!(board.take(), Took::Job(_));
+    board.finish();
+    (since, is_job, matches!(board.take(), Took::Finished))
+}
+
+/// The version since which the first row is new, if it is.
+fn new_since(board: &Board) -> Option<u64> {
+    if board.rows() == 0 {
+        return None;
+    }
+    match board.shown(0) {
+        Shown::New { since } => Some(since),
+        _ => None,
     }
 }
 
@@ -277,27 +346,20 @@ fn work_moved<R: Threads + Wait + Sync>(
 fn moved_meanwhile<R: Threads + Wait + Sync>(
     rt: &R,
     alloc: Global,
-) -> Option<(Board, bool, Landed)> {
+) -> Option<((bool, Option<u64>), NewRow)> {
     let (lock, mut editor) = MapLock::start(alloc).ok()?;
     let mut first = lock.worker(rt, &mut editor);
     let mut second = lock.worker(rt, &mut editor);
-    edit(rt, alloc, &lock, &mut editor, source(alloc))?;
-    edit(rt, alloc, &lock, &mut editor, receiver(alloc, 100_000))?;
-    let (is_out, landed) = work_moved(rt, alloc, &lock, &mut editor, &mut first, &mut second)?;
+    let moved = work_moved(rt, alloc, &lock, &mut editor, &mut first, &mut second);
     lock.join_worker(&mut editor, first);
     lock.join_worker(&mut editor, second);
-    Some((lock.close(editor), is_out, landed))
+    let mut board = lock.close(editor);
+    let row = new_row(&mut board);
+    Some((moved?, row))
 }
 
 #[test]
-fn an_answer_for_a_receiver_that_was_moved_is_gone(rt: HostRuntime) -> Result<(), Fail> {
-    let (mut board, is_out, landed) = moved_meanwhile(&rt, rt.alloc()).ok_or("there is memory")?;
-    assert!(rt; is_out);
-    assert!(rt; matches!(landed, Landed::Gone { by: 3 }));
-    let shown = first_shown(&board).ok_or("there is a receiver")?;
-    assert!(rt; matches!(shown, Shown::New { since: 3 }));
-    assert!(rt; matches!(board.take(), Took::Job(_)));
-    board.finish();
-    assert!(rt; matches!(board.take(), Took::Finished));
-    Ok(())
+fn an_answer_for_a_receiver_that_was_moved_is_gone(rt: HostRuntime) {
+    let expected = ((true, Some(3)), (Some(3), true, true));
+    assert_eq!(rt; moved_meanwhile(&rt, rt.alloc()), Some(expected));
 }

@@ -59,6 +59,25 @@ pub(crate) fn give_up<R: Wait>(rt: &R, lock: &MapLock, worker: &mut WorkerSeat) 
     Some(())
 }
 
+// Solves the job that the seat alone owes, and offers the answer.
+pub(crate) fn answer<R: Wait>(
+    rt: &R,
+    alloc: Global,
+    lock: &MapLock,
+    worker: &mut WorkerSeat,
+    job: Job,
+) -> Option<Landed>
+    requires own { worker.old.table ≡ lock.now }
+    requires owed { owed worker.old.mine ≡ job ∷ [] }
+    ensures own { worker.new.table ≡ lock.now }
+    ensures parts { worker.new.parts ≡ worker.old.parts }
+{
+    match solve(alloc, job) {
+        Ok(answer) => Some(lock.offer(rt, worker, answer)),
+        Err(_) => None,
+    }
+}
+
 // Takes a job, solves it and offers the answer.
 pub(crate) fn work_once<R: Wait>(
     rt: &R,
@@ -72,10 +91,7 @@ pub(crate) fn work_once<R: Wait>(
     ensures parts { worker.new.parts ≡ worker.old.parts }
 {
     let job = take_job(rt, lock, worker)?;
-    match solve(alloc, job) {
-        Ok(answer) => Some(lock.offer(rt, worker, answer)),
-        Err(_) => None,
-    }
+    answer(rt, alloc, lock, worker, job)
 }
 
 // A look at one row, which is current.
@@ -109,19 +125,38 @@ pub(crate) fn edit_both<R: Threads + Wait + Sync>(
     Some(())
 }
 
+// The two edits, a job that is given back, and one that is answered: what became of the answer.
+fn edit_and_work<R: Threads + Wait + Sync>(
+    rt: &R,
+    alloc: Global,
+    lock: &MapLock,
+    editor: &mut EditorSeat,
+    worker: &mut WorkerSeat,
+) -> Option<Landed>
+    requires own { editor.old.table ≡ lock.now }
+    requires own_worker { worker.old.table ≡ lock.now }
+    requires free { owed worker.old.mine ≡ [] }
+    ensures own { editor.new.table ≡ lock.now }
+    ensures parts { editor.new.parts ≡ editor.old.parts }
+    ensures own_worker { worker.new.table ≡ lock.now }
+    ensures parts_of_worker { worker.new.parts ≡ worker.old.parts }
+{
+    edit_both(rt, alloc, lock, editor)?;
+    give_up(rt, lock, worker)?;
+    work_once(rt, alloc, lock, worker)
+}
+
 // What became of the answer, whether the look shows the receiver as current, and the version of the board that is closed.
 fn course<R: Threads + Wait + Sync>(rt: &R, alloc: Global) -> Option<(Landed, bool, u64)> {
     let (lock, mut editor) = MapLock::start(alloc).ok()?;
     let mut worker = lock.worker(rt, &mut editor);
-    edit_both(rt, alloc, &lock, &mut editor)?;
-    give_up(rt, &lock, &mut worker)?;
-    let landed = work_once(rt, alloc, &lock, &mut worker)?;
+    let landed = edit_and_work(rt, alloc, &lock, &mut editor, &mut worker);
     let mut looker = lock.looker(rt, &mut editor);
     let current = sees_one_current(rt, alloc, &lock, &mut looker);
     lock.join_worker(&mut editor, worker);
     lock.join_looker(&mut editor, looker);
-    let board = lock.close(editor);
-    Some((landed, current, board.version()))
+    let version = lock.close(editor).version();
+    Some((landed?, current, version))
 }
 
 #[test]

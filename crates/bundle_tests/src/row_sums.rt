@@ -3,7 +3,7 @@ ghost use Rattle.std.specs.Prelude.{◌≡◌, ◌<◌, IfSome, length};
 ghost use Rattle.path_cache.specs.Standing.{StandAsSources};
 
 use crate::scenes::take;
-use path_cache::{RowSums, Steps, WithSums, prepare, refresh_sums, renew};
+use path_cache::{Renewal, RowSums, Steps, WithSums, prepare, refresh_sums, renew};
 use path_calc::IndexedScene;
 use scene_book::{Edit, Scene};
 use scene_geom::Pt;
@@ -79,11 +79,12 @@ fn row_of<L: Ledger>(
     }
 }
 
-/// The row in a scene, of what was kept.
-fn refreshed_counted<L: Ledger>(
+/// The row in a scene, of what was kept. With a mark on the first of two bundles that one is calculated again.
+fn row_counted<L: Ledger>(
     alloc: Global,
     scene: &Scene,
     kept: &WithSums,
+    marked: bool,
     blank: Blank,
 ) -> Option<WithSums>
     requires name { blank.name ≡ L.name }
@@ -92,18 +93,25 @@ fn refreshed_counted<L: Ledger>(
 {
     let receiver = receiver(alloc)?;
     let mut steps = Steps::<L>::of(blank);
-    row_of(alloc, scene, &receiver, kept, &mut steps)
+    let row = row_of(alloc, scene, &receiver, kept, &mut steps)?;
+    if !marked {
+        return Some(row);
+    }
+    if row.bundles.len() != scene.sources().len() {
+        return None;
+    }
+    renewed(alloc, scene, &receiver, row, &mut steps)
 }
 
-/// The same, with steps that nobody counts.
-fn refreshed(alloc: Global, scene: &Scene, kept: &WithSums) -> Option<WithSums> {
-    refreshed_counted::<Brand>(alloc, scene, kept, Blank::new(1))
+/// The row, with steps that nobody counts.
+fn refreshed(alloc: Global, scene: &Scene, kept: &WithSums, marked: bool) -> Option<WithSums> {
+    row_counted::<Brand>(alloc, scene, kept, marked, Blank::new(1))
 }
 
 /// The row of a receiver in the scene of some sources.
 fn next(alloc: Global, s: bool, t: bool, kept: &WithSums) -> Option<WithSums> {
     let scene = scene(alloc, s, t)?;
-    refreshed(alloc, &scene, kept)
+    refreshed(alloc, &scene, kept, false)
 }
 
 fn total(row: &WithSums) -> Ends {
@@ -162,43 +170,17 @@ fn renewed<L: Ledger>(
     let WithSums { bundles, sums } = row;
     let kept = bundles.as_slice();
     let marks = &[true, false];
-    match renew(
-        alloc, &plain, &prepared, receiver, kept, marks, &sums, true, steps,
-    ) {
+    let renewal = Renewal::of(&plain, &prepared, receiver, kept, marks);
+    match renew(alloc, &renewal, &sums, true, steps) {
         Ok(renewed) => Some(renewed.with_kept(bundles)),
         Err(_) => None,
     }
 }
 
-/// A row in a scene of two sources, of a bundle that was kept from before the first moved: it stands until it is marked.
-fn marked_counted<L: Ledger>(
-    alloc: Global,
-    scene: &Scene,
-    kept: &WithSums,
-    blank: Blank,
-) -> Option<WithSums>
-    requires name { blank.name ≡ L.name }
-    requires parts { blank.parts ≡ L.parts }
-    requires some { 0 < blank.parts }
-{
-    let receiver = receiver(alloc)?;
-    let mut steps = Steps::<L>::of(blank);
-    let row = row_of(alloc, scene, &receiver, kept, &mut steps)?;
-    if row.bundles.len() != scene.sources().len() {
-        return None;
-    }
-    renewed(alloc, scene, &receiver, row, &mut steps)
-}
-
-/// The same, with steps that nobody counts.
-fn marked(alloc: Global, scene: &Scene, kept: &WithSums) -> Option<WithSums> {
-    marked_counted::<Brand>(alloc, scene, kept, Blank::new(1))
-}
-
-/// The total with both, after `s` moved to its place.
+/// The total with both, after `s` moved to its place: the bundle that was kept of it stands until it is marked.
 fn total_after_move(alloc: Global) -> Option<Ends> {
-    let old = refreshed(alloc, &before(alloc)?, &nothing(alloc))?;
-    let row = marked(alloc, &scene(alloc, true, true)?, &old)?;
+    let old = refreshed(alloc, &before(alloc)?, &nothing(alloc), false)?;
+    let row = refreshed(alloc, &scene(alloc, true, true)?, &old, true)?;
     Some(total(&row))
 }
 

@@ -7,7 +7,8 @@ use Rattle.map_board.specs.declared.jobs.Calculation.{Calculation}
 use Rattle.map_board.specs.Views.{Job}
 use Rattle.map_board.specs.Held.{no_marks}
 
--- with the job's kept bundles it gives them refreshed, there is a mark of each, and it may know that they are of each source
+-- with the job's kept bundles it gives them refreshed, there is a mark of each, and it may know that they are of each
+-- source
 pub record IsCalculated (job : Job) (made : Calculation) : Type 0 where
   pub gives : Gives made.renewed job.kept (refreshed job.scene job.receiver job.kept job.marks)
   pub plain : made.marks.items ≡ no_marks (refreshed job.scene job.receiver job.kept job.marks)

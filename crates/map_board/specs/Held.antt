@@ -25,8 +25,8 @@ pub record IsJob (place : ℕ) (job : Job) : Type 0 where
   pub within : AreWithin job.scene job.receiver job.kept job.marks
   pub due : job.due ≡ count_wanted job.scene job.receiver job.kept job.marks
 
--- what a job has of a scene is its own but for the receivers, its sums are those of its kept bundles, and it may know that
--- these are of each source of its scene, in their order
+-- what a job has of a scene is its own but for the receivers, its sums are those of its kept bundles, and it may know
+-- that these are of each source of its scene, in their order
 pub record IsAtHand (shared : Option PreparedScene) (sums : RowSums) (stand : Bool) (job : Job) : Type 0 where
   pub hold : IfSome shared (λ prepared. prepared.scene ≡ record job.scene { receivers = [] })
   pub fit : Fits sums job.kept
@@ -46,8 +46,8 @@ pub record IsJobOf (version place : ℕ) (scene : Book) (kept : List Bundle) (ma
 abbrev pub no_marks : List Bundle → List Bool
 no_marks bundles = map (λ bundle. false) bundles
 
--- an answer keeps: there is a mark of each bundle and none is set, there are few bundles, the levels and the sums are theirs,
--- and it may know that they are of each source of its scene, in their order
+-- an answer keeps: there is a mark of each bundle and none is set, there are few bundles, the levels and the sums are
+-- theirs, and it may know that they are of each source of its scene, in their order
 pub record IsAnswer (marks : List Bool) (sums : RowSums) (stand : Bool) (answer : Answer) : Type 0 where
   pub plain : marks ≡ no_marks answer.bundles
   pub few : length answer.bundles ≤ 128

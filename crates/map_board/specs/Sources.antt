@@ -12,7 +12,8 @@ abbrev pub LeavesSources : Edit → Book → Type 0
 LeavesSources edit book =
     (after : Book) (old : Option Part) → apply_of edit book ≡ Ok (after, old) → after.sources ≡ book.sources
 
--- an edit with its old part leaves the names of the sources as they are, and their order, in every scene that accepts it
+-- an edit with its old part leaves the names of the sources as they are, and their order, in every scene that accepts
+-- it
 abbrev pub LeavesSourceNames : Edit → Option Part → Type 0
 LeavesSourceNames edit old =
     (book after : Book) → apply_of edit book ≡ Ok (after, old)

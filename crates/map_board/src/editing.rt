@@ -56,15 +56,8 @@ impl Board {
         requires { T.ready test.now }
         ensures { EditsTo self.old edit result self.new }
     {
-        let applied = apply_with_room(
-            alloc,
-            self.version,
-            &mut self.log,
-            &mut self.namings,
-            &mut self.rows,
-            &mut self.hold,
-            &edit,
-        )?;
+        make_room(&mut self.log, &mut self.namings, &mut self.rows, &edit)?;
+        let applied = apply(alloc, self.version, &mut self.hold, &edit)?;
         let Applied {
             old,
             grid,
@@ -110,26 +103,15 @@ struct Applied {
     globals: Globals,
 }
 
-/// Takes all memory that an edit of a board of this version needs, and applies it to the scene. A fault leaves the scene as it
-/// was; without a number for the next version there is no memory.
-fn apply_with_room(
+/// Applies an edit to the scene of a board of this version, and takes what its part needs. A fault leaves the scene as it was;
+/// without a number for the next version there is no memory.
+fn apply(
     alloc: Global,
     version: u64,
-    log: &mut Log,
-    namings: &mut Vec<Naming>,
-    rows: &mut HeldRows,
     hold: &mut PreparedScene,
     edit: &Edit,
 ) -> Result<Applied, EditFault>
     ensures fits { OnOk result (suc version < 2 ^ 64) }
-    ensures start { log.new.start ≡ log.old.start }
-    ensures entries { log.new.entries.items ≡ log.old.entries.items }
-    ensures entry { OnOk result (vec_len log.new.entries < vec_capacity log.new.entries) }
-    ensures names { namings.new.items ≡ namings.old.items }
-    ensures naming { OnOk result (vec_len namings.new < vec_capacity namings.new) }
-    ensures same { rows.new.items ≡ rows.old.items }
-    ensures room { OnOk result
-        (vec_len rows.new + most_more edit.now (length rows.old.items) ≤ vec_capacity rows.new) }
     ensures made { IfOk result (λ applied. apply_of edit.now hold.old.scene
         ≡ Ok (hold.new.scene, applied.old)) }
     ensures grid { IfOk result (λ applied. applied.grid ≡ grid_put edit.now) }
@@ -141,7 +123,6 @@ fn apply_with_room(
     ensures unchanged { OnErr result (hold.new.scene ≡ hold.old.scene) }
 {
     let grid = grid_to_put(version, edit)?;
-    make_room(log, namings, rows, edit)?;
     let place = place_to_go(edit, &hold.scene);
     let globals = *hold.scene.globals();
     let old = edit_scene(hold, alloc, edit)?;

@@ -12,7 +12,7 @@ ghost use Rattle.map_board.specs.Jobs.{Answers};
 use crate::receiver_copies::ReceiverCopy;
 use crate::rows::Cache;
 use crate::scenes::PreparedScene;
-use path_cache::{Bundle, Renewed, Replaced, RowSums, Steps, WithSums, renew};
+use path_cache::{Bundle, Renewal, Renewed, Replaced, RowSums, Steps, WithSums, renew};
 use path_calc::Levels;
 use scene_book::Scene;
 use scene_geom::Pt;
@@ -166,17 +166,9 @@ impl Job {
             return Err(NoMemory);
         };
         let receiver = self.receiver.to_receiver(alloc)?;
-        let renewed = renew(
-            alloc,
-            &hold.indexed(),
-            &hold.prepared,
-            &receiver,
-            &self.kept,
-            &self.marks,
-            &self.sums,
-            self.stands_within(hold),
-            steps,
-        )?;
+        let scene = hold.indexed();
+        let renewal = Renewal::of(&scene, &hold.prepared, &receiver, &self.kept, &self.marks);
+        let renewed = renew(alloc, &renewal, &self.sums, self.stands_within(hold), steps)?;
         let marks = vec![in alloc; false; renewed.len()]?;
         let stand = renewed.len() == hold.scene.sources().len();
         Ok(Calculation {

@@ -167,6 +167,7 @@ fn renew_each<T: PathTest>(
             alloc,
             news,
             rows.as_slice(),
+            count,
             &change.logged,
             &change.globals,
         )
@@ -360,9 +361,11 @@ fn mark_row(
         ≡ tests_to change.now.logged receiver.now (counted counts cache.old)) }
     ensures bundles { cache.new.bundles ≡ cache.old.bundles }
     ensures order { cache.new.order ≡ cache.old.order }
-    ensures marks { cache.new.marks.items ≡ marks_after change.now.logged.edit change.now.logged.old receiver.now
+    ensures marks { cache.new.marks.items
+        ≡ marks_after change.now.logged.edit change.now.logged.old receiver.now
         cache.old.bundles.items cache.old.marks.items }
-    ensures one { counts ≡ false → result ≡ touches_one change.now.logged.edit change.now.logged.old receiver.now
+    ensures one { counts ≡ false → result
+        ≡ touches_one change.now.logged.edit change.now.logged.old receiver.now
         cache.old.bundles.items }
 {
     match place_touched(cache.bundles.as_slice(), change) {

@@ -32,11 +32,13 @@ pub(crate) trait PathTest {
 
     /// Of each path of the rows, in their order, to the receiver at its row's place: whether the edit touches it, or it has a
     /// mark that counts. Or nothing, where each row is to be tested when it is marked. The globals are those before the edit.
+    /// No row from the place `filled` on keeps a path: it only tells how far to count them, so no contract says it.
     fn tests(
         &self,
         alloc: Global,
         receivers: &[Receiver],
         rows: &[HeldRow],
+        filled: usize,
         logged: &Logged,
         globals: &Globals,
     ) -> Option<Vec<bool>>
@@ -57,6 +59,7 @@ impl PathTest for InOneThread {
         _alloc: Global,
         _receivers: &[Receiver],
         _rows: &[HeldRow],
+        _filled: usize,
         _logged: &Logged,
         _globals: &Globals,
     ) -> Option<Vec<bool>> {
@@ -79,6 +82,7 @@ impl<'a, R: Threads + Sync> PathTest for InThreads<'a, R> {
         alloc: Global,
         receivers: &[Receiver],
         rows: &[HeldRow],
+        filled: usize,
         logged: &Logged,
         globals: &Globals,
     ) -> Option<Vec<bool>> {
@@ -86,7 +90,7 @@ impl<'a, R: Threads + Sync> PathTest for InThreads<'a, R> {
             // its bundles are found by name, without a list of all paths
             return None;
         }
-        let count = count_for_threads(receivers, rows, logged)?;
+        let count = count_for_threads(receivers, &rows[..filled.min(rows.len())], logged)?;
         let paths = kept_paths(alloc, count, receivers, rows).ok()?;
         test_each(self.rt, alloc, paths.as_slice(), logged, globals).ok()
     }

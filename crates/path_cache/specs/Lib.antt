@@ -1,4 +1,5 @@
 pub mod Refreshed
+pub mod OneProof
 pub mod OfOneSource
 pub mod Sums
 pub mod TakingOff

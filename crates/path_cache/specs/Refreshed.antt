@@ -54,7 +54,8 @@ abbrev pub with_receivers : List Receiver → Book → Book
 with_receivers others book = record book { receivers = others }
 
 -- with other receivers in the scene, a receiver has the same sources and bundles, and a refresh does the same
-pub record AreAsWith (others : List Receiver) (book : Book) (r : Receiver) (kept : List Bundle) (marks : List Bool) : Type 0 where
+pub record AreAsWith (others : List Receiver) (book : Book) (r : Receiver) (kept : List Bundle)
+    (marks : List Bool) : Type 0 where
   pub sources : sources_within (with_receivers others book) r ≡ sources_within book r
   pub bundles : bundles_of (with_receivers others book) r ≡ bundles_of book r
   pub refreshed : refreshed (with_receivers others book) r kept marks ≡ refreshed book r kept marks

@@ -15,7 +15,7 @@ mod sums;
 pub use frames::Frame;
 pub use path_calc::{Bundle, NoMemory, PreparedSource, Steps};
 pub use preparing::prepare;
-pub use refreshing::refresh;
+pub use refreshing::{Renewal, refresh};
 pub use renewing::{Renewed, WithSums, refresh_sums, renew};
 pub use replacing::Replaced;
 pub use sums::RowSums;

@@ -4,6 +4,7 @@ ghost use Rattle.std.specs.Prelude.{◌≡◌, ◌≤◌, ◌+◌, [], ◌∷◌
 ghost use Rattle.path_calc.specs.Bundles.{bundle_of};
 ghost use Rattle.path_calc.specs.Prepared.{prepared_of};
 ghost use Rattle.path_cache.specs.Refreshed.{CanRefresh, refreshed, refreshed_bundle, is_wanted, count_wanted};
+ghost use Rattle.path_cache.specs.OneProof.{CanRefresh-prop};
 ghost use Rattle.path_cache.specs.Origins.{Ascend, IsBetween, bundle_from, bundles_from};
 ghost use Rattle.path_cache.specs.OfOneSource.{refreshed_of_one, steps_of_one, needs_path};
 
@@ -42,11 +43,13 @@ pub fn refresh<L: Ledger>(
     let prepared = prepare(alloc, scene)?;
     if !needs_a_path(scene, receiver, kept, marks) {
         let scene = IndexedScene::plain(scene);
-        return refresh_prepared(alloc, &scene, &prepared, receiver, kept, marks, steps);
+        let renewal = Renewal::of(&scene, &prepared, receiver, kept, marks);
+        return refresh_prepared(alloc, &renewal, steps);
     }
     let grid = grid_of(alloc, scene.obstacles())?;
     let scene = IndexedScene::by(scene, &grid);
-    refresh_prepared(alloc, &scene, &prepared, receiver, kept, marks, steps)
+    let renewal = Renewal::of(&scene, &prepared, receiver, kept, marks);
+    refresh_prepared(alloc, &renewal, steps)
 }
 
 /// Whether the bundle of a source within reach is marked or missing.
@@ -82,68 +85,56 @@ fn needs_path_of(
         && search_unmarked(kept, marks, &source.name).is_none()
 }
 
-/// The same, of a scene that may have an index of its obstacles, and whose sources are prepared: once, and not for each
-/// receiver.
+/// The same, of a scene that may have an index of its obstacles, and whose sources are prepared.
 fn refresh_prepared<L: Ledger>(
     alloc: Global,
-    scene: &IndexedScene<'_>,
-    prepared: &[PreparedSource],
-    receiver: &Receiver,
-    kept: &[Bundle],
-    marks: &[bool],
+    renewal: &Renewal<'_>,
     steps: &mut Steps<L>,
 ) -> Result<Vec<Bundle>, NoMemory>
-    requires prepared { prepared.now ≡ map prepared_of scene.now.sources }
-    requires kept { CanRefresh kept.now marks.now }
     ensures value { IfOk result (λ bundles. bundles.items
-        ≡ refreshed scene.now receiver.now kept.now marks.now) }
+        ≡ refreshed renewal.now.scene.now renewal.now.receiver.now
+        renewal.now.kept.now renewal.now.marks.now) }
     ensures few { IfOk result (λ bundles. length bundles.items ≤ 128) }
     ensures steps { OnOk result (steps.new
-        ≡ steps.old + count_wanted scene.now receiver.now kept.now marks.now) }
-    ensures most { steps.new ≤ steps.old + count_wanted scene.now receiver.now kept.now marks.now }
+        ≡ steps.old + count_wanted renewal.now.scene.now renewal.now.receiver.now
+        renewal.now.kept.now renewal.now.marks.now) }
+    ensures most { steps.new
+        ≤ steps.old + count_wanted renewal.now.scene.now renewal.now.receiver.now
+        renewal.now.kept.now renewal.now.marks.now }
 {
-    let origins = origins_of(alloc, scene, prepared, receiver, kept, marks, steps)?;
-    Ok(copied(alloc, kept, origins)?)
+    let origins = origins_of(alloc, renewal, steps)?;
+    Ok(copied(alloc, renewal.kept, origins)?)
 }
 
 /// Where each bundle of a refreshed receiver comes from: for each source within reach, in the order of sources, the
 /// unmarked kept bundle of that source, where there is one, and else the scene's, which is calculated.
 pub(crate) fn origins_of<L: Ledger>(
     alloc: Global,
-    scene: &IndexedScene<'_>,
-    prepared: &[PreparedSource],
-    receiver: &Receiver,
-    kept: &[Bundle],
-    marks: &[bool],
+    renewal: &Renewal<'_>,
     steps: &mut Steps<L>,
 ) -> Result<Vec<Origin>, NoMemory>
-    requires prepared { prepared.now ≡ map prepared_of scene.now.sources }
-    requires kept { CanRefresh kept.now marks.now }
-    ensures value { IfOk result (λ origins. bundles_from kept.now origins.items
-        ≡ refreshed scene.now receiver.now kept.now marks.now) }
-    ensures ascend { IfOk result (λ origins. Ascend 0 origins.items (length kept.now)) }
+    ensures value { IfOk result (λ origins. bundles_from renewal.now.kept.now origins.items
+        ≡ refreshed renewal.now.scene.now renewal.now.receiver.now
+        renewal.now.kept.now renewal.now.marks.now) }
+    ensures ascend { IfOk result (λ origins. Ascend 0 origins.items (length renewal.now.kept.now)) }
     ensures few { IfOk result (λ origins. length origins.items ≤ 128) }
     ensures steps { OnOk result (steps.new
-        ≡ steps.old + count_wanted scene.now receiver.now kept.now marks.now) }
-    ensures most { steps.new ≤ steps.old + count_wanted scene.now receiver.now kept.now marks.now }
+        ≡ steps.old + count_wanted renewal.now.scene.now renewal.now.receiver.now
+        renewal.now.kept.now renewal.now.marks.now) }
+    ensures most { steps.new
+        ≤ steps.old + count_wanted renewal.now.scene.now renewal.now.receiver.now
+        renewal.now.kept.now renewal.now.marks.now }
 {
-    let renewal = Renewal {
-        scene,
-        receiver,
-        to: PreparedReceiver::of(receiver),
-        kept,
-        marks,
-    };
     let mut found = Found::new(alloc);
     let mut origins = Origins {
-        list: Vec::with_capacity(alloc, kept.len())?,
+        list: Vec::with_capacity(alloc, renewal.kept.len())?,
         next: 0,
     };
-    for (place, source) in scene.sources().iter().enumerate() {
+    for (place, source) in renewal.scene.sources().iter().enumerate() {
         renewal.add(
             alloc,
             source,
-            &prepared[place],
+            &renewal.prepared[place],
             &mut found,
             steps,
             &mut origins,
@@ -152,18 +143,47 @@ pub(crate) fn origins_of<L: Ledger>(
     Ok(origins.list)
 }
 
-/// A receiver in a scene, and what was kept for it.
+/// A receiver in a scene, and what was kept for it: a bundle of each source at most, of which some are marked.
 #[derive(Drop)]
-pub(crate) struct Renewal<'a> {
-    pub scene: &'a IndexedScene<'a>,
-    pub receiver: &'a Receiver,
-    pub to: PreparedReceiver,
-    pub kept: &'a [Bundle],
-    pub marks: &'a [bool],
-    pub ghost ready: { to ≡ receiver.now.h },
+pub struct Renewal<'a> {
+    pub(crate) scene: &'a IndexedScene<'a>,
+    pub(crate) prepared: &'a [PreparedSource],
+    pub(crate) receiver: &'a Receiver,
+    pub(crate) to: PreparedReceiver,
+    pub(crate) kept: &'a [Bundle],
+    pub(crate) marks: &'a [bool],
+    pub(crate) ghost of_sources: { prepared.now ≡ map prepared_of scene.now.sources },
+    pub(crate) ghost ready: { to ≡ receiver.now.h },
+    pub(crate) ghost keeps: { CanRefresh kept.now marks.now } by { CanRefresh-prop kept.now marks.now },
 }
 
 impl<'a> Renewal<'a> {
+    /// What was kept for a receiver in a scene that may have an index of its obstacles, and whose sources are prepared:
+    /// once, and not for each receiver.
+    pub fn of(
+        scene: &'a IndexedScene<'a>,
+        prepared: &'a [PreparedSource],
+        receiver: &'a Receiver,
+        kept: &'a [Bundle],
+        marks: &'a [bool],
+    ) -> Renewal<'a>
+        requires prepared { prepared.now ≡ map prepared_of scene.now.sources }
+        requires kept { CanRefresh kept.now marks.now }
+        ensures scene { result.scene.now ≡ scene.now }
+        ensures receiver { result.receiver.now ≡ receiver.now }
+        ensures kept { result.kept.now ≡ kept.now }
+        ensures marks { result.marks.now ≡ marks.now }
+    {
+        Renewal {
+            scene,
+            prepared,
+            receiver,
+            to: PreparedReceiver::of(receiver),
+            kept,
+            marks,
+        }
+    }
+
     /// Adds the origin of a source's bundle, if the source is within reach.
     fn add<L: Ledger>(
         &self,
@@ -174,8 +194,7 @@ impl<'a> Renewal<'a> {
         steps: &mut Steps<L>,
         origins: &mut Origins,
     ) -> Result<(), NoMemory>
-        requires kept { CanRefresh self.now.kept.now self.now.marks.now }
-        requires prepared { from.now ≡ prepared_of source.now }
+        requires { from.now ≡ prepared_of source.now }
         ensures bundles { OnOk result (bundles_from self.now.kept.now origins.new.list.items
             ≡ bundles_from self.now.kept.now origins.old.list.items
             ++ refreshed_of_one self.now.scene.now self.now.receiver.now
@@ -210,8 +229,7 @@ impl<'a> Renewal<'a> {
         found: &mut Found,
         steps: &mut Steps<L>,
     ) -> Result<Origin, NoMemory>
-        requires kept { CanRefresh self.now.kept.now self.now.marks.now }
-        requires prepared { from.now ≡ prepared_of source.now }
+        requires { from.now ≡ prepared_of source.now }
         ensures bundle { IfOk result (λ origin. bundle_from self.now.kept.now origin
             ≡ refreshed_bundle self.now.scene.now self.now.receiver.now self.now.kept.now
             self.now.marks.now source.now ∷ []) }

@@ -1,9 +1,8 @@
 //! Refreshes of rows that keep the sums of their bundles' energies.
 ghost use Rattle.std.specs.Bool.{OnTrue};
 ghost use Rattle.std.specs.Vec.Iter.{into_iter_items, into_iter_len};
-ghost use Rattle.std.specs.Prelude.{◌≡◌, ◌≤◌, ◌<◌, ◌+◌, ◌∷◌, true, List, [], IfOk, IfSome, OnOk, is_some, length, map, drop, vec_capacity};
+ghost use Rattle.std.specs.Prelude.{◌≡◌, ◌≤◌, ◌<◌, ◌+◌, ◌∷◌, true, List, [], IfOk, IfSome, OnOk, is_some, length, drop, vec_capacity};
 ghost use Rattle.path_calc.specs.Bundles.{Bundle as BundleSeen};
-ghost use Rattle.path_calc.specs.Prepared.{prepared_of};
 ghost use Rattle.path_cache.specs.Refreshed.{CanRefresh, refreshed, count_wanted};
 ghost use Rattle.path_cache.specs.Sums.{Fits};
 ghost use Rattle.path_cache.specs.Origins.{Ascend, StandInPlace, StandsAt, bundles_from, placed_at};
@@ -12,10 +11,10 @@ ghost use Rattle.path_cache.specs.Renewals.{Gives, Leads, with_each, is_in_place
 
 use crate::origins::{Origin, copied, sums_after};
 use crate::preparing::prepare;
-use crate::refreshing::{needs_a_path, origins_of};
+use crate::refreshing::{Renewal, needs_a_path, origins_of};
 use crate::replacing::{Replaced, put_each, replace_marked};
 use crate::sums::RowSums;
-use path_calc::{Bundle, IndexedScene, PreparedSource, Steps};
+use path_calc::{Bundle, IndexedScene, Steps};
 use scene_book::Scene;
 use scene_parts::{NoMemory, Receiver};
 use sight_cut::grid_of;
@@ -71,39 +70,38 @@ pub fn refresh_sums<L: Ledger>(
     let prepared = prepare(alloc, scene)?;
     if !needs_a_path(scene, receiver, kept, marks) {
         let scene = IndexedScene::plain(scene);
-        return refresh_sums_prepared(alloc, &scene, &prepared, receiver, kept, marks, sums, steps);
+        let renewal = Renewal::of(&scene, &prepared, receiver, kept, marks);
+        return refresh_sums_prepared(alloc, &renewal, sums, steps);
     }
     let grid = grid_of(alloc, scene.obstacles())?;
     let scene = IndexedScene::by(scene, &grid);
-    refresh_sums_prepared(alloc, &scene, &prepared, receiver, kept, marks, sums, steps)
+    let renewal = Renewal::of(&scene, &prepared, receiver, kept, marks);
+    refresh_sums_prepared(alloc, &renewal, sums, steps)
 }
 
-/// The same, of a scene that may have an index of its obstacles, and whose sources are prepared: once, and not for each
-/// receiver.
+/// The same, of a scene that may have an index of its obstacles, and whose sources are prepared.
 fn refresh_sums_prepared<L: Ledger>(
     alloc: Global,
-    scene: &IndexedScene<'_>,
-    prepared: &[PreparedSource],
-    receiver: &Receiver,
-    kept: &[Bundle],
-    marks: &[bool],
+    renewal: &Renewal<'_>,
     sums: &RowSums,
     steps: &mut Steps<L>,
 ) -> Result<WithSums, NoMemory>
-    requires prepared { prepared.now ≡ map prepared_of scene.now.sources }
-    requires kept { CanRefresh kept.now marks.now }
-    requires fit { Fits sums.now kept.now }
+    requires { Fits sums.now renewal.now.kept.now }
     ensures value { IfOk result (λ row. row.bundles.items
-        ≡ refreshed scene.now receiver.now kept.now marks.now) }
+        ≡ refreshed renewal.now.scene.now renewal.now.receiver.now
+        renewal.now.kept.now renewal.now.marks.now) }
     ensures fit { IfOk result (λ row. Fits row.sums row.bundles.items) }
     ensures few { IfOk result (λ row. length row.bundles.items ≤ 128) }
     ensures steps { OnOk result (steps.new
-        ≡ steps.old + count_wanted scene.now receiver.now kept.now marks.now) }
-    ensures most { steps.new ≤ steps.old + count_wanted scene.now receiver.now kept.now marks.now }
+        ≡ steps.old + count_wanted renewal.now.scene.now renewal.now.receiver.now
+        renewal.now.kept.now renewal.now.marks.now) }
+    ensures most { steps.new
+        ≤ steps.old + count_wanted renewal.now.scene.now renewal.now.receiver.now
+        renewal.now.kept.now renewal.now.marks.now }
 {
-    let origins = origins_of(alloc, scene, prepared, receiver, kept, marks, steps)?;
-    let sums = sums_after(kept, origins.as_slice(), sums);
-    let bundles = copied(alloc, kept, origins)?;
+    let origins = origins_of(alloc, renewal, steps)?;
+    let sums = sums_after(renewal.kept, origins.as_slice(), sums);
+    let bundles = copied(alloc, renewal.kept, origins)?;
     Ok(WithSums { bundles, sums })
 }
 
@@ -112,37 +110,37 @@ fn refresh_sums_prepared<L: Ledger>(
 /// scene do, all within reach, only the marked ones are looked at.
 pub fn renew<L: Ledger>(
     alloc: Global,
-    scene: &IndexedScene<'_>,
-    prepared: &[PreparedSource],
-    receiver: &Receiver,
-    kept: &[Bundle],
-    marks: &[bool],
+    renewal: &Renewal<'_>,
     sums: &RowSums,
     stand: bool,
     steps: &mut Steps<L>,
 ) -> Result<Renewed, NoMemory>
-    requires prepared { prepared.now ≡ map prepared_of scene.now.sources }
-    requires kept { CanRefresh kept.now marks.now }
-    requires fit { Fits sums.now kept.now }
-    requires stand { stand ≡ true → StandAsSources scene.now receiver.now kept.now }
-    ensures value { IfOk result (λ renewed. Gives renewed kept.now
-        (refreshed scene.now receiver.now kept.now marks.now)) }
+    requires fit { Fits sums.now renewal.now.kept.now }
+    requires stand { stand ≡ true
+        → StandAsSources renewal.now.scene.now renewal.now.receiver.now renewal.now.kept.now }
+    ensures value { IfOk result (λ renewed. Gives renewed renewal.now.kept.now
+        (refreshed renewal.now.scene.now renewal.now.receiver.now
+        renewal.now.kept.now renewal.now.marks.now)) }
     ensures in_place { IfOk result (λ renewed. is_in_place renewed ≡ stand) }
     ensures few { IfOk result (λ renewed.
-        length (refreshed scene.now receiver.now kept.now marks.now) ≤ 128) }
+        length (refreshed renewal.now.scene.now renewal.now.receiver.now
+        renewal.now.kept.now renewal.now.marks.now) ≤ 128) }
     ensures steps { OnOk result (steps.new
-        ≡ steps.old + count_wanted scene.now receiver.now kept.now marks.now) }
-    ensures most { steps.new ≤ steps.old + count_wanted scene.now receiver.now kept.now marks.now }
+        ≡ steps.old + count_wanted renewal.now.scene.now renewal.now.receiver.now
+        renewal.now.kept.now renewal.now.marks.now) }
+    ensures most { steps.new
+        ≤ steps.old + count_wanted renewal.now.scene.now renewal.now.receiver.now
+        renewal.now.kept.now renewal.now.marks.now }
 {
     if stand {
-        let row = replace_marked(alloc, scene, prepared, receiver, kept, marks, sums, steps)?;
+        let row = replace_marked(alloc, renewal, sums, steps)?;
         return Ok(Renewed {
-            way: Way::InPlace(row.news, kept.len()),
+            way: Way::InPlace(row.news, renewal.kept.len()),
             sums: row.sums,
         });
     }
-    let origins = origins_of(alloc, scene, prepared, receiver, kept, marks, steps)?;
-    let sums = sums_after(kept, origins.as_slice(), sums);
+    let origins = origins_of(alloc, renewal, steps)?;
+    let sums = sums_after(renewal.kept, origins.as_slice(), sums);
     let room = Vec::with_capacity(alloc, origins.len())?;
     Ok(Renewed {
         way: Way::Anew(origins, room),

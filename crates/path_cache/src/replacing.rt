@@ -1,16 +1,15 @@
 //! Refreshes of rows whose kept bundles stand as the sources of the scene do: new bundles take the places of those that
 //! are marked, and of the others nothing but the mark is looked at.
-ghost use Rattle.std.specs.Prelude.{◌≡◌, ◌≤◌, ◌<◌, ◌+◌, IfOk, OnOk, All, length, map, slice_get, slice_set};
-ghost use Rattle.path_calc.specs.Prepared.{prepared_of};
-ghost use Rattle.path_cache.specs.Refreshed.{CanRefresh, refreshed, count_wanted};
+ghost use Rattle.std.specs.Prelude.{◌≡◌, ◌≤◌, ◌<◌, ◌+◌, IfOk, OnOk, All, length, slice_get, slice_set};
+ghost use Rattle.path_cache.specs.Refreshed.{refreshed, count_wanted};
 ghost use Rattle.path_cache.specs.Standing.{StandAsSources};
 ghost use Rattle.path_cache.specs.Sums.{Fits};
 ghost use Rattle.path_cache.specs.Renewals.{with_each};
 
 use crate::refreshing::Renewal;
 use crate::sums::RowSums;
-use path_calc::{Bundle, Found, IndexedScene, PreparedReceiver, PreparedSource, Steps};
-use scene_parts::{NoMemory, Receiver};
+use path_calc::{Bundle, Found, Steps};
+use scene_parts::NoMemory;
 use std::alloc::Global;
 use std::sync::ledger::Ledger;
 
@@ -53,44 +52,39 @@ impl Replacing {
 /// are marked. One step is counted for each.
 pub(crate) fn replace_marked<L: Ledger>(
     alloc: Global,
-    scene: &IndexedScene<'_>,
-    prepared: &[PreparedSource],
-    receiver: &Receiver,
-    kept: &[Bundle],
-    marks: &[bool],
+    renewal: &Renewal<'_>,
     sums: &RowSums,
     steps: &mut Steps<L>,
 ) -> Result<Replacing, NoMemory>
-    requires prepared { prepared.now ≡ map prepared_of scene.now.sources }
-    requires kept { CanRefresh kept.now marks.now }
-    requires fit { Fits sums.now kept.now }
-    requires stand { StandAsSources scene.now receiver.now kept.now }
-    ensures value { IfOk result (λ row. with_each row.news.items kept.now
-        ≡ refreshed scene.now receiver.now kept.now marks.now) }
-    ensures places { IfOk result (λ row. All (λ new. new.place < length kept.now) row.news.items) }
-    ensures fit { IfOk result (λ row. Fits row.sums (with_each row.news.items kept.now)) }
+    requires fit { Fits sums.now renewal.now.kept.now }
+    requires stand { StandAsSources renewal.now.scene.now renewal.now.receiver.now
+        renewal.now.kept.now }
+    ensures value { IfOk result (λ row. with_each row.news.items renewal.now.kept.now
+        ≡ refreshed renewal.now.scene.now renewal.now.receiver.now
+        renewal.now.kept.now renewal.now.marks.now) }
+    ensures places { IfOk result (λ row.
+        All (λ new. new.place < length renewal.now.kept.now) row.news.items) }
+    ensures fit { IfOk result (λ row.
+        Fits row.sums (with_each row.news.items renewal.now.kept.now)) }
     ensures steps { OnOk result (steps.new
-        ≡ steps.old + count_wanted scene.now receiver.now kept.now marks.now) }
-    ensures most { steps.new ≤ steps.old + count_wanted scene.now receiver.now kept.now marks.now }
+        ≡ steps.old + count_wanted renewal.now.scene.now renewal.now.receiver.now
+        renewal.now.kept.now renewal.now.marks.now) }
+    ensures most { steps.new
+        ≤ steps.old + count_wanted renewal.now.scene.now renewal.now.receiver.now
+        renewal.now.kept.now renewal.now.marks.now }
 {
-    let renewal = Renewal {
-        scene,
-        receiver,
-        to: PreparedReceiver::of(receiver),
-        kept,
-        marks,
-    };
-    let sources = scene.sources();
+    let sources = renewal.scene.sources();
     let mut found = Found::new(alloc);
     let mut row = Replacing {
         news: Vec::new(alloc),
         sums: *sums,
     };
-    for (place, marked) in marks.iter().enumerate() {
+    for (place, marked) in renewal.marks.iter().enumerate() {
         if *marked {
             let source = &sources[place];
-            let bundle = renewal.calculated(alloc, source, &prepared[place], &mut found, steps)?;
-            row.put(kept, place, bundle)?;
+            let from = &renewal.prepared[place];
+            let bundle = renewal.calculated(alloc, source, from, &mut found, steps)?;
+            row.put(renewal.kept, place, bundle)?;
         }
     }
     Ok(row)

@@ -1,5 +1,5 @@
 -- The ledger of the steps.
 use Rattle.bundle_tests.proofs.row_sums.refreshed.Given as goal
 
-abbrev pub ghosts-refreshed_counted : goal.ghosts-refreshed_counted
-ghosts-refreshed_counted a = record { name = a.blank.name; parts = a.blank.parts }
+abbrev pub ghosts-row_counted : goal.ghosts-row_counted
+ghosts-row_counted a = record { name = a.blank.name; parts = a.blank.parts }

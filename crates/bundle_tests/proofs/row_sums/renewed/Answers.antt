@@ -4,8 +4,8 @@ use Rattle.path_calc.specs.Bundles.{Bundle}
 use Rattle.path_cache.proofs.Standing.{as-many, apart-as-sources}
 use Rattle.bundle_tests.proofs.row_sums.renewed.Goals as goal
 
-pub renew-requires-clause-kept : goal.renew-requires-clause-kept
-renew-requires-clause-kept g c =
+pub of-renewal-requires-clause-kept : goal.of-renewal-requires-clause-kept
+of-renewal-requires-clause-kept g c =
     let book = c.args.scene.now in
     let kept = c.args.row.bundles.items in
     let many = as-many book c.args.receiver.now kept c.requires in

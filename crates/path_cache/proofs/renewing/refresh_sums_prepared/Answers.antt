@@ -4,4 +4,4 @@ use Rattle.path_cache.proofs.renewing.refresh_sums_prepared.Goals as goal
 
 pub returns-clause-few : goal.returns-clause-few
 returns-clause-few g c =
-    omega (arith, ap length c.in_ok-bundles.ensures, few-from c.args.kept.now c.in_ok-origins.origins.items, c.in_ok-origins.ensures.few)
+    omega (arith, ap length c.in_ok-bundles.ensures, few-from c.args.renewal.now.kept.now c.in_ok-origins.origins.items, c.in_ok-origins.ensures.few)

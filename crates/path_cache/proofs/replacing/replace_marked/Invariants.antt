@@ -9,8 +9,9 @@ use Rattle.path_cache.proofs.replacing.replace_marked.Given as goal
 
 abbrev pub invariant-loop-place : goal.invariant-loop-place
 invariant-loop-place g l = record {
-  row : with_each l.row.news.items l.kept ≡ take l.place (refreshed l.fn.scene l.receiver l.kept l.marks) ++ drop l.place l.kept;
-  places : All (λ (replaced : Replaced). replaced.place < length l.kept) l.row.news.items;
-  fit : Fits l.row.sums (with_each l.row.news.items l.kept);
-  steps : l.steps ≡ l.fn.steps + count_by (is_wanted l.kept l.marks) (take l.place l.fn.scene.sources);
+  row : with_each l.row.news.items l.renewal.kept.now
+      ≡ take l.place (refreshed l.renewal.scene.now l.renewal.receiver.now l.renewal.kept.now l.renewal.marks.now) ++ drop l.place l.renewal.kept.now;
+  places : All (λ (replaced : Replaced). replaced.place < length l.renewal.kept.now) l.row.news.items;
+  fit : Fits l.row.sums (with_each l.row.news.items l.renewal.kept.now);
+  steps : l.steps ≡ l.fn.steps + count_by (is_wanted l.renewal.kept.now l.renewal.marks.now) (take l.place l.renewal.scene.now.sources);
 }
