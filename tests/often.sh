@@ -1,7 +1,7 @@
 #!/bin/bash
 # A site with 16 sources, 1,024 receivers and 500 buildings, again and again with 16 workers: each run has to end within two
 # minutes, with the text of a run without workers. So many runs get their input at once, so many with pauses amid it, and a
-# tenth of that on one processor. The gate doesn't run it: 1,000 take a quarter of an hour on four processors.
+# tenth of that on one processor. The gate does not run it: a count of 1,000 takes some 25 minutes on four processors.
 # Usage: tests/often.sh COUNT [PROGRAM]
 set -eu
 count=$1
