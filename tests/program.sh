@@ -183,6 +183,7 @@ try_words() {
     expect "an empty word" 2 "$room/nothing" usage "$program" "" < examples/first.jsonl
     expect "an option twice" 2 "$room/nothing" usage "$program" --bands --bands < examples/first.jsonl
     expect "a word that is no text" 2 "$room/nothing" usage "$program" "$(printf '\377')" < examples/first.jsonl
+    expect "17 workers" 2 "$room/nothing" usage "$program" --workers 17 < examples/first.jsonl
 }
 
 try_ends() {
@@ -192,6 +193,8 @@ try_ends() {
     expect "a full device" 4 "$room/nothing" "write fault" \
         sh -c '"$0" > /dev/full' "$program" < examples/first.jsonl
     expect "closed output" 4 "$room/nothing" "write fault" sh -c '"$0" >&-' "$program" < examples/first.jsonl
+    expect "a site on a full device" 4 "$room/nothing" "write fault" \
+        sh -c '"$0" --make=7 --workers 4 > /dev/full' "$program" < examples/first.jsonl
     expect "closed output, and nothing to write" 0 "$room/nothing" "" sh -c '"$0" >&-' "$program" < "$room/nothing"
     expect "closed standard error" 2 "$room/nothing" "" sh -c '"$0" --help 2>&-' "$program" < examples/first.jsonl
     { "$program" < "$room/many" 2> "$room/said"; echo $? > "$room/status"; } | head -n 1 > "$room/rows"
@@ -201,17 +204,66 @@ try_ends() {
     expect "67,108,865 bytes" 6 "$room/nothing" "input limit" "$program" < "$room/over"
 }
 
-# The longest line that is read, one byte more, and a last line without its line feed.
+# The longest line that is read, one byte more, and each line that is cut off.
 try_lengths() {
-    look='{"do":"look"}'
     echo "look,0,0,,,," > "$room/look"
     echo "refused,0,1,LongLine,,," > "$room/long"
+    echo "refused,0,1,NotJson,,," > "$room/broken"
     printf '%s%65523s\n' "$look" '' > "$room/line"
     expect "a line of 65,536 bytes" 0 "$room/look" "" "$program" < "$room/line"
     printf '%s%65524s\n' "$look" '' > "$room/line"
     expect "a line of 65,537 bytes" 1 "$room/long" "" "$program" < "$room/line"
-    printf '%s' "$look" > "$room/line"
-    expect "a line without a line feed" 0 "$room/look" "" "$program" < "$room/line"
+    for size in $(seq 1 $((${#fan} - 1))); do
+        printf "%.${size}s" "$fan" > "$room/line"
+        expect "a line cut off behind $size bytes" 1 "$room/broken" "" "$program" < "$room/line"
+    done
+}
+
+# A last line without its line feed, and lines with carriage returns.
+try_line_ends() {
+    { echo "settle,2,1,,,,"; echo "row,2,r,current,,51.62,51.64"; } > "$room/settled"
+    printf '%s\n%s\n%s' "$fan" "$house" "$settle" > "$room/line"
+    expect "a line without a line feed" 0 "$room/settled" "" "$program" < "$room/line"
+    printf '%s\r\n' "$fan" "$house" "$settle" > "$room/line"
+    expect "lines with carriage returns" 0 "$room/settled" "" "$program" < "$room/line"
+}
+
+# nested COUNT: a look with a further field of so many arrays, one within the other.
+nested() {
+    awk -v count="$1" 'BEGIN {
+        for (i = 0; i < count; i++) { opening = opening "["; closing = closing "]" }
+        printf "{\"do\":\"look\",\"more\":%s%s}", opening, closing
+    }'
+}
+
+# behind NAME STATUS ROW: a hostile line, which is read, has this row, and the look behind it is done.
+behind() {
+    { cat; printf '\n%s\n' "$look"; } > "$room/line"
+    { echo "$3"; echo "look,0,0,,,,"; } > "$room/looks"
+    expect "a look behind $1" "$2" "$room/looks" "" "$program" < "$room/line"
+}
+
+try_hostile_lines() {
+    not_json=refused,0,1,NotJson,,,
+    nested 60 | behind "60 arrays" 0 look,0,0,,,,
+    nested 126 | behind "126 arrays" 0 look,0,0,,,,
+    nested 127 | behind "127 arrays" 1 "$not_json"
+    nested 200 | behind "200 arrays" 1 "$not_json"
+    nested 32000 | behind "32,000 arrays" 1 "$not_json"
+    printf '\377' | behind "a byte that is no text" 1 "$not_json"
+    printf '%70000s' '' | tr ' ' x | behind "70,000 bytes" 1 refused,0,1,LongLine,,,
+}
+
+# As many receivers and sources as may be, and one more.
+try_full() {
+    echo "refused,1,2,Full,receiver,4096," > "$room/full_of_receivers"
+    { head -n 1 "$room/many"; echo "$house"; } > "$room/line"
+    expect "the 4,097th receiver" 1 "$room/full_of_receivers" "" "$program" < "$room/line"
+    echo "refused,128,129,Full,source,128," > "$room/full_of_sources"
+    for number in $(seq 0 128); do
+        echo "{\"do\":\"source\",\"name\":\"s$number\",\"kind\":\"road\",\"x\":0,\"y\":0,\"h\":1,\"lw\":[1,2,3,4,5,6,7,8]}"
+    done > "$room/line"
+    expect "the 129th source" 1 "$room/full_of_sources" "" "$program" < "$room/line"
 }
 
 # Workers change no row of a settle, nor do the threads of an edit, also where no thread can be started: there its stack
@@ -257,7 +309,11 @@ try_memory() {
     judge "words without memory" $? 5 "$room/nothing" "no memory"
 }
 
-# Inputs: many rows; the limit, and one byte more; many sides, for try_screens; much memory.
+# Inputs: single lines; many rows; the limit, and one byte more; many sides, for try_screens; much memory.
+fan='{"do":"source","name":"s","kind":"industry","x":0,"y":0,"h":2000,"lw":[null,null,null,null,10000,null,null,null]}'
+house='{"do":"receiver","name":"r","x":100000,"y":0,"h":2000}'
+settle='{"do":"settle"}'
+look='{"do":"look"}'
 {
     echo '{"do":"grid","name":"g","x":0,"y":0,"step":1000,"columns":64,"rows":64,"h":4000}'
     yes '{"do":"settle"}' | head -n 20
@@ -293,6 +349,9 @@ for program in "$@"; do
     try_words
     try_ends
     try_lengths
+    try_line_ends
+    try_hostile_lines
+    try_full
     try_workers
     try_screens
     try_memory

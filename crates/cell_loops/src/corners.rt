@@ -5,7 +5,7 @@ ghost use Rattle.cell_loops.specs.Boundary.{step_of};
 ghost use Rattle.cell_loops.specs.Steps.{most_side};
 
 /// A corner of cells: cell (c, r) has the corners (c, r) to (c + 1, r + 1).
-#[derive(Clone, Copy, Debug, PartialEq, Eq, Hash)]
+#[derive(Clone, Copy, Debug, PartialEq, Eq)]
 pub struct Corner {
     pub x: u32,
     pub y: u32,

@@ -4,7 +4,7 @@ ghost use Rattle.std.specs.Prelude.{◌≡◌};
 ghost use Rattle.cell_loops.specs.Plane.{is_in};
 
 /// Whether the level in a cell surely reaches a limit.
-#[derive(Clone, Copy, Debug, PartialEq, Eq, Hash)]
+#[derive(Clone, Copy, Debug, PartialEq, Eq)]
 pub enum Cell {
     /// The whole interval of the level is at the limit or above it.
     Above,
@@ -15,7 +15,7 @@ pub enum Cell {
 }
 
 /// Which of the two sets of cells loops bound.
-#[derive(Clone, Copy, Debug, PartialEq, Eq, Hash)]
+#[derive(Clone, Copy, Debug, PartialEq, Eq)]
 pub enum Family {
     /// The cells that are above: within, it is surely as loud.
     Inner,

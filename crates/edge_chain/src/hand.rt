@@ -5,7 +5,7 @@ ghost use Rattle.edge_chain.specs.Chain.{off_line};
 use scene_geom::{Pt, orient};
 
 /// A hand of a directed line of the plan.
-#[derive(Clone, Copy, Debug, PartialEq, Eq, Hash)]
+#[derive(Clone, Copy, Debug, PartialEq, Eq)]
 pub enum Hand {
     Left,
     Right,

@@ -18,8 +18,6 @@ mod test_faults;
 #[cfg(test)]
 mod test_gate;
 #[cfg(test)]
-mod test_make;
-#[cfg(test)]
 mod tests;
 
 use crate::status::{Report, Status};

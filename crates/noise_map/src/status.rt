@@ -6,7 +6,7 @@ use map_lock::EditorSeat;
 use thiserror::Error;
 
 /// How a run ended.
-#[derive(Clone, Copy, Debug, PartialEq, Eq)]
+#[derive(Clone, Copy)]
 pub enum Status {
     /// The input ended, and no line was refused.
     Done,
@@ -71,7 +71,7 @@ pub enum Fault {
 }
 
 /// How the lines of a run ended.
-#[derive(Clone, Copy, Debug, PartialEq, Eq)]
+#[derive(Clone, Copy)]
 pub struct Ending {
     pub status: Status,
     /// How many lines were done, blank and refused ones among them.

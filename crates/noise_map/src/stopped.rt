@@ -6,7 +6,7 @@ use map_io::Failed;
 use scene_parts::NoMemory;
 
 /// Why a line could not be done to its end.
-#[derive(Clone, Copy, Debug, PartialEq, Eq)]
+#[derive(Clone, Copy)]
 pub enum Stopped {
     WriteFault,
     NoMemory,

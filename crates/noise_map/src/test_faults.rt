@@ -1,9 +1,7 @@
-//! Runs whose reads and writes fail, one number at a time, and lines that no reader of JSON takes. The rows expected of the
-//! site of a works are those of an independent calculation.
-use crate::status::Status;
-use crate::tests::{FAN, taken_of, written};
+//! Runs whose reads and writes fail, one number at a time. The rows expected of the site of a works are those of an
+//! independent calculation.
+use crate::tests::{ended, taken_of, written};
 use map_io::{MemSource, OpenGate};
-use std::alloc::Global;
 use std::test::Fail;
 
 /// The site of a works, up to its first settle.
@@ -42,12 +40,8 @@ fn each_read_fails_in_turn(rt: HostRuntime) -> Result<(), Fail> {
         let bytes = input.as_bytes().to_vec(alloc)?;
         let mut source = MemSource::new(bytes, 64, vec![in alloc; read]?);
         let (report, taken) = taken_of(&rt, alloc, &[], &mut source, 0, &OpenGate)?;
-        let status = if read < 36 {
-            Status::ReadFault
-        } else {
-            Status::Done
-        };
-        assert_eq!(rt; report.status, status, "read {read}");
+        let status = if read < 36 { 3 } else { 0 };
+        assert_eq!(rt; report.status.exit_code(), status, "read {read}");
         let (first, second) = rows_by(64 * (read as usize - 1));
         let rows = format!(in alloc; "{first}{second}")?;
         assert_eq!(rt; taken.as_slice(), rows.as_bytes(), "read {read}");
@@ -66,73 +60,14 @@ fn each_write_fails_in_turn(rt: HostRuntime) -> Result<(), Fail> {
         let (report, taken) = written(&rt, alloc, &[], input.as_bytes(), 0, write)?;
         // Line 13 writes 26 rows, and line 24 the others.
         let lines = if write <= 26 { 13 } else { 24 };
-        assert_eq!(rt; (report.status, report.lines), (Status::WriteFault, lines));
+        assert_eq!(rt; ended(&report), (4, lines));
         assert_eq!(rt; taken.as_slice(), before.as_bytes(), "write {write}");
         before.push_str(row)?;
         write = write.saturating_add(1);
     }
     assert_eq!(rt; write, 52);
     let (report, taken) = written(&rt, alloc, &[], input.as_bytes(), 0, write)?;
-    assert_eq!(rt; (report.status, report.lines), (Status::Done, 24));
+    assert_eq!(rt; ended(&report), (0, 24));
     assert_eq!(rt; taken.as_slice(), rows.as_bytes());
-    Ok(())
-}
-
-#[test]
-fn a_line_that_is_cut_off_is_refused(rt: HostRuntime) -> Result<(), Fail> {
-    let line = FAN.as_bytes();
-    for size in 1..line.len() {
-        let (report, taken) = written(&rt, rt.alloc(), &[], &line[..size], 0, 0)?;
-        assert_eq!(rt; report.status, Status::SomeRefused, "{size} bytes");
-        assert_eq!(rt;
-            taken.as_slice(),
-            b"refused,0,1,NotJson,,,\n".as_slice(),
-            "{size} bytes"
-        );
-    }
-    Ok(())
-}
-
-/// A look with a further field of so many arrays, one within the other.
-fn nested(alloc: Global, arrays: u32) -> Result<Vec<u8>, Fail> {
-    let mut line = b"{\"do\":\"look\",\"more\":".to_vec(alloc)?;
-    for _ in 0..arrays {
-        line.push(b'[')?;
-    }
-    for _ in 0..arrays {
-        line.push(b']')?;
-    }
-    line.push(b'}')?;
-    Ok(line)
-}
-
-#[test]
-fn the_line_behind_a_hostile_one_is_done(rt: HostRuntime) -> Result<(), Fail> {
-    let alloc = rt.alloc();
-    for (line, rows) in [
-        (nested(alloc, 60)?, "look,0,0,,,,\nlook,0,0,,,,\n"),
-        (
-            nested(alloc, 200)?,
-            "refused,0,1,NotJson,,,\nlook,0,0,,,,\n",
-        ),
-        (
-            nested(alloc, 32_000)?,
-            "refused,0,1,NotJson,,,\nlook,0,0,,,,\n",
-        ),
-        (
-            vec![in alloc; 255]?,
-            "refused,0,1,NotJson,,,\nlook,0,0,,,,\n",
-        ),
-        (
-            vec![in alloc; b'x'; 70_000]?,
-            "refused,0,1,LongLine,,,\nlook,0,0,,,,\n",
-        ),
-    ] {
-        let mut input = line;
-        input.extend_from_slice(b"\n{\"do\":\"look\"}\n")?;
-        let (report, taken) = written(&rt, alloc, &[], input.as_slice(), 0, 0)?;
-        assert_eq!(rt; report.lines, 2);
-        assert_eq!(rt; taken.as_slice(), rows.as_bytes(), "{rows}");
-    }
     Ok(())
 }

@@ -1,7 +1,6 @@
 //! Runs whose workers wait at the gate for one another, and whose lines wait for a worker.
 ghost use Rattle.std.specs.Prelude.{None};
 
-use crate::status::Status;
 use crate::tests::taken_of;
 use map_io::{Failed, FreeSource, Gate, Source};
 use std::sync::atomic::{AtomicU64, Ordering};
@@ -168,7 +167,7 @@ fn two_workers_meet_at_the_gate(rt: HostRuntime) -> Result<(), Fail> {
         missed: &missed,
     };
     let (report, rows) = taken_of(&rt, alloc, &["--workers=2"], &mut source, 0, &gate)?;
-    assert_eq!(rt; report.status, Status::Done);
+    assert_eq!(rt; report.status.exit_code(), 0);
     assert_eq!(rt; rows.as_slice(), SETTLED.as_bytes());
     let came = (first.load(Ordering::SeqCst), second.load(Ordering::SeqCst));
     assert_eq!(rt; (came, missed.load(Ordering::SeqCst)), ((1, 1), 0));
@@ -187,7 +186,7 @@ fn a_settle_waits_for_a_worker_that_is_held_back(rt: HostRuntime) -> Result<(), 
         missed: &missed,
     };
     let (report, rows) = taken_of(&rt, alloc, &["--workers=1"], &mut source, 0, &gate)?;
-    assert_eq!(rt; report.status, Status::Done);
+    assert_eq!(rt; report.status.exit_code(), 0);
     assert_eq!(rt; rows.as_slice(), SETTLED.as_bytes());
     assert_eq!(rt; missed.load(Ordering::SeqCst), 0);
     Ok(())
@@ -203,7 +202,7 @@ fn a_worker_solves_before_the_settle_is_read(rt: HostRuntime) -> Result<(), Fail
     };
     let gate = Noting { first: &first };
     let (report, rows) = taken_of(&rt, rt.alloc(), &["--workers=1"], &mut source, 0, &gate)?;
-    assert_eq!(rt; report.status, Status::Done);
+    assert_eq!(rt; report.status.exit_code(), 0);
     assert_eq!(rt;
         rows.as_slice(),
         b"settle,2,1,,,,\nrow,2,r,current,,51.62,51.64\n".as_slice()

@@ -3,7 +3,7 @@
 use scene_geom::Side;
 
 /// A side of an obstacle, with the number of the obstacle and the side's number in it.
-#[derive(Clone, Copy, Debug, PartialEq, Eq, Hash)]
+#[derive(Clone, Copy, Debug, PartialEq, Eq)]
 pub struct Owned {
     pub obstacle: u32,
     pub index: u32,
@@ -11,7 +11,7 @@ pub struct Owned {
 }
 
 /// Which side of which obstacle.
-#[derive(Clone, Copy, Debug, PartialEq, Eq, Hash)]
+#[derive(Clone, Copy, Debug, PartialEq, Eq)]
 pub struct Place {
     pub obstacle: u32,
     pub index: u32,

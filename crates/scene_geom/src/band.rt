@@ -3,7 +3,7 @@ ghost use Rattle.std.specs.Prelude.{◌≡◌, ◌<◌, ◌≤◌};
 ghost use Rattle.scene_geom.specs.Bands.{all_bands, place_of, frequency_of};
 
 /// An octave band, by its nominal midband frequency.
-#[derive(Clone, Copy, Debug, PartialEq, Eq, Hash)]
+#[derive(Clone, Copy, Debug, PartialEq, Eq)]
 pub enum Band {
     Hz63,
     Hz125,

@@ -16,7 +16,7 @@ use super::turns::turn;
 
 /// A side's crossing with a whole line: its place, in units of the line's direction, and whether the
 /// side leads to the left of the line there.
-#[derive(Clone, Copy, Debug, PartialEq, Eq, Hash)]
+#[derive(Clone, Copy, Debug, PartialEq, Eq)]
 pub struct Passage {
     pub place: Frac,
     pub to_left: bool,

@@ -3,8 +3,8 @@
 ghost use Rattle.scene_geom.specs.Plan.{InPlan};
 
 /// A point of the plan, in mm: both coordinates lie between -4,000,000 and 4,000,000, these ends
-/// included. Points are ordered by `x` and then by `y`.
-#[derive(Clone, Copy, Debug, PartialEq, Eq, PartialOrd, Ord, Hash)]
+/// included.
+#[derive(Clone, Copy, Debug, PartialEq, Eq)]
 pub struct Pt {
     pub x: i32,
     pub y: i32,
@@ -33,7 +33,7 @@ impl Pt {
 }
 
 /// A straight side of a barrier, a building or a zone, directed from one corner to the next.
-#[derive(Clone, Copy, Debug, PartialEq, Eq, Hash)]
+#[derive(Clone, Copy, Debug, PartialEq, Eq)]
 pub struct Side {
     pub from: Pt,
     pub to: Pt,

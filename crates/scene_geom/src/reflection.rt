@@ -20,7 +20,7 @@ const LONGEST_WALL: i64 = 262_143;
 
 /// A path by way of a wall, unfolded: each leg leads towards the image of the path's other end in
 /// the line of the wall.
-#[derive(Clone, Copy, Debug, PartialEq, Eq, Hash)]
+#[derive(Clone, Copy, Debug, PartialEq, Eq)]
 pub struct Reflection {
     /// The direction of the first leg, from the source.
     pub first: Dir,
