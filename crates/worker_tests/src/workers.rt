@@ -4,6 +4,7 @@ ghost use Rattle.std.specs.Option.{ForSome};
 
 use map_io::{Gate, OpenGate};
 use receiver_workers::{Desk, Ended, SeatCall, Taken, with_workers, work};
+use std::process::Abort;
 use std::sync::Wait;
 use std::sync::atomic::Ordering::SeqCst;
 use std::sync::atomic::{AtomicBool, AtomicU64};
@@ -195,30 +196,30 @@ impl Gate for Log {
     }
 }
 
+// Why the worker 7 ended at a desk of three jobs, one of which may be unsolved. Its passes, the sum of what it offered,
+// its waits, and how many jobs it gave back.
+fn worked<R: Wait>(rt: &R, unsolved: u32) -> (Ended, [u64; 4]) {
+    let desk = Numbers::new(3, [unsolved; 2], 1);
+    let gate = Log {
+        passes: AtomicU64::new(0),
+    };
+    let mut seat = new_clerk();
+    let ended = work(rt, &desk, &mut seat, &gate, 7);
+    let passes = gate.passes.load(SeqCst);
+    let (sum, waits) = (desk.sum.load(SeqCst), desk.waits.load(SeqCst));
+    (ended, [passes, sum, waits, seat.backs])
+}
+
 #[test]
-fn a_worker_passes_the_gate_with_its_number_and_each_place(rt: HostRuntime) -> Result<(), Fail> {
+fn a_worker_passes_the_gate_with_its_number_and_each_place(rt: HostRuntime) {
     let table = [
-        (9, Ended::Stopped, 705_706_707, 9, 0),
-        (2, Ended::NoMemory, 705_706_707, 3, 1),
-        (1, Ended::NoMemory, 705_706, 0, 1),
+        (9, (Ended::Stopped, [705_706_707, 9, 1, 0])),
+        (2, (Ended::NoMemory, [705_706_707, 3, 0, 1])),
+        (1, (Ended::NoMemory, [705_706, 0, 0, 1])),
     ];
-    for (unsolved, ended, passes, sum, backs) in table {
-        let desk = Numbers::new(3, [unsolved; 2], 1);
-        let gate = Log {
-            passes: AtomicU64::new(0),
-        };
-        let mut seat = new_clerk();
-        assert_eq!(rt; work(&rt, &desk, &mut seat, &gate, 7), ended, "{unsolved}");
-        assert_eq!(rt; gate.passes.load(SeqCst), passes, "{unsolved}");
-        assert_eq!(rt; desk.sum.load(SeqCst), sum, "{unsolved}");
-        assert_eq!(rt;
-            desk.waits.load(SeqCst),
-            u64::from(ended == Ended::Stopped),
-            "{unsolved}"
-        );
-        assert_eq!(rt; seat.backs, backs, "{unsolved}");
+    for (unsolved, expected) in table {
+        assert_eq!(rt; worked(&rt, unsolved), expected, "{unsolved}");
     }
-    Ok(())
 }
 
 // Holds the workers 1 and 2 until both have come, for so many turns at most.
@@ -239,6 +240,14 @@ impl Gate for Meeting {
             thread::yield_now();
         }
     }
+}
+
+// How many of these seats were told last that the desk is finished.
+fn finished(seats: &[Clerk]) -> usize {
+    seats
+        .iter()
+        .filter(|seat| matches!(seat.last, Some(SeatCall::Take(Taken::Finished))))
+        .count()
 }
 
 #[test]
@@ -270,9 +279,7 @@ fn two_workers_solve_beside_the_body(rt: HostRuntime) -> Result<(), Fail> {
         (sum, calls.load(SeqCst), gate.arrived.load(SeqCst)),
         (30, 1, 3)
     );
-    for seat in &seats {
-        assert!(rt; matches!(seat.last, Some(SeatCall::Take(Taken::Finished))));
-    }
+    assert_eq!(rt; finished(&seats), 2);
     Ok(())
 }
 
@@ -284,18 +291,23 @@ fn given_back(seats: &[Clerk], job: u32) -> usize {
         .count()
 }
 
+fn owe_nothing(seats: &[Clerk]) -> bool {
+    seats.iter().all(|seat| seat.owed.is_none())
+}
+
+// Asserts that each of the two unsolved jobs was given back, and the four others solved by the one worker that was left.
+fn two_are_left(rt: &impl Abort, desk: &Numbers, seats: &[Clerk]) {
+    assert_eq!(rt; (desk.offers.load(SeqCst), desk.sum.load(SeqCst)), (4, 24));
+    assert_eq!(rt; (given_back(seats, 2), given_back(seats, 5)), (1, 1));
+    assert_eq!(rt; finished(seats), 1);
+    assert!(rt; owe_nothing(seats));
+}
+
 #[test]
 fn workers_without_memory_leave_the_jobs_to_the_others(rt: HostRuntime) -> Result<(), Fail> {
     let desk = Numbers::new(6, [2, 5], 0);
     let mut seats = [new_clerk(), new_clerk(), new_clerk()];
     with_workers(&rt, &desk, &OpenGate, &mut seats, &mut || ());
-    assert_eq!(rt; (desk.offers.load(SeqCst), desk.sum.load(SeqCst)), (4, 24));
-    assert_eq!(rt; (given_back(&seats, 2), given_back(&seats, 5)), (1, 1));
-    let finished = seats
-        .iter()
-        .filter(|seat| matches!(seat.last, Some(SeatCall::Take(Taken::Finished))))
-        .count();
-    assert_eq!(rt; finished, 1);
-    assert!(rt; seats.iter().all(|seat| seat.owed.is_none()));
+    two_are_left(&rt, &desk, &seats);
     Ok(())
 }
