@@ -20,7 +20,8 @@ fn letter(answer: Next) -> u8 {
     }
 }
 
-// Writes what a reader answers up to its end or a fault: each line with a bar behind it, a letter for every other answer.
+// Writes what a reader answers up to its end or a fault: each line with a bar behind it, and a letter for every other
+// answer.
 fn transcribe<S: Source>(
     reader: &mut LineReader,
     source: &mut S,
@@ -86,6 +87,14 @@ fn reads_by_std(rt: &impl Abort, alloc: Global, row: Row) -> Result<(), Fail> {
     reads(rt, alloc, &mut source, row, "from a reader of std")
 }
 
+fn reads_in_each_form(rt: &impl Abort, alloc: Global, row: Row) -> Result<(), Fail> {
+    reads_in_pieces(rt, alloc, row, 1, "in pieces of 1")?;
+    reads_in_pieces(rt, alloc, row, 7, "in pieces of 7")?;
+    reads_in_pieces(rt, alloc, row, 8192, "in pieces of 8192")?;
+    reads_at_once(rt, alloc, row)?;
+    reads_by_std(rt, alloc, row)
+}
+
 #[test]
 fn lines_are_the_same_in_pieces_of_any_size(rt: HostRuntime) -> Result<(), Fail> {
     let table = [
@@ -96,11 +105,7 @@ fn lines_are_the_same_in_pieces_of_any_size(rt: HostRuntime) -> Result<(), Fail>
         ("first\n\n third\r\nlast", "first|| third\r|last|E"),
     ];
     for row in table {
-        reads_in_pieces(&rt, rt.alloc(), row, 1, "in pieces of 1")?;
-        reads_in_pieces(&rt, rt.alloc(), row, 7, "in pieces of 7")?;
-        reads_in_pieces(&rt, rt.alloc(), row, 8192, "in pieces of 8192")?;
-        reads_at_once(&rt, rt.alloc(), row)?;
-        reads_by_std(&rt, rt.alloc(), row)?;
+        reads_in_each_form(&rt, rt.alloc(), row)?;
     }
     Ok(())
 }
@@ -141,12 +146,13 @@ fn next_three(reader: &mut LineReader, source: &mut FreeSource) -> [Next; 3] {
 // Asserts what a reader answers of them.
 fn reads_long_lines(rt: &impl Abort, reader: &mut LineReader, source: &mut FreeSource) {
     let answers = next_three(reader, source);
+    let is_short = reader.line() == b"z".as_slice();
+    let end = reader.next(source);
+    assert!(rt; is_short && end == Next::End);
     assert_eq!(rt;
         answers,
         [Next::Line(65_536), Next::LongLine, Next::Line(1)]
     );
-    assert_eq!(rt; reader.line(), b"z".as_slice());
-    assert_eq!(rt; reader.next(source), Next::End);
 }
 
 #[test]
@@ -186,8 +192,8 @@ fn pieces_are_put_until_a_sink_fails(rt: HostRuntime) -> Result<(), Fail> {
 #[test]
 fn a_free_sink_counts_what_is_put(rt: HostRuntime) {
     let mut sink = FreeSink::new();
-    assert_eq!(rt; put_all(&mut sink, b"abcde"), Ok(()));
-    assert_eq!(rt; sink.count(), 5);
+    let put = put_all(&mut sink, b"abcde");
+    assert_eq!(rt; (put, sink.count()), (Ok(()), 5));
 }
 
 #[test]

@@ -196,8 +196,8 @@ impl Gate for Log {
     }
 }
 
-// Why the worker 7 ended at a desk of three jobs, one of which may be unsolved. Its passes, the sum of what it offered,
-// its waits, and how many jobs it gave back.
+// Why the worker 7 ended at a desk of three jobs, one of which may be unsolved; its passes, the sum of what it
+// offered, its waits, and how many jobs it gave back.
 fn worked<R: Wait>(rt: &R, unsolved: u32) -> (Ended, [u64; 4]) {
     let desk = Numbers::new(3, [unsolved; 2], 1);
     let gate = Log {
@@ -295,7 +295,7 @@ fn owe_nothing(seats: &[Clerk]) -> bool {
     seats.iter().all(|seat| seat.owed.is_none())
 }
 
-// Asserts that each of the two unsolved jobs was given back, and the four others solved by the one worker that was left.
+// Asserts that each of the two unsolved jobs was given back, and the others were solved by the worker that was left.
 fn two_are_left(rt: &impl Abort, desk: &Numbers, seats: &[Clerk]) {
     assert_eq!(rt; (desk.offers.load(SeqCst), desk.sum.load(SeqCst)), (4, 24));
     assert_eq!(rt; (given_back(seats, 2), given_back(seats, 5)), (1, 1));
