@@ -276,43 +276,66 @@ fn listed(alloc: Global, places: &[Place]) -> Result<String, AllocError> {
     Ok(text)
 }
 
-/// What a query found, as the tables show it.
-fn listed_found(alloc: Global, found: &Found) -> Result<String, AllocError> {
-    let places = places(alloc, found)?;
-    listed(alloc, places.as_slice())
+/// Expects these places.
+fn expect_places(
+    rt: &impl Abort,
+    alloc: Global,
+    places: &[Place],
+    expected: &str,
+) -> Result<(), AllocError> {
+    let text = listed(alloc, places)?;
+    assert!(rt; text.as_str() == expected);
+    Ok(())
 }
 
-/// What is near the segment and the box of two points, by lent buffers.
-fn told(
+/// Expects the places of what a query found.
+fn expect_found(
+    rt: &impl Abort,
+    alloc: Global,
+    found: &Found,
+    expected: &str,
+) -> Result<(), AllocError> {
+    let places = places(alloc, found)?;
+    expect_places(rt, alloc, places.as_slice(), expected)
+}
+
+/// Expects what is near the segment and the box of two points, by lent buffers.
+fn expect_lent(
+    rt: &impl Abort,
     alloc: Global,
     grid: &Grid,
-    a: At,
-    b: At,
+    row: &Query,
     found: &mut Found,
-) -> Result<(String, String), AllocError> {
+) -> Result<(), AllocError> {
+    let (a, b, near, boxed) = *row;
     let (low, high) = corners(a, b);
     grid.find_near(at(a), at(b), found)?;
-    let near = listed_found(alloc, found)?;
+    expect_found(rt, alloc, found, near)?;
     grid.find_near_box(low, high, found)?;
-    let boxed = listed_found(alloc, found)?;
-    Ok((near, boxed))
+    expect_found(rt, alloc, found, boxed)
 }
 
-/// The same by new buffers, with the ends of the segment exchanged.
-fn told_anew(alloc: Global, grid: &Grid, a: At, b: At) -> Result<(String, String), AllocError> {
+/// Expects what is near the segment by new buffers, with its ends exchanged.
+fn expect_near(
+    rt: &impl Abort,
+    alloc: Global,
+    grid: &Grid,
+    (a, b, near, _): Query,
+) -> Result<(), AllocError> {
+    let found = grid.near(alloc, at(b), at(a))?;
+    expect_places(rt, alloc, found.as_slice(), near)
+}
+
+/// Expects what is near the box by new buffers.
+fn expect_near_box(
+    rt: &impl Abort,
+    alloc: Global,
+    grid: &Grid,
+    (a, b, _, boxed): Query,
+) -> Result<(), AllocError> {
     let (low, high) = corners(a, b);
-    let near = grid.near(alloc, at(b), at(a))?;
-    let boxed = grid.near_box(alloc, low, high)?;
-    Ok((
-        listed(alloc, near.as_slice())?,
-        listed(alloc, boxed.as_slice())?,
-    ))
-}
-
-/// Expects both texts.
-fn expect_texts(rt: &impl Abort, texts: (String, String), row: Query) {
-    assert!(rt; texts.0.as_str() == row.2);
-    assert!(rt; texts.1.as_str() == row.3);
+    let found = grid.near_box(alloc, low, high)?;
+    expect_places(rt, alloc, found.as_slice(), boxed)
 }
 
 /// Expects what a row tells, by lent buffers and by new ones.
@@ -323,11 +346,9 @@ fn expect_row(
     row: &Query,
     found: &mut Found,
 ) -> Result<(), AllocError> {
-    let lent = told(alloc, grid, row.0, row.1, found)?;
-    expect_texts(rt, lent, *row);
-    let anew = told_anew(alloc, grid, row.0, row.1)?;
-    expect_texts(rt, anew, *row);
-    Ok(())
+    expect_lent(rt, alloc, grid, row, found)?;
+    expect_near(rt, alloc, grid, *row)?;
+    expect_near_box(rt, alloc, grid, *row)
 }
 
 /// Expects what these rows tell of a grid.
@@ -390,18 +411,6 @@ fn cells_meet_where_they_are_near(rt: HostRuntime) {
         cells_meet(other, at((5000, -5000)), at((205_000, 5000))),
     ];
     assert!(rt; met == [true, false, false]);
-}
-
-/// Expects this text of what a query found.
-fn expect_found(
-    rt: &impl Abort,
-    alloc: Global,
-    found: &Found,
-    expected: &str,
-) -> Result<(), AllocError> {
-    let near = listed_found(alloc, found)?;
-    assert!(rt; near.as_str() == expected);
-    Ok(())
 }
 
 /// Expects the places near a way.

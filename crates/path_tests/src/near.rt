@@ -33,29 +33,30 @@ struct Counts {
     legs: usize,
 }
 
+/// Adds a barrier and a building at one of 64 places.
+fn add_both(alloc: Global, obstacles: &mut Vec<Obstacle>, n: u32) -> Result<(), AllocError>
+    requires { n < 64 }
+{
+    let x = i64::from(n * 37 % 64) * 22_003 - 704_096;
+    let y = i64::from(n * 23 % 64) * 21_001 - 672_032;
+    let i = i64::from(n);
+    let (width, depth) = (20_000 + i * 900, 70_000 - i * 700);
+    let bend = [(x, y), (x + width, y + depth), (x - depth, y + width)];
+    add_obstacle(alloc, obstacles, Shape::Barrier, &bend, (9_000, 800))?;
+    let house = [
+        (x, y + 30_000),
+        (x + width, y + 30_000),
+        (x + width, y + 45_000),
+        (x + 1, y + 45_000),
+    ];
+    add_obstacle(alloc, obstacles, Shape::Building, &house, (12_000, 500))
+}
+
 /// Barriers and buildings at places that are scattered over a square of 1.4 km.
 fn town(alloc: Global) -> Result<Vec<Obstacle>, AllocError> {
     let mut obstacles = Vec::new(alloc);
     for n in 0..64u32 {
-        let x = i64::from(n * 37 % 64) * 22_003 - 704_096;
-        let y = i64::from(n * 23 % 64) * 21_001 - 672_032;
-        let i = i64::from(n);
-        let (width, depth) = (20_000 + i * 900, 70_000 - i * 700);
-        let bend = [(x, y), (x + width, y + depth), (x - depth, y + width)];
-        add_obstacle(alloc, &mut obstacles, Shape::Barrier, &bend, (9_000, 800))?;
-        let house = [
-            (x, y + 30_000),
-            (x + width, y + 30_000),
-            (x + width, y + 45_000),
-            (x + 1, y + 45_000),
-        ];
-        add_obstacle(
-            alloc,
-            &mut obstacles,
-            Shape::Building,
-            &house,
-            (12_000, 500),
-        )?;
+        add_both(alloc, &mut obstacles, n)?;
     }
     Ok(obstacles)
 }
@@ -146,6 +147,26 @@ fn compare_wall(
 }
 
 /// Asserts that both searches find the same on a line of sight, and on the legs of all reflections between its ends.
+fn compare_by(
+    rt: &impl Abort,
+    alloc: Global,
+    grid: &Grid,
+    obstacles: &[Obstacle],
+    ends: Ends,
+    found: &mut Found,
+) -> Result<Counts, NoMemory>
+    requires few { length obstacles.now < 2 ^ 32 }
+    requires stands { grid.now ≡ numbered (map sides_of obstacles.now) }
+{
+    let lines = compare_lines(rt, alloc, grid, obstacles, ends, found)?;
+    let mut legs = 0;
+    for wall in obstacles {
+        legs = compare_wall(rt, alloc, grid, obstacles, wall, ends, found)?.max(legs);
+    }
+    Ok(Counts { lines, legs })
+}
+
+/// The same, with an index of these obstacles.
 fn compare(
     rt: &impl Abort,
     alloc: Global,
@@ -155,10 +176,23 @@ fn compare(
 ) -> Result<Counts, NoMemory> {
     assert!(rt; obstacles.len() < 1000);
     let grid = grid_of(alloc, obstacles)?;
-    let lines = compare_lines(rt, alloc, &grid, obstacles, ends, found)?;
-    let mut legs = 0;
-    for wall in obstacles {
-        legs = compare_wall(rt, alloc, &grid, obstacles, wall, ends, found)?.max(legs);
+    compare_by(rt, alloc, &grid, obstacles, ends, found)
+}
+
+/// The same between all spots: the most that were found.
+fn compare_all(
+    rt: &impl Abort,
+    alloc: Global,
+    obstacles: &[Obstacle],
+    found: &mut Found,
+) -> Result<Counts, NoMemory> {
+    let (mut lines, mut legs) = (0, 0);
+    for s in &SPOTS {
+        for r in &SPOTS {
+            let counts = compare(rt, alloc, obstacles, ends(at(*s), at(*r)), found)?;
+            lines = counts.lines.max(lines);
+            legs = counts.legs.max(legs);
+        }
     }
     Ok(Counts { lines, legs })
 }
@@ -176,17 +210,9 @@ fn are_same_on_legs(rt: &impl Abort, all: &[(Leg, Crossing)], near: &[(Leg, Cros
 fn the_index_finds_what_is_found_without_it(rt: HostRuntime) -> Result<(), Fail> {
     let obstacles = town(rt.alloc())?;
     let mut found = Found::new(rt.alloc());
-    let (mut lines, mut legs) = (0, 0);
-    for s in &SPOTS {
-        for r in &SPOTS {
-            let ends = ends(at(*s), at(*r));
-            let Ok(counts) = compare(&rt, rt.alloc(), &obstacles, ends, &mut found) else {
-                return Err(AllocError.into());
-            };
-            lines = counts.lines.max(lines);
-            legs = counts.legs.max(legs);
-        }
-    }
-    assert!(rt; lines > 5 && legs > 5);
+    let Ok(most) = compare_all(&rt, rt.alloc(), &obstacles, &mut found) else {
+        return Err(AllocError.into());
+    };
+    assert!(rt; most.lines > 5 && most.legs > 5);
     Ok(())
 }
