@@ -1,6 +1,10 @@
-use Rattle.std.proofs.Common.{◌∙◌, sym}
+use Rattle.std.proofs.Common.{◌∙◌, sym, arith}
+use Rattle.std.proofs.lemmas.Grind.{common_steps}
 use Rattle.edge_chain.proofs.Strings.{slackened-end}
 use Rattle.edge_chain.proofs.winding.tight_from.Goals as goal
+
+pub loop-at-preserved : goal.loop-at-preserved
+loop-at-preserved c = grind (arith, common_steps)
 
 pub returns-after-loop-at-clause-value : goal.returns-after-loop-at-clause-value
 returns-after-loop-at-clause-value c =
