@@ -108,6 +108,22 @@ found_below buffer start end size found =
     let at = position-Some (λ b. b == 10) (slice_range buffer start end) size 0 found in
     omega (arith, at.0, length-take (end - start) (drop start buffer))
 
+-- so the reader stays sound behind it
+pub found_ordered : (start end size : ℕ) → start ≤ end → size < end - start → start + (size + 1) ≤ end
+found_ordered start end size ordered below = omega arith
+
+pub found_within : (passed start end size limit : ℕ) → start ≤ end → passed + (end - start) ≤ limit → size < end - start
+    → passed + (size + 1) + (end - (start + (size + 1))) ≤ limit
+found_within passed start end size limit ordered within below = omega arith
+
+-- and so it does behind all that is held
+pub all_ordered : (end : ℕ) → end ≤ end
+all_ordered end = omega arith
+
+pub all_within : (buffer : List ℕ) (start end passed limit : ℕ) → passed + (end - start) ≤ limit
+    → passed + length (slice_range buffer start end) + (end - end) ≤ limit
+all_within buffer start end passed limit within = omega (arith, length-take (end - start) (drop start buffer))
+
 -- a scan that found none was of plain bytes
 pub scan_had_none : (mid new : Reading) → Scans false mid new → Contains mid.pending 10 → ⊥
 scan_had_none mid new scan held =
