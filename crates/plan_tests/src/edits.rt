@@ -1,46 +1,10 @@
 //! Edits in a row, with answers from outside, by an independent program.
-ghost use Rattle.scene_parts.specs.Names.{IsName, IsAnyName};
-
-use crate::outlines::outline;
-use scene_book::{Edit, EditFault, Scene};
-use scene_parts::{Checked, Class, Name, Part, PlainName, RawPart, RawPoints, Receiver, check};
+use crate::steps::{Called, EditOutcome, Step, take};
+use scene_book::Scene;
+use scene_parts::{Class, Receiver};
 use std::alloc::{AllocError, Global};
 use std::process::Abort;
 use std::test::Fail;
-
-/// The names of parts.
-#[derive(Clone, Copy)]
-enum Called {
-    A,
-    B,
-    Grid,
-    Wall,
-    Ground,
-}
-
-/// An edit.
-#[derive(Clone, Copy)]
-enum Step {
-    Receiver(Called, i64),
-    Barrier,
-    Building,
-    Zone,
-    Grid(i64, i64),
-    Set,
-    Remove(Called),
-}
-
-/// What an edit answered.
-#[derive(Clone, Copy, PartialEq, Eq)]
-pub(crate) enum EditOutcome {
-    New,
-    Replaced,
-    NoName,
-    Other(Class),
-    Full(Class, u32),
-    NoMemory,
-    NoPart,
-}
 
 /// An edit, what it answers, and how many receivers, obstacles and zones there are then.
 type Row = (Step, EditOutcome, (usize, usize, usize));
@@ -51,7 +15,7 @@ const ROWS: [Row; 13] = [
     (Step::Barrier, EditOutcome::New, (2, 1, 0)),
     // One name for parts of two classes.
     (
-        Step::Building,
+        Step::Building(Called::Wall),
         EditOutcome::Other(Class::Barrier),
         (2, 1, 0),
     ),
@@ -72,7 +36,7 @@ const ROWS: [Row; 13] = [
         (2, 1, 0),
     ),
     (Step::Grid(2, 2), EditOutcome::New, (6, 1, 0)),
-    (Step::Zone, EditOutcome::New, (6, 1, 1)),
+    (Step::Zone(Called::Ground), EditOutcome::New, (6, 1, 1)),
     (Step::Set, EditOutcome::New, (6, 1, 1)),
     (Step::Remove(Called::A), EditOutcome::Replaced, (5, 1, 1)),
     // A grid's name is no part's.
@@ -93,167 +57,6 @@ const RECEIVERS: [(i32, &'static [u8]); 5] = [
     (0, b"g/0/1"),
     (1, b"g/1/1"),
 ];
-
-fn text(called: Called) -> &'static [u8]
-    ensures plain { IsName result.now }
-    ensures any { IsAnyName result.now }
-{
-    match called {
-        Called::A => b"a",
-        Called::B => b"b",
-        Called::Grid => b"g",
-        Called::Wall => b"w",
-        Called::Ground => b"z",
-    }
-}
-
-fn name(alloc: Global, called: Called) -> Result<PlainName, AllocError> {
-    Ok(PlainName::from_vec(text(called).to_vec(alloc)?))
-}
-
-pub(crate) fn corners(alloc: Global) -> Result<RawPoints, AllocError> {
-    outline(alloc, &[(0, 0), (1000, 0), (1000, 1000)])
-}
-
-fn receiver(alloc: Global, called: Called, x: i64) -> Result<RawPart, AllocError> {
-    let name = name(alloc, called)?;
-    Ok(RawPart::Receiver {
-        name,
-        x,
-        y: 0,
-        h: 4000,
-    })
-}
-
-fn barrier(alloc: Global) -> Result<RawPart, AllocError> {
-    let name = name(alloc, Called::Wall)?;
-    let points = corners(alloc)?;
-    Ok(RawPart::Barrier {
-        name,
-        points,
-        h: 1,
-        density: 10,
-        rho: 0,
-    })
-}
-
-fn building(alloc: Global) -> Result<RawPart, AllocError> {
-    let name = name(alloc, Called::Wall)?;
-    let points = corners(alloc)?;
-    Ok(RawPart::Building {
-        name,
-        points,
-        h: 1,
-        rho: 0,
-    })
-}
-
-fn zone(alloc: Global) -> Result<RawPart, AllocError> {
-    let name = name(alloc, Called::Ground)?;
-    let points = corners(alloc)?;
-    Ok(RawPart::Zone {
-        name,
-        points,
-        g: 100,
-    })
-}
-
-fn grid(alloc: Global, columns: i64, rows: i64) -> Result<RawPart, AllocError> {
-    let name = name(alloc, Called::Grid)?;
-    Ok(RawPart::Grid {
-        name,
-        x: 0,
-        y: 0,
-        step: 1,
-        columns,
-        rows,
-        h: 1,
-    })
-}
-
-fn setting() -> RawPart {
-    RawPart::Set {
-        reach: None,
-        g: Some(50),
-        air: None,
-        c0: Some(1000),
-        ground: None,
-    }
-}
-
-/// What an edit that is refused answers.
-fn refused(fault: &EditFault) -> EditOutcome {
-    match fault {
-        EditFault::NoSuchName { .. } => EditOutcome::NoName,
-        EditFault::OtherClass { class, .. } => EditOutcome::Other(*class),
-        EditFault::Full { class, limit } => EditOutcome::Full(*class, *limit),
-        EditFault::NoMemory => EditOutcome::NoMemory,
-    }
-}
-
-/// What an edit answers that left this.
-fn outcome(left: &Result<Option<Part>, EditFault>) -> EditOutcome {
-    match left {
-        Ok(None) => EditOutcome::New,
-        Ok(Some(_)) => EditOutcome::Replaced,
-        Err(fault) => refused(fault),
-    }
-}
-
-fn applied(scene: &mut Scene, alloc: Global, edit: &Edit) -> EditOutcome {
-    let left = scene.apply(alloc, edit);
-    outcome(&left)
-}
-
-/// Puts what was checked.
-fn put_checked(scene: &mut Scene, alloc: Global, checked: Checked) -> EditOutcome {
-    let edit = Edit::from(checked);
-    applied(scene, alloc, &edit)
-}
-
-pub(crate) fn put(scene: &mut Scene, alloc: Global, raw: RawPart) -> EditOutcome {
-    match check(alloc, raw) {
-        Ok(checked) => put_checked(scene, alloc, checked),
-        Err(_) => EditOutcome::NoPart,
-    }
-}
-
-/// Removes the part of a name that is given away.
-fn remove_named(scene: &mut Scene, alloc: Global, name: Name) -> EditOutcome {
-    let edit = Edit::Remove(name);
-    applied(scene, alloc, &edit)
-}
-
-/// Removes the part of this name.
-pub(crate) fn remove(
-    scene: &mut Scene,
-    alloc: Global,
-    name: &[u8],
-) -> Result<EditOutcome, AllocError>
-    requires { IsAnyName name.now }
-{
-    let gone = Name::from_vec(name.to_vec(alloc)?);
-    Ok(remove_named(scene, alloc, gone))
-}
-
-/// The part that a step puts, if it puts one.
-fn part(alloc: Global, step: Step) -> Result<RawPart, AllocError> {
-    match step {
-        Step::Receiver(called, x) => receiver(alloc, called, x),
-        Step::Barrier => barrier(alloc),
-        Step::Building => building(alloc),
-        Step::Zone => zone(alloc),
-        Step::Grid(columns, rows) => grid(alloc, columns, rows),
-        Step::Set | Step::Remove(_) => Ok(setting()),
-    }
-}
-
-fn take(scene: &mut Scene, alloc: Global, step: Step) -> Result<EditOutcome, AllocError> {
-    match step {
-        Step::Remove(called) => remove(scene, alloc, text(called)),
-        _ => Ok(put(scene, alloc, part(alloc, step)?)),
-    }
-}
 
 /// How many receivers, obstacles and zones there are.
 fn counted(scene: &Scene) -> (usize, usize, usize) {
@@ -284,35 +87,17 @@ fn has_defaults(rt: &impl Abort, scene: &Scene) {
     assert!(rt; told(scene) == (4_000_000, 0, 0));
 }
 
-/// Makes an empty scene, and compares what holds of the whole of it.
-fn expect_defaults(rt: &impl Abort, alloc: Global) -> Result<(), AllocError> {
-    match Scene::empty(alloc) {
-        Ok(scene) => {
-            has_defaults(rt, &scene);
-            Ok(())
-        }
-        Err(_) => Err(AllocError),
-    }
-}
-
-#[test]
-fn an_empty_scene_has_defaults(rt: HostRuntime) -> Result<(), Fail> {
-    Ok(expect_defaults(&rt, rt.alloc())?)
-}
-
 /// Whether a receiver is the one with this x in mm and this name.
 fn is_edited(receiver: &Receiver, x: i32, name: &[u8]) -> bool {
     receiver.at.x == x && receiver.name.items() == name
 }
 
-/// Whether these are the receivers after all edits, in their order.
-fn are_edited(receivers: &[Receiver]) -> bool {
-    for (receiver, (x, name)) in receivers.iter().zip(&RECEIVERS) {
-        if !is_edited(receiver, *x, name) {
-            return false;
-        }
+/// Asserts that receivers have these x and names, in this order.
+fn are_edited(rt: &impl Abort, receivers: &[Receiver], told: &[(i32, &[u8])]) {
+    assert!(rt; receivers.len() == told.len());
+    for (receiver, (x, name)) in receivers.iter().zip(told) {
+        assert!(rt; is_edited(receiver, *x, name));
     }
-    receivers.len() == RECEIVERS.len()
 }
 
 /// Compares the ground and what holds of the whole scene after all edits.
@@ -328,7 +113,7 @@ fn copy_keeps(
     scene: &mut Scene,
     copy: &Scene,
 ) -> Result<(), AllocError> {
-    remove(scene, alloc, text(Called::Ground))?;
+    take(scene, alloc, Step::Remove(Called::Ground))?;
     assert!(rt; scene.zones().is_empty());
     keeps_receivers(rt, copy);
     keeps_rest(rt, copy);
@@ -337,7 +122,7 @@ fn copy_keeps(
 
 /// Compares the receivers after all edits.
 fn keeps_receivers(rt: &impl Abort, scene: &Scene) {
-    assert!(rt; are_edited(scene.receivers()));
+    are_edited(rt, scene.receivers(), &RECEIVERS);
 }
 
 /// Compares what a scene and its copy keep after all edits.
@@ -355,15 +140,43 @@ fn edit_and_compare(rt: &impl Abort, alloc: Global, scene: &mut Scene) -> Result
     compare(rt, alloc, scene)
 }
 
-/// Does and compares all that on a scene which is empty at first.
-fn edit_empty(rt: &impl Abort, alloc: Global) -> Result<(), AllocError> {
+/// What is looked at.
+#[derive(Clone, Copy)]
+enum Subject {
+    Defaults,
+    Edits,
+}
+
+/// Looks at that in a scene which is empty so far.
+fn look_at(
+    rt: &impl Abort,
+    alloc: Global,
+    scene: &mut Scene,
+    subject: Subject,
+) -> Result<(), AllocError> {
+    match subject {
+        Subject::Defaults => {
+            has_defaults(rt, scene);
+            Ok(())
+        }
+        Subject::Edits => edit_and_compare(rt, alloc, scene),
+    }
+}
+
+/// Looks at that in a scene of its own.
+fn look_at_empty(rt: &impl Abort, alloc: Global, subject: Subject) -> Result<(), AllocError> {
     match Scene::empty(alloc) {
-        Ok(mut scene) => edit_and_compare(rt, alloc, &mut scene),
+        Ok(mut scene) => look_at(rt, alloc, &mut scene, subject),
         Err(_) => Err(AllocError),
     }
 }
 
 #[test]
+fn an_empty_scene_has_defaults(rt: HostRuntime) -> Result<(), Fail> {
+    Ok(look_at_empty(&rt, rt.alloc(), Subject::Defaults)?)
+}
+
+#[test]
 fn edits_answer_in_a_row_and_copies_keep_them(rt: HostRuntime) -> Result<(), Fail> {
-    Ok(edit_empty(&rt, rt.alloc())?)
+    Ok(look_at_empty(&rt, rt.alloc(), Subject::Edits)?)
 }

@@ -1,34 +1,14 @@
 //! Foliage put, put again and removed, beside parts of other classes, and the method for ground, with answers from
 //! outside, by an independent program.
 ghost use Rattle.std.specs.Prelude.{◌≡◌, ◌<◌, true};
-ghost use Rattle.scene_parts.specs.Names.{IsName, IsAnyName, is_name_byte};
+ghost use Rattle.scene_parts.specs.Names.{is_name_byte};
 
-use crate::edits::{EditOutcome, corners, put, remove};
+use crate::steps::{Called, EditOutcome, Step, foliage, put, take};
 use scene_book::Scene;
 use scene_parts::{Air, Class, Ground, PlainName, RawPart, Word};
 use std::alloc::{AllocError, Global};
 use std::process::Abort;
 use std::test::Fail;
-
-/// The names of parts.
-#[derive(Clone, Copy)]
-enum Called {
-    Wood,
-    Hedge,
-    Lawn,
-    House,
-}
-
-/// An edit.
-#[derive(Clone, Copy)]
-enum Step {
-    /// A foliage of this height, in mm.
-    Foliage(Called, i64),
-    Building(Called),
-    Zone(Called),
-    Receiver(Called),
-    Remove(Called),
-}
 
 /// An edit, what it answers, and how many foliages, zones and receivers there are then.
 type Row = (Step, EditOutcome, (usize, usize, usize));
@@ -50,7 +30,7 @@ const ROWS: [Row; 15] = [
         (1, 0, 0),
     ),
     (
-        Step::Receiver(Called::Wood),
+        Step::Receiver(Called::Wood, 0),
         EditOutcome::Other(Class::Foliage),
         (1, 0, 0),
     ),
@@ -60,7 +40,11 @@ const ROWS: [Row; 15] = [
         EditOutcome::Other(Class::Zone),
         (1, 1, 0),
     ),
-    (Step::Receiver(Called::House), EditOutcome::New, (1, 1, 1)),
+    (
+        Step::Receiver(Called::House, 0),
+        EditOutcome::New,
+        (1, 1, 1),
+    ),
     (
         Step::Foliage(Called::House, 5000),
         EditOutcome::Other(Class::Receiver),
@@ -92,66 +76,6 @@ const ROWS: [Row; 15] = [
     (Step::Remove(Called::Lawn), EditOutcome::Replaced, (2, 0, 1)),
 ];
 
-fn text(called: Called) -> &'static [u8]
-    ensures plain { IsName result.now }
-    ensures any { IsAnyName result.now }
-{
-    match called {
-        Called::Wood => b"wood",
-        Called::Hedge => b"hedge",
-        Called::Lawn => b"lawn",
-        Called::House => b"house",
-    }
-}
-
-fn name(alloc: Global, called: Called) -> Result<PlainName, AllocError> {
-    Ok(PlainName::from_vec(text(called).to_vec(alloc)?))
-}
-
-fn foliage(alloc: Global, name: PlainName, h: i64) -> Result<RawPart, AllocError> {
-    let points = corners(alloc)?;
-    Ok(RawPart::Foliage { name, points, h })
-}
-
-fn building(alloc: Global, name: PlainName) -> Result<RawPart, AllocError> {
-    let points = corners(alloc)?;
-    Ok(RawPart::Building {
-        name,
-        points,
-        h: 1,
-        rho: 0,
-    })
-}
-
-fn zone(alloc: Global, name: PlainName) -> Result<RawPart, AllocError> {
-    let points = corners(alloc)?;
-    Ok(RawPart::Zone {
-        name,
-        points,
-        g: 100,
-    })
-}
-
-fn receiver(name: PlainName) -> RawPart {
-    RawPart::Receiver {
-        name,
-        x: 0,
-        y: 0,
-        h: 1,
-    }
-}
-
-fn take(scene: &mut Scene, alloc: Global, step: Step) -> Result<EditOutcome, AllocError> {
-    let raw = match step {
-        Step::Foliage(called, h) => foliage(alloc, name(alloc, called)?, h)?,
-        Step::Building(called) => building(alloc, name(alloc, called)?)?,
-        Step::Zone(called) => zone(alloc, name(alloc, called)?)?,
-        Step::Receiver(called) => receiver(name(alloc, called)?),
-        Step::Remove(called) => return remove(scene, alloc, text(called)),
-    };
-    Ok(put(scene, alloc, raw))
-}
-
 /// How many foliages, zones and receivers there are.
 fn counted(scene: &Scene) -> (usize, usize, usize) {
     (
@@ -182,19 +106,6 @@ fn edit_and_compare(rt: &impl Abort, alloc: Global, scene: &mut Scene) -> Result
     edit_all(rt, alloc, scene)?;
     assert!(rt; are_in_place(scene));
     Ok(())
-}
-
-/// Does and compares all that on a scene which is empty at first.
-fn edit_empty(rt: &impl Abort, alloc: Global) -> Result<(), AllocError> {
-    match Scene::empty(alloc) {
-        Ok(mut scene) => edit_and_compare(rt, alloc, &mut scene),
-        Err(_) => Err(AllocError),
-    }
-}
-
-#[test]
-fn foliage_is_edited_as_told(rt: HostRuntime) -> Result<(), Fail> {
-    Ok(edit_empty(&rt, rt.alloc())?)
 }
 
 /// The letter of this number.
@@ -235,19 +146,6 @@ fn overfill(rt: &impl Abort, alloc: Global, scene: &mut Scene) -> Result<(), All
     let again = put_numbered(scene, alloc, 1023)?;
     assert!(rt; again == EditOutcome::Replaced && counted(scene) == (1024, 0, 0));
     Ok(())
-}
-
-/// Puts all that into a scene which is empty at first.
-fn overfill_empty(rt: &impl Abort, alloc: Global) -> Result<(), AllocError> {
-    match Scene::empty(alloc) {
-        Ok(mut scene) => overfill(rt, alloc, &mut scene),
-        Err(_) => Err(AllocError),
-    }
-}
-
-#[test]
-fn foliage_is_full_at_1024(rt: HostRuntime) -> Result<(), Fail> {
-    Ok(overfill_empty(&rt, rt.alloc())?)
 }
 
 fn whole_setting(alloc: Global) -> Result<RawPart, AllocError> {
@@ -305,15 +203,47 @@ fn set_whole_and_all(rt: &impl Abort, alloc: Global, scene: &mut Scene) -> Resul
     set_all(rt, alloc, scene)
 }
 
-/// Sets all that of a scene which is empty at first.
-fn set_empty(rt: &impl Abort, alloc: Global) -> Result<(), AllocError> {
+/// What is looked at.
+#[derive(Clone, Copy)]
+enum Subject {
+    Edits,
+    Room,
+    Methods,
+}
+
+/// Looks at that in a scene which is empty so far.
+fn look_at(
+    rt: &impl Abort,
+    alloc: Global,
+    scene: &mut Scene,
+    subject: Subject,
+) -> Result<(), AllocError> {
+    match subject {
+        Subject::Edits => edit_and_compare(rt, alloc, scene),
+        Subject::Room => overfill(rt, alloc, scene),
+        Subject::Methods => set_whole_and_all(rt, alloc, scene),
+    }
+}
+
+/// Looks at that in a scene of its own.
+fn look_at_empty(rt: &impl Abort, alloc: Global, subject: Subject) -> Result<(), AllocError> {
     match Scene::empty(alloc) {
-        Ok(mut scene) => set_whole_and_all(rt, alloc, &mut scene),
+        Ok(mut scene) => look_at(rt, alloc, &mut scene, subject),
         Err(_) => Err(AllocError),
     }
 }
 
 #[test]
+fn foliage_is_edited_as_told(rt: HostRuntime) -> Result<(), Fail> {
+    Ok(look_at_empty(&rt, rt.alloc(), Subject::Edits)?)
+}
+
+#[test]
+fn foliage_is_full_at_1024(rt: HostRuntime) -> Result<(), Fail> {
+    Ok(look_at_empty(&rt, rt.alloc(), Subject::Room)?)
+}
+
+#[test]
 fn method_for_ground_is_set_alone(rt: HostRuntime) -> Result<(), Fail> {
-    Ok(set_empty(&rt, rt.alloc())?)
+    Ok(look_at_empty(&rt, rt.alloc(), Subject::Methods)?)
 }

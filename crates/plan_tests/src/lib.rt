@@ -12,3 +12,5 @@ mod outlines;
 mod parts;
 #[cfg(test)]
 mod sides;
+#[cfg(test)]
+mod steps;

@@ -1,7 +1,7 @@
 //! Parts and settings that are checked, with answers from outside, by an independent program: the least values outside
 //! each range, the greatest inside, and the first of two faults.
 use crate::outlines::outline;
-use scene_parts::{Field, PartFault, PlainName, RawPart, Word, check};
+use scene_parts::{Checked, Field, PartFault, PlainName, RawPart, Word, check};
 use std::alloc::{AllocError, Global};
 use std::process::Abort;
 use std::test::Fail;
@@ -286,6 +286,14 @@ fn raw(alloc: Global, given: Given) -> Result<RawPart, AllocError> {
     }
 }
 
+/// The answer to a part that was checked so.
+fn answered(checked: &Result<Checked, PartFault>) -> Answer {
+    match checked {
+        Ok(_) => Answer::Accepted,
+        Err(fault) => refused(fault),
+    }
+}
+
 /// The answer to a part that has this fault.
 fn refused(fault: &PartFault) -> Answer {
     match fault {
@@ -302,10 +310,7 @@ fn refused(fault: &PartFault) -> Answer {
 }
 
 fn told(alloc: Global, raw: RawPart) -> Answer {
-    match check(alloc, raw) {
-        Ok(_) => Answer::Accepted,
-        Err(fault) => refused(&fault),
-    }
+    answered(&check(alloc, raw))
 }
 
 /// Asserts the answers of these rows.

@@ -1,4 +1,5 @@
 //! Values from outside, calculated by an independent program over fractions without rounding.
+ghost use Rattle.scene_geom.specs.Direction.{FitsDirection};
 
 use scene_geom::{
     Dir, Frac, Pt, Reflection, Side, area2, blocks, crosses, dir_of, extent, hits, is_short,
@@ -142,8 +143,14 @@ fn is_crossed(
         found == crossing && blocks(wall, line.from, line.to) == blocked,
         "{wall:?}"
     );
-    let met = hits(wall, line.from, dir_of(line.from, line.to)).map(parts);
-    assert!(rt; met == hit, "{wall:?}");
+    is_hit(rt, wall, line.from, dir_of(line.from, line.to), hit);
+}
+
+/// Asserts where a leg from a point hits a wall.
+fn is_hit(rt: &impl Abort, wall: Side, from: Pt, dir: Dir, hit: Option<Parts>)
+    requires { FitsDirection dir }
+{
+    assert!(rt; hits(wall, from, dir).map(parts) == hit, "{wall:?}");
 }
 
 #[test]
@@ -151,10 +158,8 @@ fn sides_cross_and_block(rt: HostRuntime) {
     for (wall, way, crossing, blocked, hit) in &SIDES {
         is_crossed(&rt, side(*wall), side(*way), *crossing, *blocked, *hit);
     }
-    assert_eq!(rt;
-        orient(at((-M, M)), at((M, M)), at((M, -M))),
-        -64_000_000_000_000
-    );
+    let twice = orient(at((-M, M)), at((M, M)), at((M, -M)));
+    assert!(rt; twice == -64_000_000_000_000);
 }
 
 /// The corners of an outline, in mm.
@@ -220,13 +225,10 @@ const OUTLINES: &[Outline] = &[
 
 /// Asserts twice the area of an outline, its extent along a way, and whether it meets it.
 fn is_met(rt: &impl Abort, outline: &[Pt], line: Side, area: i128, across: i128, met: bool) {
-    assert_eq!(rt;
-        (area2(outline), extent(outline, line.from, line.to)),
-        (area, across)
-    );
+    let sizes = area2(outline) == area && extent(outline, line.from, line.to) == across;
     let ahead = dir_of(line.from, line.to);
     assert!(rt;
-        meets(outline, line.from, ahead, Frac { n: 1, d: 1 }) == met,
+        sizes && meets(outline, line.from, ahead, Frac { n: 1, d: 1 }) == met,
         "{line:?}"
     );
 }
@@ -265,70 +267,76 @@ const SECOND: Dir = Dir {
     w: 25_600_000_000,
 };
 
+/// Where the first leg hits the wall, a fifth of the way.
+const HIT: Frac = Frac {
+    n: 10_240_000_000_000_000_000,
+    d: 51_200_000_000_000_000_000,
+};
+
+const FIFTH: Frac = Frac { n: 1, d: 5 };
+
+/// Whether a leg passes a wall to its right.
+fn passes_right(wall: Side, from: Pt, dir: Dir) -> bool
+    requires { FitsDirection dir }
+{
+    match passes(wall, from, dir) {
+        Some(passage) => !passage.to_left,
+        None => false,
+    }
+}
+
 #[test]
 fn legs_are_hit(rt: HostRuntime) {
     let source = at((0, 0));
     let wall = side(((20_000, 30_000), (20_000, 10_000)));
-    let hit = Frac {
-        n: 10_240_000_000_000_000_000,
-        d: 51_200_000_000_000_000_000,
-    };
-    assert_eq!(rt;
-        [
-            hits(wall, source, FIRST),
-            hits(wall, at((100_000, 0)), SECOND)
-        ],
-        [Some(hit), None]
-    );
-    assert_eq!(rt;
-        passes(wall, source, FIRST).map(|passage| passage.to_left),
-        Some(false)
-    );
-    let fifth = Frac { n: 1, d: 5 };
-    assert_eq!(rt;
-        [lies_inside(hit, END), lies_inside(hit, fifth)],
-        [true, false]
-    );
+    is_hit(&rt, wall, source, FIRST, Some(parts(HIT)));
+    is_hit(&rt, wall, at((100_000, 0)), SECOND, None);
+    assert!(rt; passes_right(wall, source, FIRST));
+    assert!(rt; lies_inside(HIT, END) && !lies_inside(HIT, FIFTH));
+}
+
+const HOUSE: Corners = &[
+    (20_000, 20_000),
+    (40_000, 20_000),
+    (40_000, 40_000),
+    (20_000, 40_000),
+];
+
+/// Whether a house is met by the first leg, and not by the second.
+fn is_met_first(house: &[Pt]) -> bool {
+    meets(house, at((0, 0)), FIRST, END) && !meets(house, at((100_000, 0)), SECOND, END)
 }
 
 #[test]
 fn a_house_is_met_by_the_first_leg(rt: HostRuntime) -> Result<(), Fail> {
-    let house = corners(
-        rt.alloc(),
-        &[
-            (20_000, 20_000),
-            (40_000, 20_000),
-            (40_000, 40_000),
-            (20_000, 40_000),
-        ],
-    )?;
-    assert!(rt; meets(&house, at((0, 0)), FIRST, END));
-    assert!(rt; !meets(&house, at((100_000, 0)), SECOND, END));
+    let house = corners(rt.alloc(), HOUSE)?;
+    assert!(rt; is_met_first(&house));
     Ok(())
 }
 
+const GREATEST: Dir = Dir {
+    x: 2_110_000_000_000_000_000,
+    y: -2_110_000_000_000_000_000,
+    w: 68_718_952_449,
+};
+
+const FAR: Frac = Frac {
+    n: 4_398_012_956_736_000_000_000_000,
+    d: 33_760_000_000_000_000_000_000_000,
+};
+
+const HALF: Frac = Frac {
+    n: 2_970_000_000_000,
+    d: 5_940_000_000_000,
+};
+
 #[test]
 fn the_greatest_leg_is_hit(rt: HostRuntime) {
-    let greatest = Dir {
-        x: 2_110_000_000_000_000_000,
-        y: -2_110_000_000_000_000_000,
-        w: 68_718_952_449,
-    };
-    let diagonal = side(((-M, -M), (M, M)));
-    let far = Frac {
-        n: 4_398_012_956_736_000_000_000_000,
-        d: 33_760_000_000_000_000_000_000_000,
-    };
-    assert_eq!(rt; hits(diagonal, at((-M, M)), greatest), Some(far));
-    assert_eq!(rt;
-        hits(diagonal, at((M, -M)), greatest).map(parts),
-        Some((-far.n, far.d))
-    );
-    let end = Frac {
-        n: 2_970_000_000_000,
-        d: 5_940_000_000_000,
-    };
-    assert!(rt; lies_inside(far, end));
+    let diagonal = side(ACROSS);
+    is_hit(&rt, diagonal, at((-M, M)), GREATEST, Some(parts(FAR)));
+    let behind = Some((-FAR.n, FAR.d));
+    is_hit(&rt, diagonal, at((M, -M)), GREATEST, behind);
+    assert!(rt; lies_inside(FAR, HALF));
 }
 
 /// The path by way of a side, where it can reflect.
@@ -386,18 +394,17 @@ const REFLECTED: [Reflected; 3] = [
     ),
 ];
 
-/// Asserts the reflection that a row tells.
-fn is_reflection(rt: &impl Abort, path: &Reflection, row: &Reflected) {
-    let (_, _, (first_x, first_y), (second_x, second_y), w, p, squared) = *row;
-    assert_eq!(rt;
-        (path.first.x, path.first.y, path.first.w),
-        (first_x, first_y, w)
-    );
-    assert_eq!(rt;
-        (path.second.x, path.second.y, path.second.w),
-        (second_x, second_y, w)
-    );
-    assert_eq!(rt; [parts(path.p), parts(path.square)], [p, (squared, w)]);
+fn is_dir(dir: Dir, (x, y): (i128, i128), w: i128) -> bool {
+    dir.x == x && dir.y == y && dir.w == w
+}
+
+/// Whether a reflection is the one that a row tells.
+fn is_reflection(path: &Reflection, row: &Reflected) -> bool {
+    let (_, _, first, second, w, p, squared) = *row;
+    is_dir(path.first, first, w)
+        && is_dir(path.second, second, w)
+        && parts(path.p) == p
+        && parts(path.square) == (squared, w)
 }
 
 #[test]
@@ -406,7 +413,7 @@ fn walls_reflect(rt: HostRuntime) {
         let (wall, ends) = (row.0, side(row.1));
         match reflection(side(wall), ends.from, ends.to) {
             None => assert!(rt; false, "{wall:?}"),
-            Some(path) => is_reflection(&rt, &path, row),
+            Some(path) => assert!(rt; is_reflection(&path, row), "{wall:?}"),
         }
     }
 }
