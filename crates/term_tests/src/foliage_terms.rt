@@ -2,10 +2,11 @@
 
 ghost use Rattle.path_shape.specs.Shape.{IsPath};
 
-use crate::shared::{between, has_ends, place};
+use crate::shared::{End, Wall, between, direct, has_ends, name, outline, reflected};
+use fix_interval::Iv;
 use path_shape::Path;
-use scene_geom::{Band, Side, is_short, on_one_side};
-use scene_parts::{Checked, Foliage, Part, PlainName, RawPart, RawPoints, RawPt, check};
+use scene_geom::Band;
+use scene_parts::{Checked, Foliage, Part, PartFault, RawPart, check};
 use std::alloc::{AllocError, Global};
 use std::process::Abort;
 use std::test::Fail;
@@ -16,11 +17,10 @@ type Wood = (&'static [(i64, i64)], i64);
 
 struct Case {
     foliage: &'static [Wood],
-    /// Both coordinates and the height, in mm.
-    source: (i64, i64, u32),
-    receiver: (i64, i64, u32),
-    /// The ends of the side of a wall by way of which the path leads.
-    wall: Option<[(i64, i64); 2]>,
+    source: End,
+    receiver: End,
+    /// The wall by way of which the path leads.
+    wall: Option<Wall>,
     /// The length of the path, in units of 2^-32 m.
     length: (i128, i128),
     /// The attenuations from 63 Hz to 8 kHz, in units of 2^-32 dB.
@@ -677,23 +677,37 @@ const REFLECTED: [Case; 4] = [
     },
 ];
 
+/// The foliage that was checked, if it was one.
+fn checked_wood(checked: Result<Checked, PartFault>) -> Option<Foliage> {
+    match checked {
+        Ok(Checked::Part(Part::Foliage(wood))) => Some(wood),
+        _ => None,
+    }
+}
+
+/// The foliage of these corners and this height, if it is one.
+fn wood(alloc: Global, corners: &[(i64, i64)], h: i64) -> Result<Option<Foliage>, AllocError> {
+    let name = name(alloc)?;
+    let points = outline(alloc, corners)?;
+    let raw = RawPart::Foliage { name, points, h };
+    Ok(checked_wood(check(alloc, raw)))
+}
+
 fn woods(alloc: Global, foliage: &[Wood]) -> Result<Vec<Foliage>, AllocError> {
     let mut woods = Vec::new(alloc);
     for (corners, h) in foliage {
-        let mut points = Vec::new(alloc);
-        for (x, y) in *corners {
-            points.push(RawPt { x: *x, y: *y })?;
-        }
-        let raw = RawPart::Foliage {
-            name: PlainName::from_vec(b"a".to_vec(alloc)?),
-            points: RawPoints::from_vec(points),
-            h: *h,
-        };
-        if let Ok(Checked::Part(Part::Foliage(wood))) = check(alloc, raw) {
+        if let Some(wood) = wood(alloc, corners, *h)? {
             woods.push(wood)?;
         }
     }
     Ok(woods)
+}
+
+/// The attenuations over a distance through foliage are those of a case.
+fn has_bands_over(rt: &impl Abort, case: &Case, through: Iv) {
+    for (band, ends) in Band::all().iter().zip(&case.bands) {
+        has_ends(rt, a_fol_over(through, *band), *ends);
+    }
 }
 
 /// The attenuations of a path are those of a case, and none where the path is said to run through no foliage.
@@ -705,31 +719,9 @@ fn has_bands(rt: &impl Abort, case: &Case, woods: &[Foliage], path: &Path)
         has_ends(rt, *found, *ends);
     }
     match distance_through(woods, path, length) {
-        None => assert_eq!(rt; case.bands, NONE),
-        Some(through) => {
-            for (band, ends) in Band::all().iter().zip(&case.bands) {
-                has_ends(rt, a_fol_over(through, *band), *ends);
-            }
-        }
+        None => assert!(rt; case.bands == NONE),
+        Some(through) => has_bands_over(rt, case, through),
     }
-}
-
-/// The path of a case by way of a wall, whose side is short enough and has both ends on one side.
-fn reflected(rt: &impl Abort, case: &Case, wall: [(i64, i64); 2]) -> Path
-    ensures { IsPath result }
-{
-    let [(from_x, from_y), (to_x, to_y)] = wall;
-    let side = Side {
-        from: place(from_x, from_y),
-        to: place(to_x, to_y),
-    };
-    let (sx, sy, hs) = case.source;
-    let (rx, ry, hr) = case.receiver;
-    let source = place(sx, sy);
-    let receiver = place(rx, ry);
-    assert!(rt; is_short(side));
-    assert!(rt; on_one_side(side, source, receiver));
-    Path::reflected(side, source, hs, receiver, hr)
 }
 
 /// The path of a case.
@@ -737,51 +729,42 @@ fn path(rt: &impl Abort, case: &Case) -> Path
     ensures { IsPath result }
 {
     match case.wall {
-        None => {
-            let (sx, sy, hs) = case.source;
-            let (rx, ry, hr) = case.receiver;
-            Path::direct(place(sx, sy), hs, place(rx, ry), hr)
-        }
-        Some(wall) => reflected(rt, case, wall),
+        None => direct(case.source, case.receiver),
+        Some(wall) => reflected(rt, case.source, case.receiver, wall),
     }
 }
 
 /// The attenuations of a case.
 fn has_foliage(rt: &impl Abort, alloc: Global, case: &Case) -> Result<(), AllocError> {
     let woods = woods(alloc, case.foliage)?;
-    assert_eq!(rt; woods.len(), case.foliage.len());
+    assert!(rt; woods.len() == case.foliage.len());
     has_bands(rt, case, &woods, &path(rt, case));
+    Ok(())
+}
+
+fn have_foliage(rt: &impl Abort, alloc: Global, cases: &[Case]) -> Result<(), AllocError> {
+    for case in cases {
+        has_foliage(rt, alloc, case)?;
+    }
     Ok(())
 }
 
 #[test]
 fn foliage_below_its_top_has_these_ends(rt: HostRuntime) -> Result<(), Fail> {
-    for case in &HEIGHTS {
-        has_foliage(&rt, rt.alloc(), case)?;
-    }
-    Ok(())
+    Ok(have_foliage(&rt, rt.alloc(), &HEIGHTS)?)
 }
 
 #[test]
 fn steps_of_foliage_have_these_ends(rt: HostRuntime) -> Result<(), Fail> {
-    for case in &STEPS {
-        has_foliage(&rt, rt.alloc(), case)?;
-    }
-    Ok(())
+    Ok(have_foliage(&rt, rt.alloc(), &STEPS)?)
 }
 
 #[test]
 fn foliage_of_several_shapes_has_these_ends(rt: HostRuntime) -> Result<(), Fail> {
-    for case in &SHAPES {
-        has_foliage(&rt, rt.alloc(), case)?;
-    }
-    Ok(())
+    Ok(have_foliage(&rt, rt.alloc(), &SHAPES)?)
 }
 
 #[test]
 fn foliage_by_way_of_walls_has_these_ends(rt: HostRuntime) -> Result<(), Fail> {
-    for case in &REFLECTED {
-        has_foliage(&rt, rt.alloc(), case)?;
-    }
-    Ok(())
+    Ok(have_foliage(&rt, rt.alloc(), &REFLECTED)?)
 }

@@ -2,10 +2,9 @@
 
 ghost use Rattle.path_shape.specs.Shape.{IsPath};
 
-use crate::shared::{has_ends, place};
+use crate::shared::{End, Wall, direct, has_ends, name, outline, reflected};
 use path_shape::Path;
-use scene_geom::{Side, is_short, on_one_side};
-use scene_parts::{Checked, Part, PlainName, RawPart, RawPoints, RawPt, Zone, check};
+use scene_parts::{Checked, Part, PartFault, RawPart, Zone, check};
 use std::alloc::{AllocError, Global};
 use std::process::Abort;
 use std::test::Fail;
@@ -17,9 +16,8 @@ type Ground = (&'static [(i64, i64)], i64);
 struct Case {
     zones: &'static [Ground],
     g0: u8,
-    /// Both coordinates and the height, in mm.
-    source: (i64, i64, u32),
-    receiver: (i64, i64, u32),
+    source: End,
+    receiver: End,
     /// The ground factors of the source, middle and receiver region, in units of 2^-32.
     shares: [(i128, i128); 3],
     /// The attenuations from 63 Hz to 1 kHz, and at 2 kHz, which is that of the higher bands too, in units of 2^-32 dB.
@@ -457,7 +455,7 @@ const CASES: &[Case] = &[
 ];
 
 /// Paths by way of a wall, whose side has these ends.
-const REFLECTED: &[([(i64, i64); 2], Case)] = &[
+const REFLECTED: &[(Wall, Case)] = &[
     // Ground that only the second leg crosses.
     (
         [(49999, 30000), (149999, 30000)],
@@ -614,27 +612,33 @@ const REFLECTED: &[([(i64, i64); 2], Case)] = &[
     ),
 ];
 
+/// The zone that was checked, if it was one.
+fn checked_zone(checked: Result<Checked, PartFault>) -> Option<Zone> {
+    match checked {
+        Ok(Checked::Part(Part::Zone(zone))) => Some(zone),
+        _ => None,
+    }
+}
+
+/// The zone of these corners and this ground factor, if it is one.
+fn zone(alloc: Global, corners: &[(i64, i64)], g: i64) -> Result<Option<Zone>, AllocError> {
+    let name = name(alloc)?;
+    let points = outline(alloc, corners)?;
+    Ok(checked_zone(check(alloc, RawPart::Zone { name, points, g })))
+}
+
 fn zones(alloc: Global, grounds: &[Ground]) -> Result<Vec<Zone>, AllocError> {
     let mut zones = Vec::new(alloc);
     for (corners, g) in grounds {
-        let mut points = Vec::new(alloc);
-        for (x, y) in *corners {
-            points.push(RawPt { x: *x, y: *y })?;
-        }
-        let raw = RawPart::Zone {
-            name: PlainName::from_vec(b"a".to_vec(alloc)?),
-            points: RawPoints::from_vec(points),
-            g: *g,
-        };
-        if let Ok(Checked::Part(Part::Zone(zone))) = check(alloc, raw) {
+        if let Some(zone) = zone(alloc, corners, *g)? {
             zones.push(zone)?;
         }
     }
     Ok(zones)
 }
 
-/// The ends of a path among zones are those of a case.
-fn has_ground(rt: &impl Abort, case: &Case, zones: &[Zone], path: &Path)
+/// The shares of ground below a path among zones are those of a case.
+fn has_shares(rt: &impl Abort, case: &Case, zones: &[Zone], path: &Path)
     requires { IsPath path.now }
 {
     let [source, middle, receiver] = case.shares;
@@ -653,68 +657,74 @@ fn has_ground(rt: &impl Abort, case: &Case, zones: &[Zone], path: &Path)
         region_share(zones, case.g0, path, Region::Receiver),
         receiver,
     );
-    let [at_63, at_125, at_250, at_500, at_1000, high] = case.bands;
-    let expected = [at_63, at_125, at_250, at_500, at_1000, high, high, high];
+}
+
+/// The ends of all bands, of which the last three are alike.
+fn all_bands(
+    [at_63, at_125, at_250, at_500, at_1000, high]: [(i128, i128); 6],
+) -> [(i128, i128); 8] {
+    [at_63, at_125, at_250, at_500, at_1000, high, high, high]
+}
+
+/// The attenuations of a path among zones are those of a case.
+fn has_bands(rt: &impl Abort, case: &Case, zones: &[Zone], path: &Path)
+    requires { IsPath path.now }
+{
+    let expected = all_bands(case.bands);
     for (found, ends) in a_gr(zones, case.g0, path).iter().zip(&expected) {
         has_ends(rt, *found, *ends);
     }
 }
 
+/// The shares and the attenuations of a path among zones are those of a case, of which each zone is one.
+fn has_ground(rt: &impl Abort, case: &Case, zones: &[Zone], path: &Path)
+    requires { IsPath path.now }
+{
+    assert!(rt; zones.len() == case.zones.len());
+    has_shares(rt, case, zones, path);
+    has_bands(rt, case, zones, path);
+}
+
 /// The ends of a case's direct path among its zones are those of the case.
 fn expect_direct(rt: &impl Abort, alloc: Global, case: &Case) -> Result<(), AllocError> {
     let zones = zones(alloc, case.zones)?;
-    assert_eq!(rt; zones.len(), case.zones.len());
-    let (sx, sy, hs) = case.source;
-    let (rx, ry, hr) = case.receiver;
-    let path = Path::direct(place(sx, sy), hs, place(rx, ry), hr);
-    has_ground(rt, case, &zones, &path);
+    has_ground(rt, case, &zones, &direct(case.source, case.receiver));
+    Ok(())
+}
+
+fn all_direct(rt: &impl Abort, alloc: Global, cases: &[Case]) -> Result<(), AllocError> {
+    for case in cases {
+        expect_direct(rt, alloc, case)?;
+    }
     Ok(())
 }
 
 #[test]
 fn ground_has_these_ends(rt: HostRuntime) -> Result<(), Fail> {
-    for case in CASES {
-        expect_direct(&rt, rt.alloc(), case)?;
-    }
-    Ok(())
-}
-
-/// The path of a case by way of a wall, whose side is short enough and has both ends on one side.
-fn reflected(rt: &impl Abort, case: &Case, wall: [(i64, i64); 2]) -> Path
-    ensures { IsPath result }
-{
-    let [(from_x, from_y), (to_x, to_y)] = wall;
-    let side = Side {
-        from: place(from_x, from_y),
-        to: place(to_x, to_y),
-    };
-    let (sx, sy, hs) = case.source;
-    let (rx, ry, hr) = case.receiver;
-    let source = place(sx, sy);
-    let receiver = place(rx, ry);
-    assert!(rt; is_short(side));
-    assert!(rt; on_one_side(side, source, receiver));
-    Path::reflected(side, source, hs, receiver, hr)
+    Ok(all_direct(&rt, rt.alloc(), CASES)?)
 }
 
 /// The ends of a case's path by way of a wall among its zones are those of the case.
 fn expect_reflected(
     rt: &impl Abort,
     alloc: Global,
-    wall: [(i64, i64); 2],
+    wall: Wall,
     case: &Case,
 ) -> Result<(), AllocError> {
     let zones = zones(alloc, case.zones)?;
-    assert_eq!(rt; zones.len(), case.zones.len());
-    let path = reflected(rt, case, wall);
+    let path = reflected(rt, case.source, case.receiver, wall);
     has_ground(rt, case, &zones, &path);
+    Ok(())
+}
+
+fn all_reflected(rt: &impl Abort, alloc: Global, cases: &[(Wall, Case)]) -> Result<(), AllocError> {
+    for (wall, case) in cases {
+        expect_reflected(rt, alloc, *wall, case)?;
+    }
     Ok(())
 }
 
 #[test]
 fn ground_by_way_of_walls_has_these_ends(rt: HostRuntime) -> Result<(), Fail> {
-    for (wall, case) in REFLECTED {
-        expect_reflected(&rt, rt.alloc(), *wall, case)?;
-    }
-    Ok(())
+    Ok(all_reflected(&rt, rt.alloc(), REFLECTED)?)
 }

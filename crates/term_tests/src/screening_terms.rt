@@ -4,6 +4,7 @@ ghost use Rattle.std.specs.Prelude.{All, IfSome, IfOk};
 ghost use Rattle.path_shape.specs.Shape.{IsPath};
 ghost use Rattle.term_barrier.specs.Edges.{FitsEdge};
 
+use crate::shared::{End, direct, has_ends, place};
 use fix_interval::{Iv, ratio, root};
 use path_shape::Path;
 use scene_geom::{Band, Pt, Side, crosses, dir_of};
@@ -13,15 +14,12 @@ use std::process::Abort;
 use std::test::Fail;
 use term_barrier::{Screens, a_bar, d_z_side, d_z_top};
 
-/// Both coordinates and the height, in mm.
-type Place = (i64, i64, u32);
-
 /// A side that crosses the line of sight, its height in mm, and whether it rises above the line.
 type Wall = ((i64, i64), (i64, i64), u32, bool);
 
 struct Case {
-    source: Place,
-    receiver: Place,
+    source: End,
+    receiver: End,
     /// The square of their distance, in mm².
     square: i128,
     walls: &'static [Wall],
@@ -206,8 +204,8 @@ const CASES: &[Case] = &[
 ];
 
 struct Round {
-    source: Place,
-    receiver: Place,
+    source: End,
+    receiver: End,
     square: i128,
     corners: &'static [(i64, i64)],
     band: Band,
@@ -269,13 +267,6 @@ const ROUND: &[Round] = &[
     },
 ];
 
-fn at((x, y): (i64, i64)) -> Pt {
-    Pt::new(
-        x.clamp(-4_000_000, 4_000_000),
-        y.clamp(-4_000_000, 4_000_000),
-    )
-}
-
 /// The length in metres whose square is so many mm².
 fn metres(square: i128) -> Iv {
     root(ratio(square, 1_000_000))
@@ -285,8 +276,8 @@ fn edge(wall: &Wall, s: Pt, r: Pt) -> Option<Edge>
     ensures { IfSome result FitsEdge }
 {
     let side = Side {
-        from: at(wall.0),
-        to: at(wall.1),
+        from: place(wall.0),
+        to: place(wall.1),
     };
     let t = crosses(side, s, r)?;
     Some(Edge {
@@ -310,8 +301,13 @@ fn edges(alloc: Global, walls: &[Wall], s: Pt, r: Pt) -> Result<Vec<Edge>, Alloc
     Ok(edges)
 }
 
-fn ends(i: Iv) -> (Option<i128>, Option<i128>) {
-    (i.low(), i.high())
+/// The edges of a case.
+fn edges_of(alloc: Global, case: &Case) -> Result<Vec<Edge>, AllocError>
+    ensures { IfOk result (λ edges. All FitsEdge edges.items) }
+{
+    let (sx, sy, _) = case.source;
+    let (rx, ry, _) = case.receiver;
+    edges(alloc, case.walls, place((sx, sy)), place((rx, ry)))
 }
 
 /// The screening of a case's path by these edges is that of the case.
@@ -319,69 +315,75 @@ fn has_screening(rt: &impl Abort, case: &Case, path: &Path, edges: &[Edge])
     requires path { IsPath path.now }
     requires edges { All FitsEdge edges.now }
 {
+    assert!(rt; edges.len() == case.walls.len());
     let d = metres(case.square);
     let top = d_z_top(path, edges, d, case.band);
-    assert_eq!(rt; ends(top), (Some(case.top.0), Some(case.top.1)));
+    has_ends(rt, top, case.top);
     let screened = a_bar(path, edges, d, ratio(case.gr, 100), case.band);
-    assert_eq!(rt;
-        ends(screened),
-        (Some(case.screened.0), Some(case.screened.1))
-    );
+    has_ends(rt, screened, case.screened);
 }
 
 /// The screening of a case's path by its walls is that of the case.
 fn expect_screening(rt: &impl Abort, alloc: Global, case: &Case) -> Result<(), AllocError> {
-    let (sx, sy, hs) = case.source;
-    let (rx, ry, hr) = case.receiver;
-    let (s, r) = (at((sx, sy)), at((rx, ry)));
-    let path = Path::direct(s, hs, r, hr);
-    let edges = edges(alloc, case.walls, s, r)?;
-    assert_eq!(rt; edges.len(), case.walls.len());
+    let path = direct(case.source, case.receiver);
+    let edges = edges_of(alloc, case)?;
     has_screening(rt, case, &path, &edges);
+    Ok(())
+}
+
+fn all_screened(rt: &impl Abort, alloc: Global, cases: &[Case]) -> Result<(), AllocError> {
+    for case in cases {
+        expect_screening(rt, alloc, case)?;
+    }
     Ok(())
 }
 
 #[test]
 fn screens_attenuate(rt: HostRuntime) -> Result<(), Fail> {
-    for case in CASES {
-        expect_screening(&rt, rt.alloc(), case)?;
+    Ok(all_screened(&rt, rt.alloc(), CASES)?)
+}
+
+fn points(alloc: Global, places: &[(i64, i64)]) -> Result<Vec<Pt>, AllocError> {
+    let mut points = Vec::new(alloc);
+    for at in places {
+        points.push(place(*at))?;
+    }
+    Ok(points)
+}
+
+/// The screening of a case's way round its corners is that of the case.
+fn has_side(rt: &impl Abort, case: &Round, corners: &[Pt]) {
+    let (sx, sy, hs) = case.source;
+    let (rx, ry, hr) = case.receiver;
+    let (s, r) = (place((sx, sy)), place((rx, ry)));
+    assert!(rt; !corners.is_empty());
+    let d = metres(case.square);
+    has_ends(rt, d_z_side(s, hs, r, hr, corners, d, case.band), case.side);
+}
+
+fn have_sides(rt: &impl Abort, alloc: Global, cases: &[Round]) -> Result<(), AllocError> {
+    for case in cases {
+        has_side(rt, case, &points(alloc, case.corners)?);
     }
     Ok(())
 }
 
 #[test]
 fn corners_attenuate(rt: HostRuntime) -> Result<(), Fail> {
-    let alloc = rt.alloc();
-    for case in ROUND {
-        let (sx, sy, hs) = case.source;
-        let (rx, ry, hr) = case.receiver;
-        let mut corners = Vec::new(alloc);
-        for corner in case.corners {
-            corners.push(at(*corner))?;
-        }
-        assert!(rt; !corners.is_empty());
-        let side = d_z_side(
-            at((sx, sy)),
-            hs,
-            at((rx, ry)),
-            hr,
-            corners.as_slice(),
-            metres(case.square),
-            case.band,
-        );
-        assert_eq!(rt; ends(side), (Some(case.side.0), Some(case.side.1)));
-    }
-    Ok(())
+    Ok(have_sides(&rt, rt.alloc(), ROUND)?)
 }
 
-/// What is screened of a case's path where all its edges count, and where none does.
-fn expect_marked(rt: &impl Abort, alloc: Global, case: &Case) -> Result<(), AllocError> {
-    let (sx, sy, hs) = case.source;
-    let (rx, ry, hr) = case.receiver;
-    let (s, r) = (at((sx, sy)), at((rx, ry)));
-    let path = Path::direct(s, hs, r, hr);
-    let edges = edges(alloc, case.walls, s, r)?;
-    match Screens::of(alloc, &path, &edges, metres(case.square)) {
+/// What is screened of a case's path where all these edges count, and where none does.
+fn has_marked(
+    rt: &impl Abort,
+    alloc: Global,
+    case: &Case,
+    path: &Path,
+    edges: &[Edge],
+) -> Result<(), AllocError>
+    requires { All FitsEdge edges.now }
+{
+    match Screens::of(alloc, path, edges, metres(case.square)) {
         Ok(screens) => {
             leaves_out(rt, case, &screens);
             Ok(())
@@ -390,21 +392,32 @@ fn expect_marked(rt: &impl Abort, alloc: Global, case: &Case) -> Result<(), Allo
     }
 }
 
+/// What is screened of a case's path where all its edges count, and where none does.
+fn expect_marked(rt: &impl Abort, alloc: Global, case: &Case) -> Result<(), AllocError> {
+    let path = direct(case.source, case.receiver);
+    let edges = edges_of(alloc, case)?;
+    has_marked(rt, alloc, case, &path, &edges)
+}
+
 /// Asserts that of a case's path all is screened by all edges, and nothing by none.
 fn leaves_out(rt: &impl Abort, case: &Case, screens: &Screens) {
     let gr = ratio(case.gr, 100);
     let all = screens.a_bar(&[true; 3], gr, case.band);
-    assert_eq!(rt; ends(all), (Some(case.screened.0), Some(case.screened.1)));
+    has_ends(rt, all, case.screened);
     let none = screens.a_bar(&[false; 3], gr, case.band);
-    assert_eq!(rt; ends(none), (Some(0), Some(0)));
+    has_ends(rt, none, (0, 0));
+}
+
+fn all_marked(rt: &impl Abort, alloc: Global, cases: &[Case]) -> Result<(), AllocError> {
+    for case in cases {
+        expect_marked(rt, alloc, case)?;
+    }
+    Ok(())
 }
 
 #[test]
 fn marks_leave_edges_out(rt: HostRuntime) -> Result<(), Fail> {
-    for case in CASES {
-        expect_marked(&rt, rt.alloc(), case)?;
-    }
-    Ok(())
+    Ok(all_marked(&rt, rt.alloc(), CASES)?)
 }
 
 /// The edge with its side shrunk to a point: then nothing bounds what stands under its logarithm.
@@ -426,23 +439,40 @@ const BESIDE: [([bool; 2], (i128, i128)); 3] = [
     ([false, true], (0, 85_899_345_920)),
 ];
 
+/// Asserts what is screened where the marks let two edges count.
+fn has_beside(rt: &impl Abort, screens: &Screens) {
+    for (marks, expected) in &BESIDE {
+        has_ends(
+            rt,
+            screens.a_bar(marks, ratio(0, 1), Band::Hz1000),
+            *expected,
+        );
+    }
+}
+
+/// What is screened by an edge, and by one before it that is without bounds.
+fn expect_beside(rt: &impl Abort, alloc: Global, edges: &[Edge]) -> Result<(), AllocError>
+    requires { All FitsEdge edges.now }
+{
+    let path = direct((0, 0, 2000), (100_000, 0, 2000));
+    match Screens::of(alloc, &path, edges, metres(10_000_000_000)) {
+        Ok(screens) => {
+            has_beside(rt, &screens);
+            Ok(())
+        }
+        Err(_) => Err(AllocError),
+    }
+}
+
 #[test]
 fn an_edge_without_bounds_leaves_the_others_theirs(rt: HostRuntime) -> Result<(), Fail> {
-    let alloc = rt.alloc();
-    let (s, r) = (at((0, 0)), at((100_000, 0)));
-    let path = Path::direct(s, 2000, r, 2000);
+    let (s, r) = (place((0, 0)), place((100_000, 0)));
     let behind = edge(&((60_000, -50_000), (60_000, 50_000), 5000, true), s, r);
     let before = edge(&((40_000, -50_000), (40_000, 50_000), 6000, true), s, r);
-    let (Some(behind), Some(before)) = (behind, before) else {
-        return Err(AllocError.into());
-    };
-    let edges = [behind, at_a_point(before)];
-    let Ok(screens) = Screens::of(alloc, &path, &edges, metres(10_000_000_000)) else {
-        return Err(AllocError.into());
-    };
-    for (marks, expected) in &BESIDE {
-        let attenuation = screens.a_bar(marks, ratio(0, 1), Band::Hz1000);
-        assert_eq!(rt; ends(attenuation), (Some(expected.0), Some(expected.1)));
+    match (behind, before) {
+        (Some(behind), Some(before)) => {
+            Ok(expect_beside(&rt, rt.alloc(), &[behind, at_a_point(before)])?)
+        }
+        _ => Err(AllocError.into()),
     }
-    Ok(())
 }

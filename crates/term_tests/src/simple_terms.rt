@@ -1,14 +1,12 @@
 //! Values from outside, by an independent exact program: the ends of the ground by the alternative method.
 
-use crate::shared::{between, has_ends, place};
-use path_shape::Path;
-use std::test::Fail;
+use crate::shared::{End, between, direct, has_ends};
+use std::process::Abort;
 use term_ground::{a_gr_simple, d_omega};
 
 struct Case {
-    /// Both coordinates and the height, in mm.
-    source: (i64, i64, u32),
-    receiver: (i64, i64, u32),
+    source: End,
+    receiver: End,
     /// The length of the path, in units of 2^-32 m, and the square of its plan length, in units of 2^-32 m².
     length: (i128, i128),
     square: (i128, i128),
@@ -152,18 +150,20 @@ const CASES: [Case; 16] = [
     },
 ];
 
-#[test]
-fn simple_ground_has_these_ends(rt: HostRuntime) -> Result<(), Fail> {
-    for case in &CASES {
-        let (sx, sy, hs) = case.source;
-        let (rx, ry, hr) = case.receiver;
-        let path = Path::direct(place(sx, sy), hs, place(rx, ry), hr);
-        has_ends(
-            &rt,
-            a_gr_simple(&path, between(case.length)),
-            case.attenuation,
-        );
-        has_ends(&rt, d_omega(&path, between(case.square)), case.index);
+fn has_simple(rt: &impl Abort, case: &Case) {
+    let path = direct(case.source, case.receiver);
+    let found = a_gr_simple(&path, between(case.length));
+    has_ends(rt, found, case.attenuation);
+    has_ends(rt, d_omega(&path, between(case.square)), case.index);
+}
+
+fn have_simple(rt: &impl Abort, cases: &[Case]) {
+    for case in cases {
+        has_simple(rt, case);
     }
-    Ok(())
+}
+
+#[test]
+fn simple_ground_has_these_ends(rt: HostRuntime) {
+    have_simple(&rt, &CASES);
 }

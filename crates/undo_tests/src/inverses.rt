@@ -1,13 +1,14 @@
 //! What undoes each kind of edit of a small scene.
 use command_lines::{Command, command};
 use scene_book::{Edit, Scene};
-use scene_parts::{Foliage, Ground, Part, SetSpec, Zone};
-use scene_undo::inverse;
-use std::alloc::Global;
+use scene_parts::{Ground, Part, SetSpec};
+use scene_undo::{Inverse, inverse};
+use std::alloc::{AllocError, Global};
 use std::process::Abort;
 use std::test::Fail;
 
 /// An edit as it is to be.
+#[derive(Clone, Copy)]
 enum Told {
     /// The put of a receiver of this name and height.
     Receiver(&'static str, u32),
@@ -82,30 +83,77 @@ const ROWS: [Row; 11] = [
     ),
 ];
 
-fn edit_of(alloc: Global, line: &str) -> Result<Edit, Fail> {
-    match command(alloc, line.as_bytes())? {
-        Command::Edit(edit) => Ok(edit),
-        _ => Err(Fail::from("no edit")),
+/// The edit of a line, if it is one.
+fn edit_of(alloc: Global, line: &str) -> Option<Edit> {
+    match command(alloc, line.as_bytes()) {
+        Ok(Command::Edit(edit)) => Some(edit),
+        _ => None,
     }
 }
 
-fn scene(alloc: Global) -> Result<Scene, Fail> {
-    let mut scene = Scene::empty(alloc)?;
+/// Makes an edit, and tells whether the scene takes it.
+fn takes(alloc: Global, scene: &mut Scene, edit: &Edit) -> bool {
+    scene.apply(alloc, edit).is_ok()
+}
+
+/// Makes edits, one after another, and tells whether the scene takes all.
+fn takes_all(alloc: Global, scene: &mut Scene, edits: &[Edit]) -> bool {
+    for edit in edits {
+        if !takes(alloc, scene, edit) {
+            return false;
+        }
+    }
+    true
+}
+
+/// Makes the edit of a line, and tells whether the scene takes it.
+fn takes_line(alloc: Global, scene: &mut Scene, line: &str) -> bool {
+    match edit_of(alloc, line) {
+        Some(edit) => takes(alloc, scene, &edit),
+        None => false,
+    }
+}
+
+/// Puts what the scene holds.
+fn fill(rt: &impl Abort, alloc: Global, scene: &mut Scene) {
     for line in &SCENE {
-        scene.apply(alloc, &edit_of(alloc, line)?)?;
+        assert!(rt; takes_line(alloc, scene, line), "{line}");
     }
-    Ok(scene)
 }
 
-fn is_zone(zone: &Zone, name: &str, g: u8) -> bool {
-    zone.name.items() == name.as_bytes() && zone.g == g
+fn puts_receiver(edit: &Edit, name: &str, h: u32) -> bool {
+    match edit {
+        Edit::Put(Part::Receiver(receiver)) => {
+            receiver.name.items() == name.as_bytes() && receiver.h == h
+        }
+        _ => false,
+    }
 }
 
-fn is_foliage(foliage: &Foliage, name: &str, h: u32) -> bool {
-    foliage.name.items() == name.as_bytes() && foliage.h == h
+fn puts_zone(edit: &Edit, name: &str, g: u8) -> bool {
+    match edit {
+        Edit::Put(Part::Zone(zone)) => zone.name.items() == name.as_bytes() && zone.g == g,
+        _ => false,
+    }
 }
 
-fn sets_all(setting: &SetSpec, reach: u32, g: u8, ground: Ground) -> bool {
+fn puts_foliage(edit: &Edit, name: &str, h: u32) -> bool {
+    match edit {
+        Edit::Put(Part::Foliage(foliage)) => {
+            foliage.name.items() == name.as_bytes() && foliage.h == h
+        }
+        _ => false,
+    }
+}
+
+fn removes(edit: &Edit, name: &str) -> bool {
+    match edit {
+        Edit::Remove(gone) => gone.items() == name.as_bytes(),
+        _ => false,
+    }
+}
+
+fn is_whole(setting: &SetSpec, reach: u32, g: u8, ground: Ground) -> bool {
     setting.reach == Some(reach)
         && setting.g == Some(g)
         && setting.air.is_some()
@@ -113,30 +161,31 @@ fn sets_all(setting: &SetSpec, reach: u32, g: u8, ground: Ground) -> bool {
         && setting.ground == Some(ground)
 }
 
-/// Whether an edit is told so.
-fn is_told(edit: &Edit, told: &Told) -> bool {
-    match (edit, told) {
-        (Edit::Put(Part::Receiver(receiver)), Told::Receiver(name, h)) => {
-            receiver.name.items() == name.as_bytes() && receiver.h == *h
-        }
-        (Edit::Put(Part::Zone(zone)), Told::Zone(name, g)) => is_zone(zone, name, *g),
-        (Edit::Put(Part::Foliage(foliage)), Told::Foliage(name, h)) => {
-            is_foliage(foliage, name, *h)
-        }
-        (Edit::Remove(name), Told::Remove(told)) => name.items() == told.as_bytes(),
-        (Edit::Set(setting), Told::Set(reach, g, ground)) => {
-            sets_all(setting, *reach, *g, *ground)
-        }
+fn sets_all(edit: &Edit, reach: u32, g: u8, ground: Ground) -> bool {
+    match edit {
+        Edit::Set(setting) => is_whole(setting, reach, g, ground),
         _ => false,
     }
 }
 
+/// Whether an edit is told so.
+fn is_told(edit: &Edit, told: Told) -> bool {
+    match told {
+        Told::Receiver(name, h) => puts_receiver(edit, name, h),
+        Told::Zone(name, g) => puts_zone(edit, name, g),
+        Told::Foliage(name, h) => puts_foliage(edit, name, h),
+        Told::Remove(name) => removes(edit, name),
+        Told::Set(reach, g, ground) => sets_all(edit, reach, g, ground),
+    }
+}
+
 fn are_told(edits: &[Edit], told: &[Told]) -> bool {
+    for (edit, told) in edits.iter().zip(told) {
+        if !is_told(edit, *told) {
+            return false;
+        }
+    }
     edits.len() == told.len()
-        && edits
-            .iter()
-            .zip(told)
-            .all(|(edit, told)| is_told(edit, told))
 }
 
 /// How many parts of each kind a scene has.
@@ -148,25 +197,73 @@ fn counts(scene: &Scene) -> (usize, usize, usize) {
     )
 }
 
+/// Makes an edit, and then these, which lead back.
+fn lead_back(rt: &impl Abort, alloc: Global, scene: &mut Scene, edit: &Edit, back: &[Edit]) {
+    let before = counts(scene);
+    assert!(rt; takes(alloc, scene, edit) && takes_all(alloc, scene, back));
+    assert!(rt; counts(scene) == before);
+}
+
+/// Makes an edit, and undoes it by this inverse, which is told so.
+fn undo(
+    rt: &impl Abort,
+    alloc: Global,
+    scene: &mut Scene,
+    edit: &Edit,
+    back: Inverse,
+    told: &[Told],
+) {
+    assert!(rt; are_told(back.items(), told));
+    lead_back(rt, alloc, scene, edit, &back.into_vec());
+}
+
 /// An edit made, and undone.
-fn tell(rt: &impl Abort, alloc: Global, row: &Row) -> Result<(), Fail> {
-    let mut scene = scene(alloc)?;
-    let before = counts(&scene);
-    let edit = edit_of(alloc, row.0)?;
-    let back = inverse(alloc, &edit, &scene)?;
-    assert!(rt; are_told(back.items(), row.1));
-    scene.apply(alloc, &edit)?;
-    for edit in &back.into_vec() {
-        scene.apply(alloc, edit)?;
+fn tell_edit(
+    rt: &impl Abort,
+    alloc: Global,
+    scene: &mut Scene,
+    edit: &Edit,
+    told: &[Told],
+) -> Result<(), AllocError> {
+    fill(rt, alloc, scene);
+    match inverse(alloc, edit, scene) {
+        Ok(back) => {
+            undo(rt, alloc, scene, edit, back, told);
+            Ok(())
+        }
+        Err(_) => Err(AllocError),
     }
-    assert!(rt; counts(&scene) == before);
+}
+
+/// An edit made in a scene which is empty at first, and undone.
+fn tell_empty(
+    rt: &impl Abort,
+    alloc: Global,
+    edit: &Edit,
+    told: &[Told],
+) -> Result<(), AllocError> {
+    match Scene::empty(alloc) {
+        Ok(mut scene) => tell_edit(rt, alloc, &mut scene, edit, told),
+        Err(_) => Err(AllocError),
+    }
+}
+
+/// The edit of a line made and undone.
+fn tell(rt: &impl Abort, alloc: Global, line: &str, told: &[Told]) -> Result<(), AllocError> {
+    match edit_of(alloc, line) {
+        Some(edit) => tell_empty(rt, alloc, &edit, told),
+        None => Err(AllocError),
+    }
+}
+
+fn tell_all(rt: &impl Abort, alloc: Global, rows: &[Row]) -> Result<(), AllocError> {
+    for (line, told) in rows {
+        tell(rt, alloc, line, told)?;
+    }
     Ok(())
 }
 
 #[test]
 fn edits_are_undone(rt: HostRuntime) -> Result<(), Fail> {
-    for row in &ROWS {
-        tell(&rt, rt.alloc(), row)?;
-    }
-    Ok(())
+    Ok(tell_all(&rt, rt.alloc(), &ROWS)?)
 }
