@@ -209,12 +209,12 @@ try_lengths() {
     echo "look,0,0,,,," > "$room/look"
     echo "refused,0,1,LongLine,,," > "$room/long"
     echo "refused,0,1,NotJson,,," > "$room/broken"
-    printf '%s%65523s\n' "$look" '' > "$room/line"
+    printf '%s%65523s\n' "$look_line" '' > "$room/line"
     expect "a line of 65,536 bytes" 0 "$room/look" "" "$program" < "$room/line"
-    printf '%s%65524s\n' "$look" '' > "$room/line"
+    printf '%s%65524s\n' "$look_line" '' > "$room/line"
     expect "a line of 65,537 bytes" 1 "$room/long" "" "$program" < "$room/line"
-    for size in $(seq 1 $((${#fan} - 1))); do
-        printf "%.${size}s" "$fan" > "$room/line"
+    for size in $(seq 1 $((${#source_line} - 1))); do
+        printf "%.${size}s" "$source_line" > "$room/line"
         expect "a line cut off behind $size bytes" 1 "$room/broken" "" "$program" < "$room/line"
     done
 }
@@ -222,9 +222,9 @@ try_lengths() {
 # A last line without its line feed, and lines with carriage returns.
 try_line_ends() {
     { echo "settle,2,1,,,,"; echo "row,2,r,current,,51.62,51.64"; } > "$room/settled"
-    printf '%s\n%s\n%s' "$fan" "$house" "$settle" > "$room/line"
+    printf '%s\n%s\n%s' "$source_line" "$receiver_line" "$settle_line" > "$room/line"
     expect "a line without a line feed" 0 "$room/settled" "" "$program" < "$room/line"
-    printf '%s\r\n' "$fan" "$house" "$settle" > "$room/line"
+    printf '%s\r\n' "$source_line" "$receiver_line" "$settle_line" > "$room/line"
     expect "lines with carriage returns" 0 "$room/settled" "" "$program" < "$room/line"
 }
 
@@ -238,7 +238,7 @@ nested() {
 
 # behind NAME STATUS ROW: a hostile line, which is read, has this row, and the look behind it is done.
 behind() {
-    { cat; printf '\n%s\n' "$look"; } > "$room/line"
+    { cat; printf '\n%s\n' "$look_line"; } > "$room/line"
     { echo "$3"; echo "look,0,0,,,,"; } > "$room/looks"
     expect "a look behind $1" "$2" "$room/looks" "" "$program" < "$room/line"
 }
@@ -257,7 +257,7 @@ try_hostile_lines() {
 # As many receivers and sources as may be, and one more.
 try_full() {
     echo "refused,1,2,Full,receiver,4096," > "$room/full_of_receivers"
-    { head -n 1 "$room/many"; echo "$house"; } > "$room/line"
+    { head -n 1 "$room/many"; echo "$receiver_line"; } > "$room/line"
     expect "the 4,097th receiver" 1 "$room/full_of_receivers" "" "$program" < "$room/line"
     echo "refused,128,129,Full,source,128," > "$room/full_of_sources"
     for number in $(seq 0 128); do
@@ -310,10 +310,10 @@ try_memory() {
 }
 
 # Inputs: single lines; many rows; the limit, and one byte more; many sides, for try_screens; much memory.
-fan='{"do":"source","name":"s","kind":"industry","x":0,"y":0,"h":2000,"lw":[null,null,null,null,10000,null,null,null]}'
-house='{"do":"receiver","name":"r","x":100000,"y":0,"h":2000}'
-settle='{"do":"settle"}'
-look='{"do":"look"}'
+source_line='{"do":"source","name":"s","kind":"industry","x":0,"y":0,"h":2000,"lw":[null,null,null,null,10000,null,null,null]}'
+receiver_line='{"do":"receiver","name":"r","x":100000,"y":0,"h":2000}'
+settle_line='{"do":"settle"}'
+look_line='{"do":"look"}'
 {
     echo '{"do":"grid","name":"g","x":0,"y":0,"step":1000,"columns":64,"rows":64,"h":4000}'
     yes '{"do":"settle"}' | head -n 20
