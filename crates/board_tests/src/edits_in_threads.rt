@@ -1,6 +1,6 @@
 //! Edits whose marks come from several threads, beside the same edits in one thread, with ample memory. Which rows an edit
 //! touches is told from the plan: a barrier stands in the way of those receivers alone that lie behind it.
-use crate::late_answers::{corners, put};
+use crate::edits::{barrier, put};
 use crate::solving::solve;
 use map_board::{Board, Shown, Took};
 use scene_book::Edit;
@@ -58,19 +58,8 @@ fn receivers(alloc: Global, columns: i64, rows: i64) -> Option<Edit> {
 }
 
 /// A low barrier 50 m in the east of the sources, in the way of the first row of receivers alone.
-fn barrier(alloc: Global) -> Option<Edit> {
-    let points = corners(alloc, &[(50_000, -2000), (50_000, 2000)])?;
-    let name = PlainName::from_vec(b"barrier".to_vec(alloc).ok()?);
-    put(
-        alloc,
-        RawPart::Barrier {
-            name,
-            points,
-            h: 3000,
-            density: 20,
-            rho: 0,
-        },
-    )
+fn low_barrier(alloc: Global) -> Option<Edit> {
+    barrier(alloc, [(50_000, -2000), (50_000, 2000)], 3000)
 }
 
 /// Takes a job, solves it and lands the answer, where there is a job; whether there was one.
@@ -160,8 +149,8 @@ fn put_on_both<R: Threads + Sync>(
     one: &mut Board,
     other: &mut Board,
 ) -> Option<(u32, bool)> {
-    edit(alloc, one, barrier(alloc)?)?;
-    other.edit_with(rt, alloc, barrier(alloc)?).ok()?;
+    edit(alloc, one, low_barrier(alloc)?)?;
+    other.edit_with(rt, alloc, low_barrier(alloc)?).ok()?;
     let stale = stale_in_both(one, other)?;
     let same = take_the_same(alloc, one, other)?;
     Some((stale, same))

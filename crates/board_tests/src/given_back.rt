@@ -2,7 +2,8 @@
 ghost use Rattle.std.specs.Prelude.{◌≡◌, []};
 ghost use Rattle.map_board.specs.Seats.{owed};
 
-use crate::one_course::{edit_both, give_up, take_job};
+use crate::edits::{edit_two, receiver, source};
+use crate::one_course::{give_up, take_job};
 use map_board::{Board, Took};
 use map_lock::{EditorSeat, MapLock, WorkerSeat};
 use scene_book::Edit;
@@ -10,26 +11,6 @@ use scene_parts::Name;
 use std::alloc::Global;
 use std::sync::Wait;
 use std::thread::Threads;
-
-// Puts the source and the receiver, and gives the job back that was taken for it.
-fn put_and_give_up<R: Threads + Wait + Sync>(
-    rt: &R,
-    alloc: Global,
-    lock: &MapLock,
-    editor: &mut EditorSeat,
-    worker: &mut WorkerSeat,
-) -> Option<()>
-    requires own { editor.old.table ≡ lock.now }
-    requires own_worker { worker.old.table ≡ lock.now }
-    requires free { owed worker.old.mine ≡ [] }
-    ensures own { editor.new.table ≡ lock.now }
-    ensures parts { editor.new.parts ≡ editor.old.parts }
-    ensures own_worker { worker.new.table ≡ lock.now }
-    ensures parts_of_worker { worker.new.parts ≡ worker.old.parts }
-{
-    edit_both(rt, alloc, lock, editor)?;
-    give_up(rt, lock, worker)
-}
 
 /// Whether a board is settled, whether there is a job then, and its counts behind that.
 fn taken_again(board: &mut Board) -> (bool, bool, [u64; 4]) {
@@ -42,10 +23,19 @@ fn taken_again(board: &mut Board) -> (bool, bool, [u64; 4]) {
 fn given_back<R: Threads + Wait + Sync>(rt: &R, alloc: Global) -> Option<(bool, bool, [u64; 4])> {
     let (lock, mut editor) = MapLock::start(alloc).ok()?;
     let mut worker = lock.worker(rt, &mut editor);
-    let gave = put_and_give_up(rt, alloc, &lock, &mut editor, &mut worker);
+    let put = edit_two(
+        rt,
+        alloc,
+        &lock,
+        &mut editor,
+        source(alloc),
+        receiver(alloc, 100_000),
+    );
+    let gave = give_up(rt, &lock, &mut worker);
     lock.join_worker(&mut editor, worker);
     let mut board = lock.close(editor);
     let seen = taken_again(&mut board);
+    put?;
     gave.map(|_: ()| seen)
 }
 
@@ -95,7 +85,14 @@ fn give_back_late<R: Threads + Wait + Sync>(
     ensures own_worker { worker.new.table ≡ lock.now }
     ensures parts_of_worker { worker.new.parts ≡ worker.old.parts }
 {
-    edit_both(rt, alloc, lock, editor)?;
+    edit_two(
+        rt,
+        alloc,
+        lock,
+        editor,
+        source(alloc),
+        receiver(alloc, 100_000),
+    )?;
     let gone = without_receiver(alloc)?;
     let job = take_job(rt, lock, worker)?;
     let is_gone = lock.edit(rt, alloc, editor, gone).is_ok();

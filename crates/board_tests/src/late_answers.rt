@@ -3,52 +3,15 @@
 ghost use Rattle.std.specs.Prelude.{◌≡◌, []};
 ghost use Rattle.map_board.specs.Seats.{owed};
 
-use crate::one_course::{answer, source, take_job, work_once};
+use crate::edits::{barrier, building, edit, edit_two, receiver, source};
+use crate::one_course::{answer, take_job, work_once};
 use map_board::{Board, Landed, Shown, Took};
 use map_lock::{EditorSeat, MapLock, WorkerSeat};
 use scene_book::Edit;
-use scene_geom::Pt;
-use scene_parts::{Name, Part, PlainName, RawPart, RawPoints, RawPt, Receiver, check};
+use scene_parts::{Name, PlainName};
 use std::alloc::Global;
 use std::sync::Wait;
 use std::thread::Threads;
-
-fn receiver(alloc: Global, x: i64) -> Option<Edit> {
-    Some(Edit::Put(Part::Receiver(Receiver {
-        name: Name::from_vec(b"r".to_vec(alloc).ok()?),
-        at: Pt::new(x.clamp(0, 200_000), 0),
-        h: 2000,
-    })))
-}
-
-pub(crate) fn corners(alloc: Global, places: &[(i64, i64)]) -> Option<RawPoints> {
-    let mut points = Vec::new(alloc);
-    for (x, y) in places {
-        points.push(RawPt { x: *x, y: *y }).ok()?;
-    }
-    Some(RawPoints::from_vec(points))
-}
-
-pub(crate) fn put(alloc: Global, raw: RawPart) -> Option<Edit> {
-    match check(alloc, raw) {
-        Ok(checked) => Some(Edit::from(checked)),
-        Err(_) => None,
-    }
-}
-
-/// A building with these corners.
-fn building(alloc: Global, name: PlainName, places: &[(i64, i64)], h: i64) -> Option<Edit> {
-    let points = corners(alloc, places)?;
-    put(
-        alloc,
-        RawPart::Building {
-            name,
-            points,
-            h,
-            rho: 0,
-        },
-    )
-}
 
 /// A house far from the way, between these in the east.
 fn house(alloc: Global, west: i64, east: i64) -> Option<Edit> {
@@ -75,43 +38,12 @@ fn shed(alloc: Global) -> Option<Edit> {
 }
 
 /// A barrier across the way from the source to the receiver.
-fn barrier(alloc: Global) -> Option<Edit> {
-    let points = corners(alloc, &[(50_000, -10_000), (50_000, 10_000)])?;
-    let name = PlainName::from_vec(b"barrier".to_vec(alloc).ok()?);
-    put(
-        alloc,
-        RawPart::Barrier {
-            name,
-            points,
-            h: 12_000,
-            density: 20,
-            rho: 0,
-        },
-    )
+fn barrier_across(alloc: Global) -> Option<Edit> {
+    barrier(alloc, [(50_000, -10_000), (50_000, 10_000)], 12_000)
 }
 
 fn without_house(alloc: Global) -> Option<Edit> {
     Some(Edit::Remove(Name::from_vec(b"house".to_vec(alloc).ok()?)))
-}
-
-// An edit that is accepted.
-fn edit<R: Threads + Wait + Sync>(
-    rt: &R,
-    alloc: Global,
-    lock: &MapLock,
-    editor: &mut EditorSeat,
-    edit: Option<Edit>,
-) -> Option<()>
-    requires own { editor.old.table ≡ lock.now }
-    ensures own { editor.new.table ≡ lock.now }
-    ensures parts { editor.new.parts ≡ editor.old.parts }
-{
-    let edit = edit?;
-    if lock.edit(rt, alloc, editor, edit).is_ok() {
-        Some(())
-    } else {
-        None
-    }
 }
 
 // A source, a receiver and a house.
@@ -125,39 +57,15 @@ fn put_three<R: Threads + Wait + Sync>(
     ensures own { editor.new.table ≡ lock.now }
     ensures parts { editor.new.parts ≡ editor.old.parts }
 {
-    edit(rt, alloc, lock, editor, source(alloc))?;
-    edit(rt, alloc, lock, editor, receiver(alloc, 100_000))?;
+    edit_two(
+        rt,
+        alloc,
+        lock,
+        editor,
+        source(alloc),
+        receiver(alloc, 100_000),
+    )?;
     edit(rt, alloc, lock, editor, house(alloc, 200_000, 210_000))
-}
-
-// The house moved, and the barrier put.
-fn put_barrier<R: Threads + Wait + Sync>(
-    rt: &R,
-    alloc: Global,
-    lock: &MapLock,
-    editor: &mut EditorSeat,
-) -> Option<()>
-    requires own { editor.old.table ≡ lock.now }
-    ensures own { editor.new.table ≡ lock.now }
-    ensures parts { editor.new.parts ≡ editor.old.parts }
-{
-    edit(rt, alloc, lock, editor, house(alloc, -300_000, -290_000))?;
-    edit(rt, alloc, lock, editor, barrier(alloc))
-}
-
-// The shed put, and the house removed.
-fn put_shed<R: Threads + Wait + Sync>(
-    rt: &R,
-    alloc: Global,
-    lock: &MapLock,
-    editor: &mut EditorSeat,
-) -> Option<()>
-    requires own { editor.old.table ≡ lock.now }
-    ensures own { editor.new.table ≡ lock.now }
-    ensures parts { editor.new.parts ≡ editor.old.parts }
-{
-    edit(rt, alloc, lock, editor, shed(alloc))?;
-    edit(rt, alloc, lock, editor, without_house(alloc))
 }
 
 // Takes a job, which is solved and offered after the shed was put and the house removed.
@@ -177,7 +85,7 @@ fn work_late<R: Threads + Wait + Sync>(
     ensures parts_of_worker { worker.new.parts ≡ worker.old.parts }
 {
     let job = take_job(rt, lock, worker)?;
-    let put = put_shed(rt, alloc, lock, editor);
+    let put = edit_two(rt, alloc, lock, editor, shed(alloc), without_house(alloc));
     let landed = answer(rt, alloc, lock, worker, job);
     put?;
     landed
@@ -206,7 +114,8 @@ fn land_late<R: Threads + Wait + Sync>(
 {
     put_three(rt, alloc, lock, editor)?;
     let early = work_once(rt, alloc, lock, first)?;
-    put_barrier(rt, alloc, lock, editor)?;
+    let moved = house(alloc, -300_000, -290_000);
+    edit_two(rt, alloc, lock, editor, moved, barrier_across(alloc))?;
     let late = work_late(rt, alloc, lock, editor, second)?;
     Some((matches!(early, Landed::Kept), matches!(late, Landed::Kept)))
 }
@@ -294,8 +203,14 @@ fn work_moved<R: Threads + Wait + Sync>(
     ensures own_other { other.new.table ≡ lock.now }
     ensures parts_of_other { other.new.parts ≡ other.old.parts }
 {
-    edit(rt, alloc, lock, editor, source(alloc))?;
-    edit(rt, alloc, lock, editor, receiver(alloc, 100_000))?;
+    edit_two(
+        rt,
+        alloc,
+        lock,
+        editor,
+        source(alloc),
+        receiver(alloc, 100_000),
+    )?;
     let job = take_job(rt, lock, worker)?;
     let is_out = finds_one_out(rt, lock, other);
     let moved = edit(rt, alloc, lock, editor, receiver(alloc, 120_000));

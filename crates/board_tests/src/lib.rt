@@ -5,6 +5,8 @@
 #[cfg(test)]
 mod boards;
 #[cfg(test)]
+mod edits;
+#[cfg(test)]
 mod edits_in_threads;
 #[cfg(test)]
 mod given_back;

@@ -2,35 +2,14 @@
 ghost use Rattle.std.specs.Prelude.{◌≡◌, [], ◌∷◌, IsSome, IfSome};
 ghost use Rattle.map_board.specs.Seats.{owed};
 
+use crate::edits::{edit_two, receiver, source};
 use crate::solving::solve;
 use map_board::{Job, Landed, Shown, Took};
 use map_lock::{EditorSeat, LookSeat, MapLock, WorkerSeat};
-use scene_book::Edit;
-use scene_geom::Pt;
-use scene_parts::{Kind, Name, Part, PointSource, Receiver};
 use std::alloc::Global;
 use std::sync::Wait;
 use std::test::Fail;
 use std::thread::Threads;
-
-pub(crate) fn source(alloc: Global) -> Option<Edit> {
-    Some(Edit::Put(Part::Source(PointSource {
-        name: Name::from_vec(b"s".to_vec(alloc).ok()?),
-        kind: Kind::Industry,
-        at: Pt::new(0, 0),
-        h: 2000,
-        lw: [None, None, None, None, Some(10_000), None, None, None],
-        dc: 0,
-    })))
-}
-
-fn receiver(alloc: Global) -> Option<Edit> {
-    Some(Edit::Put(Part::Receiver(Receiver {
-        name: Name::from_vec(b"r".to_vec(alloc).ok()?),
-        at: Pt::new(100_000, 0),
-        h: 2000,
-    })))
-}
 
 // Takes a job, which the seat alone owes then.
 pub(crate) fn take_job<R: Wait>(rt: &R, lock: &MapLock, worker: &mut WorkerSeat) -> Option<Job>
@@ -109,22 +88,6 @@ fn sees_one_current<R: Wait>(rt: &R, alloc: Global, lock: &MapLock, looker: &mut
     }
 }
 
-// The two edits.
-pub(crate) fn edit_both<R: Threads + Wait + Sync>(
-    rt: &R,
-    alloc: Global,
-    lock: &MapLock,
-    editor: &mut EditorSeat,
-) -> Option<()>
-    requires own { editor.old.table ≡ lock.now }
-    ensures own { editor.new.table ≡ lock.now }
-    ensures parts { editor.new.parts ≡ editor.old.parts }
-{
-    lock.edit(rt, alloc, editor, source(alloc)?).ok()?;
-    lock.edit(rt, alloc, editor, receiver(alloc)?).ok()?;
-    Some(())
-}
-
 // The two edits, a job that is given back, and one that is answered: what became of the answer.
 fn edit_and_work<R: Threads + Wait + Sync>(
     rt: &R,
@@ -141,7 +104,14 @@ fn edit_and_work<R: Threads + Wait + Sync>(
     ensures own_worker { worker.new.table ≡ lock.now }
     ensures parts_of_worker { worker.new.parts ≡ worker.old.parts }
 {
-    edit_both(rt, alloc, lock, editor)?;
+    edit_two(
+        rt,
+        alloc,
+        lock,
+        editor,
+        source(alloc),
+        receiver(alloc, 100_000),
+    )?;
     give_up(rt, lock, worker)?;
     work_once(rt, alloc, lock, worker)
 }
