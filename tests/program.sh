@@ -236,22 +236,30 @@ nested() {
     }'
 }
 
-# behind NAME STATUS ROW: a hostile line, which is read, has this row, and the look behind it is done.
+# behind NAME STATUS ROW: the hostile line in $room/hostile has this row, and the look behind it is done. It reads no pipe: a
+# function behind one runs in a shell of its own, whose counts are lost.
 behind() {
-    { cat; printf '\n%s\n' "$look_line"; } > "$room/line"
+    { cat "$room/hostile"; printf '\n%s\n' "$look_line"; } > "$room/line"
     { echo "$3"; echo "look,0,0,,,,"; } > "$room/looks"
     expect "a look behind $1" "$2" "$room/looks" "" "$program" < "$room/line"
 }
 
 try_hostile_lines() {
     not_json=refused,0,1,NotJson,,,
-    nested 60 | behind "60 arrays" 0 look,0,0,,,,
-    nested 126 | behind "126 arrays" 0 look,0,0,,,,
-    nested 127 | behind "127 arrays" 1 "$not_json"
-    nested 200 | behind "200 arrays" 1 "$not_json"
-    nested 32000 | behind "32,000 arrays" 1 "$not_json"
-    printf '\377' | behind "a byte that is no text" 1 "$not_json"
-    printf '%70000s' '' | tr ' ' x | behind "70,000 bytes" 1 refused,0,1,LongLine,,,
+    nested 60 > "$room/hostile"
+    behind "60 arrays" 0 look,0,0,,,,
+    nested 126 > "$room/hostile"
+    behind "126 arrays" 0 look,0,0,,,,
+    nested 127 > "$room/hostile"
+    behind "127 arrays" 1 "$not_json"
+    nested 200 > "$room/hostile"
+    behind "200 arrays" 1 "$not_json"
+    nested 32000 > "$room/hostile"
+    behind "32,000 arrays" 1 "$not_json"
+    printf '\377' > "$room/hostile"
+    behind "a byte that is no text" 1 "$not_json"
+    printf '%70000s' '' | tr ' ' x > "$room/hostile"
+    behind "70,000 bytes" 1 refused,0,1,LongLine,,,
 }
 
 # As many receivers and sources as may be, and one more.
