@@ -4,7 +4,7 @@ ghost use Rattle.level_contours.specs.Texts.{family_word, head_row, loop_row, po
 
 use cell_loops::{Corner, Family, Loop, Loops};
 use command_lines::ContourSpec;
-use csv_rows::{RowText, RowTexts, RowWriter};
+use csv_rows::{RowText, RowTexts, RowWriter, digits};
 use scene_parts::NoMemory;
 
 /// The text of a contour at a version: all of its rows.
@@ -103,11 +103,9 @@ fn head_text(
 ) -> Result<Vec<u8>, NoMemory>
     ensures { IfOk result (λ text. text.items ≡ head_row version loops spec.now) }
 {
-    let alloc = writer.alloc();
-    let version = format!(in alloc; "{version}")?;
-    let loops = format!(in alloc; "{loops}")?;
-    let level = spec.level;
-    let level = format!(in alloc; "{level}")?;
+    let version = digits(version);
+    let loops = digits(loops);
+    let level = digits(spec.level);
     writer.fields_text(
         b"contour",
         version.as_bytes(),
@@ -130,10 +128,9 @@ fn loop_text(
 ) -> Result<Vec<u8>, NoMemory>
     ensures { IfOk result (λ text. text.items ≡ loop_row version number family points) }
 {
-    let alloc = writer.alloc();
-    let version = format!(in alloc; "{version}")?;
-    let number = format!(in alloc; "{number}")?;
-    let points = format!(in alloc; "{points}")?;
+    let version = digits(version);
+    let number = digits(number);
+    let points = digits(points);
     writer.fields_text(
         b"loop",
         version.as_bytes(),
@@ -157,12 +154,11 @@ fn point_text(
     ensures { IfOk result (λ text. text.items ≡ point_row version number place corner) }
 {
     let Corner { x, y } = corner;
-    let alloc = writer.alloc();
-    let version = format!(in alloc; "{version}")?;
-    let number = format!(in alloc; "{number}")?;
-    let place = format!(in alloc; "{place}")?;
-    let x = format!(in alloc; "{x}")?;
-    let y = format!(in alloc; "{y}")?;
+    let version = digits(version);
+    let number = digits(number);
+    let place = digits(place);
+    let x = digits(x);
+    let y = digits(y);
     writer.fields_text(
         b"point",
         version.as_bytes(),

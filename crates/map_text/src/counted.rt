@@ -2,7 +2,7 @@
 ghost use Rattle.std.specs.Prelude.{◌≡◌, IfOk};
 ghost use Rattle.map_text.specs.Rows.{counts_row};
 
-use csv_rows::RowWriter;
+use csv_rows::{RowWriter, digits};
 use scene_parts::NoMemory;
 
 /// The row of the counts at a settle: the version, how many receivers there are, and how many jobs were taken, answers kept,
@@ -19,13 +19,12 @@ pub fn counts_text(
 ) -> Result<Vec<u8>, NoMemory>
     ensures { IfOk result (λ text. text.items ≡ counts_row version rows taken kept gone back) }
 {
-    let alloc = writer.alloc();
-    let version = format!(in alloc; "{version}")?;
-    let rows = format!(in alloc; "{rows}")?;
-    let taken = format!(in alloc; "{taken}")?;
-    let kept = format!(in alloc; "{kept}")?;
-    let gone = format!(in alloc; "{gone}")?;
-    let back = format!(in alloc; "{back}")?;
+    let version = digits(version);
+    let rows = digits(rows);
+    let taken = digits(taken);
+    let kept = digits(kept);
+    let gone = digits(gone);
+    let back = digits(back);
     writer.fields_text(
         b"counts",
         version.as_bytes(),

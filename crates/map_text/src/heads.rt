@@ -2,7 +2,7 @@
 ghost use Rattle.std.specs.Prelude.{◌≡◌, IfOk};
 ghost use Rattle.map_text.specs.Rows.{head_word, head_row};
 
-use csv_rows::RowWriter;
+use csv_rows::{RowWriter, digits};
 use scene_parts::NoMemory;
 
 /// What was asked for.
@@ -33,9 +33,8 @@ pub fn head_text(
 ) -> Result<Vec<u8>, NoMemory>
     ensures { IfOk result (λ text. text.items ≡ head_row kind version rows) }
 {
-    let alloc = writer.alloc();
-    let version = format!(in alloc; "{version}")?;
-    let rows = format!(in alloc; "{rows}")?;
+    let version = digits(version);
+    let rows = digits(rows);
     writer.fields_text(
         word(kind),
         version.as_bytes(),

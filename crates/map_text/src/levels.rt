@@ -1,40 +1,47 @@
 //! The rows that show levels.
-ghost use Rattle.std.specs.Prelude.{◌≡◌, ◌<◌, ◌^◌, Some, IfOk, IsSomeAnd, string_bytes};
+ghost use Rattle.std.specs.Prelude.{◌≡◌, ◌<◌, ◌^◌, Some, IfOk, IsSomeAnd};
 ghost use Rattle.energy_sum.specs.Sums.{units_of};
 ghost use Rattle.map_text.specs.Rounding.{IsPrintable, IsPrintableLevel};
 ghost use Rattle.map_text.specs.Rows.{hundredths_text, low_text, high_text, level_row, current_row, stale_row, new_row, band_row, made_row};
 
 use crate::rounding::{high_hundredths, low_hundredths};
-use csv_rows::RowWriter;
+use arrayvec::ArrayString;
+use csv_rows::{RowWriter, digits};
 use fix_interval::Iv;
+use itoa::Buffer;
 use scene_geom::Band;
 use scene_parts::{Name, NoMemory};
-use std::alloc::Global;
+
+/// How many bytes an end takes at most: those of three numbers of 64 bits, and of a point.
+const MOST_BYTES: usize = 64;
 
 #[tactic(auto, unfolding(crate::specs::Rows::hundredths_text))]
-fn decibels(alloc: Global, hundredths: u64) -> Result<String, NoMemory>
-    ensures { IfOk result (λ text. string_bytes text ≡ hundredths_text hundredths) }
+fn decibels(hundredths: u64) -> ArrayString<MOST_BYTES>
+    ensures { result.bytes ≡ hundredths_text hundredths }
 {
-    let whole = hundredths / 100;
-    let tenths = hundredths / 10 % 10;
-    let last = hundredths % 10;
-    Ok(format!(in alloc; "{whole}.{tenths}{last}")?)
+    let mut buffer = Buffer::new();
+    let mut text = ArrayString::new();
+    text.push_str(buffer.format(hundredths / 100));
+    text.push('.');
+    text.push_str(buffer.format(hundredths / 10 % 10));
+    text.push_str(buffer.format(hundredths % 10));
+    text
 }
 
 /// The text of a low end, which is rounded down.
-fn low_text(alloc: Global, end: i128) -> Result<String, NoMemory>
+fn low_text(end: i128) -> ArrayString<MOST_BYTES>
     requires { IsPrintable end }
-    ensures { IfOk result (λ text. string_bytes text ≡ low_text (Some end)) }
+    ensures { result.bytes ≡ low_text (Some end) }
 {
-    decibels(alloc, low_hundredths(end as u64))
+    decibels(low_hundredths(end as u64))
 }
 
 /// The text of a high end, which is rounded up.
-fn high_text(alloc: Global, end: i128) -> Result<String, NoMemory>
+fn high_text(end: i128) -> ArrayString<MOST_BYTES>
     requires { IsPrintable end }
-    ensures { IfOk result (λ text. string_bytes text ≡ high_text (Some end)) }
+    ensures { result.bytes ≡ high_text (Some end) }
 {
-    decibels(alloc, high_hundredths(end as u64))
+    decibels(high_hundredths(end as u64))
 }
 
 /// An end that is known to be there.
@@ -61,10 +68,9 @@ fn level_text(
     ensures { IfOk result (λ text. text.items
         ≡ level_row kind.now version name.now state.now by.now level) }
 {
-    let alloc = writer.alloc();
-    let version = format!(in alloc; "{version}")?;
-    let low = low_text(alloc, end_of(level.low()))?;
-    let high = high_text(alloc, end_of(level.high()))?;
+    let version = digits(version);
+    let low = low_text(end_of(level.low()));
+    let high = high_text(end_of(level.high()));
     writer.fields_text(
         kind,
         version.as_bytes(),
@@ -101,8 +107,7 @@ pub(crate) fn stale_text(
     requires { IsPrintableLevel total }
     ensures { IfOk result (λ text. text.items ≡ stale_row version name.now by total) }
 {
-    let alloc = writer.alloc();
-    let by = format!(in alloc; "{by}")?;
+    let by = digits(by);
     level_text(
         writer,
         b"row",
@@ -119,8 +124,7 @@ pub(crate) fn stale_text(
 pub(crate) fn new_text(writer: &mut RowWriter, since: u64, name: &Name) -> Result<Vec<u8>, NoMemory>
     ensures { IfOk result (λ text. text.items ≡ new_row since name.now) }
 {
-    let alloc = writer.alloc();
-    let since = format!(in alloc; "{since}")?;
+    let since = digits(since);
     writer.fields_text(
         b"row",
         since.as_bytes(),
@@ -144,9 +148,7 @@ pub fn band_text(
     requires { IsPrintableLevel level }
     ensures { IfOk result (λ text. text.items ≡ band_row version name.now band level) }
 {
-    let frequency = band.frequency();
-    let alloc = writer.alloc();
-    let frequency = format!(in alloc; "{frequency}")?;
+    let frequency = digits(band.frequency());
     level_text(
         writer,
         b"band",
@@ -175,13 +177,12 @@ pub fn made_text(
     requires high { IsPrintable high }
     ensures { IfOk result (λ text. text.items ≡ made_row version rows n refused low high) }
 {
-    let alloc = writer.alloc();
-    let version = format!(in alloc; "{version}")?;
-    let rows = format!(in alloc; "{rows}")?;
-    let n = format!(in alloc; "{n}")?;
-    let refused = format!(in alloc; "{refused}")?;
-    let low = low_text(alloc, low)?;
-    let high = high_text(alloc, high)?;
+    let version = digits(version);
+    let rows = digits(rows);
+    let n = digits(n);
+    let refused = digits(refused);
+    let low = low_text(low);
+    let high = high_text(high);
     writer.fields_text(
         b"made",
         version.as_bytes(),

@@ -9,7 +9,7 @@ ghost use Rattle.map_text.specs.Rows.{fault_row, said_row, refused_row};
 
 use crate::refusals::Refusal;
 use command_lines::{LineFault, class_text, field_text};
-use csv_rows::RowWriter;
+use csv_rows::{RowWriter, digits};
 use scene_book::EditFault;
 use scene_parts::{Class, Field, NoMemory, PartFault};
 
@@ -33,11 +33,8 @@ impl RefusedLine {
         ensures { IfOk result (λ text. text.items
             ≡ fault_row self.version self.number fault.now first.now second.now) }
     {
-        let alloc = writer.alloc();
-        let version = self.version;
-        let number = self.number;
-        let version = format!(in alloc; "{version}")?;
-        let number = format!(in alloc; "{number}")?;
+        let version = digits(self.version);
+        let number = digits(self.number);
         writer.fields_text(
             b"refused",
             version.as_bytes(),
@@ -58,8 +55,7 @@ impl RefusedLine {
         ensures { IfOk result (λ text. text.items
             ≡ said_row self.version self.number (about fault.now (decimal value))) }
     {
-        let alloc = writer.alloc();
-        let value = format!(in alloc; "{value}")?;
+        let value = digits(value);
         self.row(writer, fault, value.as_bytes(), b"")
     }
 
@@ -67,8 +63,7 @@ impl RefusedLine {
         ensures { IfOk result (λ text. text.items
             ≡ said_row self.version self.number (refusal_text (refusals.NoSuchVersion version))) }
     {
-        let alloc = writer.alloc();
-        let version = format!(in alloc; "{version}")?;
+        let version = digits(version);
         self.row(writer, b"NoSuchVersion", version.as_bytes(), b"")
     }
 
@@ -81,8 +76,7 @@ impl RefusedLine {
         ensures { IfOk result (λ text. text.items
             ≡ said_row self.version self.number (part_fault_text (parts.OutOfRange field value))) }
     {
-        let alloc = writer.alloc();
-        let value = format!(in alloc; "{value}")?;
+        let value = digits(value);
         self.row(
             writer,
             b"OutOfRange",
@@ -95,9 +89,8 @@ impl RefusedLine {
         ensures { IfOk result (λ text. text.items
             ≡ said_row self.version self.number (part_fault_text (parts.SideTooLong side mm))) }
     {
-        let alloc = writer.alloc();
-        let side = format!(in alloc; "{side}")?;
-        let mm = format!(in alloc; "{mm}")?;
+        let side = digits(side);
+        let mm = digits(mm);
         self.row(writer, b"SideTooLong", side.as_bytes(), mm.as_bytes())
     }
 
@@ -105,8 +98,7 @@ impl RefusedLine {
         ensures { IfOk result (λ text. text.items
             ≡ said_row self.version self.number (edit_fault_text (edits.Full class limit))) }
     {
-        let alloc = writer.alloc();
-        let limit = format!(in alloc; "{limit}")?;
+        let limit = digits(limit);
         self.row(
             writer,
             b"Full",
