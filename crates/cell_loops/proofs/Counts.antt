@@ -5,7 +5,7 @@ use Rattle.std.proofs.lemmas.Bool.{false≢true, or_cases, or_left, or_right, or
 use Rattle.std.proofs.lemmas.List.Sums.{sum_by-cons}
 use Rattle.cell_loops.specs.declared.corners.Edge.{Edge}
 use Rattle.cell_loops.specs.Boundary.{same}
-use Rattle.cell_loops.specs.Steps.{is_listed}
+use Rattle.cell_loops.specs.inner.Steps.{is_listed}
 use Rattle.cell_loops.proofs.Edges.{same_is, same_at, same_refl}
 use Rattle.cell_loops.proofs.Runs.{Apart}
 

@@ -4,7 +4,7 @@ use Rattle.std.proofs.lemmas.Bool.{or_left, or_right}
 use Rattle.cell_loops.specs.declared.corners.Edge.{Edge}
 use Rattle.cell_loops.specs.Plane.{Plane}
 use Rattle.cell_loops.specs.Boundary.{bounds, same, next_of, run_of, until, step_count, loop_from}
-use Rattle.cell_loops.specs.Steps.{IsOn, is_listed}
+use Rattle.cell_loops.specs.inner.Steps.{IsOn, is_listed}
 use Rattle.cell_loops.proofs.Edges.{bounds-on, same_refl}
 use Rattle.cell_loops.proofs.Runs.{after, after-next, after-add, bounds-after, length-run, listed-after, StandsAt, stands-listed, bounds-listed, Apart, apart-run, Returns, returns-at}
 use Rattle.cell_loops.proofs.Places.{few-apart}

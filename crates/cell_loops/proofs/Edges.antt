@@ -10,7 +10,7 @@ use Rattle.cell_loops.specs.declared.corners.Way.TheVariants.{East, North, West,
 use Rattle.cell_loops.specs.Turning.{leaves, reaches, turn, came, way_number, same_way}
 use Rattle.cell_loops.specs.Plane.{Plane, holds, around, is_cell}
 use Rattle.cell_loops.specs.Boundary.{step_of, bounds, same, next_of, came_by}
-use Rattle.cell_loops.specs.Steps.{IsOn}
+use Rattle.cell_loops.specs.inner.Steps.{IsOn}
 use Rattle.cell_loops.proofs.Turns.{leaves-turn, came-turn}
 
 -- ---- on the grid

@@ -5,7 +5,7 @@ use Rattle.std.proofs.lemmas.Bool.{false≢true, or_cases, or_left, or_right, no
 use Rattle.cell_loops.specs.declared.corners.Edge.{Edge}
 use Rattle.cell_loops.specs.Plane.{Plane}
 use Rattle.cell_loops.specs.Boundary.{bounds, same, precedes, next_of, until, run_of, step_count, loop_from, boundary_of, begins}
-use Rattle.cell_loops.specs.Steps.{is_listed}
+use Rattle.cell_loops.specs.inner.Steps.{is_listed}
 use Rattle.cell_loops.proofs.Edges.{same_is, same_refl}
 use Rattle.cell_loops.proofs.Runs.{Apart}
 use Rattle.cell_loops.proofs.Cycles.{Cycle, cycle-from, in_loop, bounds-loop, loop-sym, loop-trans}

@@ -9,7 +9,7 @@ use Rattle.cell_loops.specs.declared.corners.Way.{Way}
 use Rattle.cell_loops.specs.declared.corners.Way.TheVariants.{East, North, West, South}
 use Rattle.cell_loops.specs.Plane.{Plane, holds, around}
 use Rattle.cell_loops.specs.Boundary.{bounds, same, next_of, run_of, loop_from, loops_of}
-use Rattle.cell_loops.specs.Steps.{is_listed}
+use Rattle.cell_loops.specs.inner.Steps.{is_listed}
 use Rattle.cell_loops.specs.Separation.{times, Follow, IsClosed, has_cell, has_neighbour, side_of, Separates}
 use Rattle.cell_loops.proofs.Edges.{same_is, same_refl, came_by-next}
 use Rattle.cell_loops.proofs.Runs.{after, Apart}

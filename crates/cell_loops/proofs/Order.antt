@@ -11,7 +11,7 @@ use Rattle.cell_loops.specs.declared.corners.Way.TheVariants.{East, North, West,
 use Rattle.cell_loops.specs.Turning.{way_number}
 use Rattle.cell_loops.specs.Plane.{Plane}
 use Rattle.cell_loops.specs.Boundary.{bounds, same, precedes, steps_at, steps_along, steps_of, boundary_of}
-use Rattle.cell_loops.specs.Steps.{IsOn, is_listed}
+use Rattle.cell_loops.specs.inner.Steps.{IsOn, is_listed}
 use Rattle.cell_loops.proofs.Edges.{same_is, same_at, same_refl, bounds-on}
 use Rattle.cell_loops.proofs.Runs.{Apart}
 use Rattle.cell_loops.proofs.Pieces.{listed-pieces}

@@ -11,7 +11,7 @@ use Rattle.cell_loops.specs.declared.corners.Way.TheVariants.{East, North, West,
 use Rattle.cell_loops.specs.Turning.{same_way, way_number}
 use Rattle.cell_loops.specs.Plane.{Plane, holds, around}
 use Rattle.cell_loops.specs.Boundary.{step_of, bounds, same, precedes, next_of, until, run_of, step_count, loop_from, loops_of, begins, came_by, turns_at}
-use Rattle.cell_loops.specs.Steps.{is_listed}
+use Rattle.cell_loops.specs.inner.Steps.{is_listed}
 use Rattle.cell_loops.specs.Separation.{BeginsLeast, Before, IsOrdered}
 use Rattle.cell_loops.proofs.Edges.{IsWithin, holds-within, same_is, same_at, same_refl, came_by-next}
 use Rattle.cell_loops.proofs.Runs.{after, after-next, bounds-after, Apart}

@@ -9,7 +9,7 @@ use Rattle.std.proofs.lemmas.List.{map-id}
 use Rattle.std.proofs.lemmas.List.FromFn.{map-range_with_len_more}
 use Rattle.cell_loops.specs.declared.corners.Edge.{Edge}
 use Rattle.cell_loops.specs.Boundary.{same}
-use Rattle.cell_loops.specs.Steps.{is_listed}
+use Rattle.cell_loops.specs.inner.Steps.{is_listed}
 
 range-push : (a n j : ℕ) → a + n ≡ j → range_with_len a (n + 1) ≡ range_with_len a n ++ j ∷ []
 range-push a n j h =

@@ -13,7 +13,7 @@ use Rattle.cell_loops.specs.declared.corners.Way.TheVariants.{East, North, West,
 use Rattle.cell_loops.specs.Turning.{way_number}
 use Rattle.cell_loops.specs.Plane.{Plane}
 use Rattle.cell_loops.specs.Boundary.{bounds, same, step_count, run_of}
-use Rattle.cell_loops.specs.Steps.{IsOn, place_of, is_listed}
+use Rattle.cell_loops.specs.inner.Steps.{IsOn, place_of, is_listed}
 use Rattle.cell_loops.proofs.Edges.{same_is, same_at, bounds-on}
 use Rattle.cell_loops.proofs.Runs.{Apart, length-run, bounds-listed}
 

@@ -9,7 +9,7 @@ use Rattle.cell_loops.specs.declared.corners.Corner.{Corner}
 use Rattle.cell_loops.specs.declared.corners.Edge.{Edge}
 use Rattle.cell_loops.specs.Plane.{Plane}
 use Rattle.cell_loops.specs.Boundary.{bounds, same, precedes, boundary_of, step_count, loop_from, begins, loops_of, points_of}
-use Rattle.cell_loops.specs.Steps.{IsOn, place_of, is_marked, is_listed, IsUnwalked, IsWalked}
+use Rattle.cell_loops.specs.inner.Steps.{IsOn, place_of, is_marked, is_listed, IsUnwalked, IsWalked}
 use Rattle.cell_loops.proofs.Edges.{bounds-on, same_is, same_refl}
 use Rattle.cell_loops.proofs.Places.{place-below}
 use Rattle.cell_loops.proofs.Cycles.{in_loop, loop-self, bounds-loop, loop-sym, loop-trans}

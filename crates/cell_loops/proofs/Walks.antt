@@ -10,7 +10,7 @@ use Rattle.cell_loops.specs.declared.corners.Corner.{Corner}
 use Rattle.cell_loops.specs.declared.corners.Edge.{Edge}
 use Rattle.cell_loops.specs.Plane.{Plane}
 use Rattle.cell_loops.specs.Boundary.{bounds, same, next_of, run_of, step_count, loop_from, turns_at, points_of}
-use Rattle.cell_loops.specs.Steps.{IsOn, place_of, is_marked, is_listed, IsUnwalked, IsWalked}
+use Rattle.cell_loops.specs.inner.Steps.{IsOn, place_of, is_marked, is_listed, IsUnwalked, IsWalked}
 use Rattle.cell_loops.proofs.Edges.{bounds-on, bounds-next, same_is, same_at, same_refl}
 use Rattle.cell_loops.proofs.Runs.{after, after-next, bounds-after, listed-after, Apart}
 use Rattle.cell_loops.proofs.Places.{place-below, place-is}

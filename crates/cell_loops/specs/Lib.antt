@@ -3,3 +3,4 @@ pub mod Plane
 pub mod Boundary
 pub mod Steps
 pub mod Separation
+pub mod inner

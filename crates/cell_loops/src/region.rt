@@ -27,7 +27,8 @@ impl<'a> Region<'a> {
     ghost use Rattle.std.specs.Prelude.{◌≡◌, ◌+◌, ◌≤◌, true};
     ghost use Rattle.cell_loops.specs.Plane.{plane_of, holds, around};
     ghost use Rattle.cell_loops.specs.Boundary.{bounds, next_of, turns_at, step_count};
-    ghost use Rattle.cell_loops.specs.Steps.{IsGrid, IsSmall, IsOn, most_side, place_of};
+    ghost use Rattle.cell_loops.specs.Steps.{IsGrid, most_side};
+    ghost use Rattle.cell_loops.specs.inner.Steps.{IsSmall, IsOn, place_of};
 
     /// The cells of a grid that a family bounds.
     pub fn new(columns: u32, rows: u32, cells: &'a [Cell], family: Family) -> Self

@@ -3,7 +3,8 @@ ghost use Rattle.std.specs.Prelude.{◌≡◌, IfOk, map};
 ghost use Rattle.cell_loops.specs.Plane.{plane_of};
 ghost use Rattle.cell_loops.specs.Boundary.{loops_of, points_of};
 ghost use Rattle.cell_loops.specs.Separation.{Separates, IsOrdered, LouderInside, QuieterOutside, SameWhereSure};
-ghost use Rattle.cell_loops.specs.Steps.{IsGrid, IsSmall};
+ghost use Rattle.cell_loops.specs.Steps.{IsGrid};
+ghost use Rattle.cell_loops.specs.inner.Steps.{IsSmall};
 
 use crate::gathering::boundary;
 use crate::kinds::Family;

@@ -1,7 +1,7 @@
 //! The walk along a loop.
 ghost use Rattle.std.specs.Prelude.{◌≡◌, ◌++◌, [], ◌∷◌, true, length, map, filter, IfOk, OnOk};
 ghost use Rattle.cell_loops.specs.Boundary.{bounds, step_count, loop_from, turns_at, points_of};
-ghost use Rattle.cell_loops.specs.Steps.{IsSmall, IsUnwalked, IsWalked};
+ghost use Rattle.cell_loops.specs.inner.Steps.{IsSmall, IsUnwalked, IsWalked};
 
 use crate::corners::{Corner, Edge};
 use crate::region::Region;

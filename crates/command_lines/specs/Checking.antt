@@ -9,8 +9,8 @@ use Rattle.scene_parts.specs.Checking.{within, in_range, corners_of, height_of, 
 use Rattle.scene_parts.specs.Answers.{◌>>=◌, ◌>>◌, each}
 use Rattle.command_lines.specs.Limits.{highest_level, least_line_power, greatest_line_power, shortest_piece, longest_piece, greatest_version}
 use Rattle.command_lines.specs.Views.{Contour, LineSource}
-use Rattle.command_lines.specs.declared.contours.RawContour.{RawContour}
-use Rattle.command_lines.specs.declared.line_sources.RawLineSource.{RawLineSource}
+use Rattle.command_lines.specs.declared.commands.contours.RawContour.{RawContour}
+use Rattle.command_lines.specs.declared.commands.line_sources.RawLineSource.{RawLineSource}
 
 -- the level of a contour in 0.01 dB
 unfoldable pub level_of : ℤ → Result ℤ PartFault

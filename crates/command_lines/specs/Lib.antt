@@ -4,7 +4,7 @@ pub mod Fields
 pub mod Answers
 pub mod Limits
 pub mod Views
-pub mod Ranges
 pub mod Checking
 pub mod Words
 pub mod Lines
+pub mod inner

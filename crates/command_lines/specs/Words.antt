@@ -2,15 +2,15 @@
 use Rattle.std.specs.Prelude.{ℕ, ℤ, List, [], ◌∷◌, Result, Ok, Err, if◌then◌else◌, codes, bytes_eq}
 use Rattle.serde_json.specs.Data.{Data}
 use Rattle.scene_parts.specs.declared.kinds.Field.TheVariants.{Name, Kind, X, Y, H, Lw, Dc, Points, Density, Rho, G, Step, Columns, Rows, Reach, Air, C0, Ground, Level, Piece, To}
-use Rattle.scene_parts.specs.declared.raw.RawPart.{RawPart}
-use Rattle.scene_parts.specs.declared.raw.RawPart.TheVariants as raw
+use Rattle.scene_parts.specs.declared.checks.raw.RawPart.{RawPart}
+use Rattle.scene_parts.specs.declared.checks.raw.RawPart.TheVariants as raw
 use Rattle.scene_parts.specs.Checking.{check_of}
 use Rattle.scene_book.specs.declared.edits.Edit.TheVariants as edits
 use Rattle.scene_book.specs.Edits.{edit_of}
 use Rattle.command_lines.specs.declared.commands.Command.{Command}
 use Rattle.command_lines.specs.declared.commands.Command.TheVariants as commands
-use Rattle.command_lines.specs.declared.contours.RawContour.{RawContour}
-use Rattle.command_lines.specs.declared.line_sources.RawLineSource.{RawLineSource}
+use Rattle.command_lines.specs.declared.commands.contours.RawContour.{RawContour}
+use Rattle.command_lines.specs.declared.commands.line_sources.RawLineSource.{RawLineSource}
 use Rattle.command_lines.specs.declared.faults.LineFault.{LineFault}
 use Rattle.command_lines.specs.declared.faults.LineFault.TheVariants.{UnknownDo}
 use Rattle.command_lines.specs.Fields.{Entry, text, name, any_name, whole, points, powers, needed, optional, with_fields, text_at, name_at, any_name_at, whole_at, points_at, powers_at, optional_whole_at, optional_text_at}

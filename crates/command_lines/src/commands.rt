@@ -1,6 +1,12 @@
 //! What a line asks for.
-use super::contours::ContourSpec;
-use super::line_sources::LineSpec;
+
+pub(crate) mod checking;
+pub(crate) mod contours;
+pub(crate) mod limits;
+pub(crate) mod line_sources;
+
+use crate::commands::contours::ContourSpec;
+use crate::commands::line_sources::LineSpec;
 use scene_book::Edit;
 use scene_parts::Name;
 

@@ -5,10 +5,10 @@ ghost use Rattle.scene_parts.specs.Answers.{MatchesUnlessMemory};
 ghost use Rattle.command_lines.specs.Answers.{IsPlain, lacks_memory, viewed};
 ghost use Rattle.command_lines.specs.Lines.{json_of, word_of, command_from as command_from_of, command_in as command_in_of, command_of};
 
-use super::commands::Command;
-use super::faults::LineFault;
-use super::fields::{needed, text};
-use super::words::asked;
+use crate::commands::Command;
+use crate::faults::LineFault;
+use crate::values::fields::{needed, text};
+use crate::words::asked;
 use scene_parts::Field;
 use serde_json::Value;
 use std::alloc::Global;

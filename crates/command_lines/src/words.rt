@@ -5,13 +5,17 @@ ghost use Rattle.scene_parts.specs.Answers.{MatchesUnlessMemory};
 ghost use Rattle.command_lines.specs.Answers.{lacks_memory};
 ghost use Rattle.command_lines.specs.Words.{source_of, barrier_of, building_of, zone_of, foliage_of, receiver_of, grid_of, set_of, removal_of, unline_of, undo_of, raw_version_of, part_of, checked_edit, asked as asked_of};
 
-use super::checking::version;
-use super::commands::Command;
-use super::contour_words::contour;
-use super::faults::LineFault;
-use super::fields::{bytes_of, needed, part_name, plain_name, whole};
-use super::line_words::line_source;
-use super::part_words::{barrier, building, foliage, grid, receiver, setting, source, zone};
+pub(crate) mod contour_words;
+pub(crate) mod line_words;
+pub(crate) mod part_words;
+
+use crate::commands::Command;
+use crate::commands::checking::version;
+use crate::faults::LineFault;
+use crate::values::fields::{bytes_of, needed, part_name, plain_name, whole};
+use crate::words::contour_words::contour;
+use crate::words::line_words::line_source;
+use crate::words::part_words::{barrier, building, foliage, grid, receiver, setting, source, zone};
 use scene_book::Edit;
 use scene_parts::{Field, RawPart, Word, check};
 use serde_json::Value;

@@ -16,7 +16,7 @@ use Rattle.clap.specs.declared.parser.matches.ArgMatches.{ArgMatches}
 use Rattle.clap.specs.declared.parser.matches.ValueSource.TheVariants.{CommandLine, DefaultValue}
 use Rattle.clap.proofs.FaultLemmas.{leaf_fault}
 use Rattle.clap.proofs.WalkLemmas.{first_value-rows, list_any-map, one_text-rows}
-use Rattle.command_words.specs.Choices.{Holds, are_odd, noisemap_app}
+use Rattle.command_words.specs.inner.Choices.{Holds, are_odd, noisemap_app}
 use Rattle.command_words.specs.Words.{Given, an_option, command_line_of, line_if_right, nothing_given}
 use Rattle.command_words.proofs.Spelling.{is_bare}
 use Rattle.command_words.proofs.Rows.{Finds, Looks, absent, bands_built, built_of, counts_built, flag_row, has_row-found, more_bands, more_counts, row_of, rules, top, value_row}

@@ -10,7 +10,7 @@ use Rattle.clap.specs.Walk.{Row, Rule, Text, at_row, has_row, more_values, used,
 use Rattle.clap.specs.declared.builder.value_parser.Reading.TheVariants.{AsWritten}
 use Rattle.clap.specs.declared.parser.matches.ValueSource.{ValueSource}
 use Rattle.clap.specs.declared.parser.matches.ValueSource.TheVariants.{CommandLine}
-use Rattle.command_words.specs.Choices.{flag_rule, noisemap_app, valued_rule}
+use Rattle.command_words.specs.inner.Choices.{flag_rule, noisemap_app, valued_rule}
 use Rattle.command_words.specs.Words.{Given, Valued, and_value, of_make, of_workers}
 
 -- the command as clap builds it

@@ -1,3 +1,3 @@
 pub mod Words
-pub mod Choices
 pub mod Answers
+pub mod inner

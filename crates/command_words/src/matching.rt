@@ -2,7 +2,7 @@
 ghost use Rattle.std.specs.List.{list_any};
 ghost use Rattle.std.specs.Prelude.{◌≡◌, IfOk, false, bytes_eq, codes, map, string_bytes};
 ghost use Rattle.clap.specs.Words.{app_of, rule_of};
-ghost use Rattle.command_words.specs.Choices.{MatchesLine, are_odd as are_odd_in, flag_rule, noisemap_app, valued_rule};
+ghost use Rattle.command_words.specs.inner.Choices.{MatchesLine, are_odd as are_odd_in, flag_rule, noisemap_app, valued_rule};
 ghost use Rattle.command_words.specs.Words.{command_line_of};
 
 use crate::line::WordsFault;

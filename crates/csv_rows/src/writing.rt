@@ -3,7 +3,7 @@ ghost use Rattle.std.specs.Prelude.{◌≡◌, ◌++◌, [], ◌∷◌, length, 
 ghost use Rattle.std.specs.Option.{ForSome};
 ghost use Rattle.csv.specs.Writing.{writer_under};
 ghost use Rattle.csv_rows.specs.Rows.{row};
-ghost use Rattle.csv_rows.specs.Ready.{IsReady};
+ghost use Rattle.csv_rows.specs.inner.Ready.{IsReady};
 
 use csv::{Writer, WriterBuilder};
 use scene_parts::NoMemory;

@@ -8,7 +8,7 @@ use Rattle.std.proofs.lemmas.Int.{ints}
 use Rattle.scene_geom.specs.declared.plan.Pt.{Pt}
 use Rattle.edge_chain.specs.declared.hand.Hand.{Hand}
 use Rattle.edge_chain.specs.Chain.{off_line, is_beside}
-use Rattle.edge_chain.specs.Bearing.{turn_of, bearing_order}
+use Rattle.edge_chain.specs.inner.Bearing.{turn_of, bearing_order}
 use Rattle.std.proofs.Math.IntN.{*ℤ_comm}
 use Rattle.edge_chain.proofs.Signs.{positive_mul, negative_mul, neg_neg, of_sum, zero-mul, zero_factor}
 use Rattle.edge_chain.proofs.Hands.{swapped, four_points}

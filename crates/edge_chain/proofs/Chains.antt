@@ -7,7 +7,7 @@ use Rattle.std.proofs.lemmas.List.Sorted.{IsPermutation-sym, Contains-permutatio
 use Rattle.scene_geom.specs.declared.plan.Pt.{Pt}
 use Rattle.edge_chain.specs.declared.hand.Hand.{Hand}
 use Rattle.edge_chain.specs.Chain.{off_line, points_beside, IsChain, chain_of}
-use Rattle.edge_chain.specs.Winding.{wound}
+use Rattle.edge_chain.specs.inner.Winding.{wound}
 use Rattle.edge_chain.proofs.Tight.{In, Hull, Sorted, level, first_clear, wound_is_tight}
 use Rattle.edge_chain.proofs.Stretched.{Covered, IsFirst, stretched, contains, found_in, all_of}
 use Rattle.edge_chain.proofs.Unique.{beside_is}

@@ -4,7 +4,7 @@ use Rattle.std.specs.Prelude.{slice_index_or, slice_set}
 use Rattle.std.proofs.lemmas.List.{drop_more, drop-set, take-take, take-set-le, get_or-take, length-drop, length-set}
 use Rattle.scene_geom.specs.declared.plan.Pt.{Pt}
 use Rattle.edge_chain.specs.declared.hand.Hand.{Hand}
-use Rattle.edge_chain.specs.Winding.{slackened, wound}
+use Rattle.edge_chain.specs.inner.Winding.{slackened, wound}
 
 -- a string of one point or none stays as it is
 pub slackened-short : (hand : Hand) (p : Pt) (string : List Pt) → length string ≤ 1 → slackened hand p string ≡ string

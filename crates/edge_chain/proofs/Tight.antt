@@ -5,7 +5,7 @@ use Rattle.std.proofs.lemmas.Int.{ints, by_lt_z}
 use Rattle.scene_geom.specs.declared.plan.Pt.{Pt}
 use Rattle.edge_chain.specs.declared.hand.Hand.{Hand}
 use Rattle.edge_chain.specs.Chain.{off_line}
-use Rattle.edge_chain.specs.Winding.{slackened, wound}
+use Rattle.edge_chain.specs.inner.Winding.{slackened, wound}
 use Rattle.std.proofs.Math.IntN.{*ℤ_comm}
 use Rattle.scene_geom.proofs.Whole.{sub_mul, mul_sub}
 use Rattle.scene_geom.proofs.Turning.{neg-mul}

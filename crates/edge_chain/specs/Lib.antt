@@ -1,4 +1,3 @@
 pub mod Chain
-pub mod Bearing
-pub mod Winding
 pub mod Laws
+pub mod inner

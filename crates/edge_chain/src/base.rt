@@ -1,7 +1,7 @@
 //! A line from source to receiver, and the order of the points on one hand of it.
 ghost use Rattle.std.specs.Prelude.{◌≡◌, ◌&&◌, ◌≤◌, unsigned_abs, IfOk};
 ghost use Rattle.edge_chain.specs.Chain.{off_line, is_beside, points_beside};
-ghost use Rattle.edge_chain.specs.Bearing.{bearing_order, turn_of};
+ghost use Rattle.edge_chain.specs.inner.Bearing.{bearing_order, turn_of};
 
 use crate::hand::Hand;
 use scene_geom::Pt;

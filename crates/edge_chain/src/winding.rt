@@ -1,6 +1,6 @@
 //! The string as it is wound from the receiver back, point by point, in one buffer.
 ghost use Rattle.std.specs.Prelude.{◌≡◌, ◌≤◌, ◌<◌, length, drop};
-ghost use Rattle.edge_chain.specs.Winding.{slackened, wound};
+ghost use Rattle.edge_chain.specs.inner.Winding.{slackened, wound};
 
 use crate::hand::Hand;
 use scene_geom::Pt;

@@ -4,7 +4,7 @@ use Rattle.std.proofs.lemmas.Int.{ints, clamps, by_lt_z, to_z-of_z}
 use Rattle.std.specs.Prelude.{int_le, int_lt, nat_le, nat_lt}
 use Rattle.std.specs.Int.{int_min, int_max}
 use Rattle.std.specs.Option.{option_map_or, option_and_then}
-use Rattle.enclose_exp.specs.Exponent.{counted, low_value, high_value}
+use Rattle.enclose_exp.specs.inner.Exponent.{counted, low_value, high_value}
 use mir.Syntax.{w64, w128}
 use mir.Val.{SFits, Fits, to_z, of_z}
 use lib.Signed.{non_neg}

@@ -1,1 +1,1 @@
-pub mod Exponent
+pub mod inner

@@ -5,7 +5,7 @@ ghost use Rattle.std.specs.Option.{option_map_or};
 ghost use Rattle.std.specs.Int.{div_ceil};
 ghost use Rattle.fix_interval.specs.Interval.{IsInterval};
 ghost use Rattle.fix_interval.specs.Ten.{ten_of, raised_low, raised_high, fraction_low, fraction_high};
-ghost use Rattle.enclose_exp.specs.Exponent.{counted, low_value, high_value};
+ghost use Rattle.enclose_exp.specs.inner.Exponent.{counted, low_value, high_value};
 
 use fix_interval::{
     Iv, POWER_MARGIN, fraction_down, fraction_up, high_estimate, low_estimate, power_of_ten,

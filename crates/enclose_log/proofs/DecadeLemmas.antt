@@ -7,7 +7,7 @@ use Rattle.std.proofs.lemmas.Grind.{div_ceil_times}
 use Rattle.std.specs.Int.{div_ceil}
 use Rattle.fix_interval.specs.Units.{unit-is}
 use Rattle.fix_interval.specs.Lg.{greatest, decade_of, one_mantissa}
-use Rattle.enclose_log.specs.Decade.{IsDecade}
+use Rattle.enclose_log.specs.inner.Decade.{IsDecade}
 use Rattle.fix_interval.proofs.Ceilings.{div_ceil-scaled, div_ceil-whole}
 
 -- the greatest number that passes, where no greater one does

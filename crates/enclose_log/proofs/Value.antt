@@ -7,7 +7,7 @@ use Rattle.std.proofs.lemmas.Grind.{div_ceil_times}
 use Rattle.std.proofs.Math.Nat.{pow-suc, pow-zero, one-le-pow, pow-le-pow_left, pow-le-pow_right, mul-le-mul_left, le_of_mul-le-mul_right, div-mul-le_self}
 use Rattle.fix_interval.specs.Units.{unit, unit-is}
 use Rattle.fix_interval.specs.Lg.{greatest, decade_of, mantissa_low, mantissa_high, one_mantissa, digits_low, digits_high, rounded_up, lg_low, lg_high, IsAtMostLg, IsAtLeastLg, turn_high, turns}
-use Rattle.enclose_log.specs.Decade.{IsDecade}
+use Rattle.enclose_log.specs.inner.Decade.{IsDecade}
 use Rattle.enclose_log.proofs.DecadeLemmas.{mantissa_low-within, mantissa_high-within}
 use Rattle.enclose_log.proofs.Turns.{turns_low-in_range, turns_high-in_range}
 use Rattle.fix_interval.proofs.Powers.{pow-mul}

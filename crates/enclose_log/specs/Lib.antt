@@ -1,3 +1,2 @@
-pub mod Decade
-pub mod Turn
 pub mod Narrow
+pub mod inner

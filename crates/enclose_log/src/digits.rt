@@ -2,7 +2,7 @@
 
 ghost use Rattle.std.specs.Prelude.{◌≡◌, ◌<◌, ◌≤◌, ◌+◌, ◌*◌, ◌^◌, if◌then◌else◌};
 ghost use Rattle.fix_interval.specs.Lg.{turn_low, turn_high, one_mantissa, digits_low, digits_high, rounded_up};
-ghost use Rattle.enclose_log.specs.Turn.{mantissa_over, reaches_ten};
+ghost use Rattle.enclose_log.specs.inner.Turn.{mantissa_over, reaches_ten};
 
 use crate::guess::tested_digits;
 use std::marker::Model;

@@ -2,7 +2,7 @@
 
 ghost use Rattle.std.specs.Prelude.{◌≡◌, ◌<◌, ◌≤◌, ◌+◌, ◌*◌, ◌/◌, ◌^◌};
 ghost use Rattle.std.specs.Int.{div_ceil};
-ghost use Rattle.enclose_log.specs.Decade.{IsDecade};
+ghost use Rattle.enclose_log.specs.inner.Decade.{IsDecade};
 ghost use Rattle.fix_interval.specs.Lg.{one_mantissa, decade_of, mantissa_low, mantissa_high};
 
 use fix_interval::power_of_ten;

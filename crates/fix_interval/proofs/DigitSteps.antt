@@ -8,7 +8,7 @@ use Rattle.std.specs.Int.{div_ceil}
 use Rattle.std.specs.Prelude.{bit_and}
 use Rattle.fix_interval.specs.Roots.{one_factor, times_low, times_high, product, digit_at}
 use Rattle.fix_interval.specs.Ten.{ten_factor_low, ten_factor_high}
-use Rattle.fix_interval.specs.declared.growths.TheConstants.{GROWTHS_LOW, GROWTHS_HIGH}
+use Rattle.fix_interval.specs.declared.powers_of_ten.growths.TheConstants.{GROWTHS_LOW, GROWTHS_HIGH}
 use Rattle.fix_interval.proofs.Ceilings.{div_ceil-is}
 use Rattle.fix_interval.proofs.DigitProducts.{product-cases}
 use Rattle.fix_interval.proofs.TenTables.{ten_low-growth, ten_high-growth}

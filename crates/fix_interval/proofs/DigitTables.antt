@@ -7,7 +7,7 @@ use Rattle.std.proofs.lemmas.Grind.{div_ceil_times}
 use Rattle.std.proofs.Math.Nat.{div-div-eq-div-mul, div-mul-le_self, lt-div-mul-add}
 use Rattle.fix_interval.specs.Roots.{one_factor, times_low, times_high, product, digit_at}
 use Rattle.fix_interval.specs.Ten.{ten_factor_low, ten_factor_high}
-use Rattle.fix_interval.specs.declared.growths.TheConstants.{SIX_GROWTHS_LOW, SIX_GROWTHS_HIGH}
+use Rattle.fix_interval.specs.declared.powers_of_ten.growths.TheConstants.{SIX_GROWTHS_LOW, SIX_GROWTHS_HIGH}
 use Rattle.fix_interval.proofs.Tables.{both-true}
 use Rattle.fix_interval.proofs.TenTables.{ten_low, ten_high, ten_low-at, ten_high-at}
 use Rattle.fix_interval.proofs.ExactProducts.{Rounds, exact, spread, exact-same, spread-same, product-over, product-under, IsNear, IsFactor, near-step}

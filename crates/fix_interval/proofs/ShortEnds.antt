@@ -2,7 +2,7 @@
 use Rattle.std.proofs.Common.{◌≡◌}
 use Rattle.std.specs.Prelude.{Option, Some, IfSome}
 use Rattle.fix_interval.specs.Interval.{Interval}
-use Rattle.fix_interval.specs.declared.short.Short.{Short}
+use Rattle.fix_interval.specs.declared.products.short.Short.{Short}
 
 abbrev pub of_short : Short → Interval
 of_short ends = record { lo = Some ends.lo; hi = Some ends.hi }

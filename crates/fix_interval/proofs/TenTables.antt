@@ -8,8 +8,8 @@ use Rattle.std.proofs.lemmas.List.{get_or-append_right, get_or-map}
 use Rattle.std.proofs.Math.ListN.{get_or-append}
 use Rattle.fix_interval.specs.Roots.{one_factor, times_low, times_high, root_low, root_high, product, digit_at}
 use Rattle.fix_interval.specs.Ten.{ten_factor_low, ten_factor_high, fraction_low, fraction_high}
-use Rattle.fix_interval.specs.declared.starts.TheConstants.{STARTS_LOW, STARTS_HIGH}
-use Rattle.fix_interval.specs.declared.growths.TheConstants.{GROWTHS_LOW, GROWTHS_HIGH}
+use Rattle.fix_interval.specs.declared.powers_of_ten.starts.TheConstants.{STARTS_LOW, STARTS_HIGH}
+use Rattle.fix_interval.specs.declared.powers_of_ten.growths.TheConstants.{GROWTHS_LOW, GROWTHS_HIGH}
 use Rattle.fix_interval.proofs.Ceilings.{quotient_up-le}
 use Rattle.fix_interval.proofs.DigitProducts.{Grows, product_of_all, product-same, product-digits, product-le_all}
 use Rattle.fix_interval.proofs.RootTables.{roots_low-at, roots_high-at}

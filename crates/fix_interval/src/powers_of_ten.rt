@@ -1,5 +1,11 @@
 //! Powers of ten.
 
+pub(crate) mod fraction_digits;
+pub(crate) mod fraction_powers;
+pub(crate) mod growths;
+pub(crate) mod power_estimates;
+pub(crate) mod starts;
+
 ghost use Rattle.std.specs.Prelude.{◌≡◌, ◌<◌, ◌^◌};
 
 /// Those below 2^96.

@@ -1,5 +1,10 @@
 //! Products of intervals.
 
+pub(crate) mod short;
+pub(crate) mod short_products;
+pub(crate) mod span;
+pub(crate) mod whole_factors;
+
 ghost use Rattle.std.specs.Prelude.{◌≡◌, ◌<◌, ◌^◌, ℤ, pos, ◌*ℤ◌, ◌≤ℤ◌, unsigned_abs};
 ghost use Rattle.fix_interval.specs.Interval.{IsEnd, IsOrdered};
 ghost use Rattle.fix_interval.specs.Units.{unit};
@@ -7,9 +12,9 @@ ghost use Rattle.fix_interval.specs.Round.{floor_of, ceil_of};
 ghost use Rattle.fix_interval.specs.Values.{end_of, least_product, greatest_product, product_of_ends, rounded_outward, mul_of};
 
 use crate::iv::Iv;
-use crate::short::short_ends;
-use crate::short_products::short_multiple;
-use crate::span::{Span, bounded};
+use crate::products::short::short_ends;
+use crate::products::short_products::short_multiple;
+use crate::products::span::{Span, bounded};
 use crate::values::{end, greater_of_highs, lesser_of_lows, negated};
 
 /// The product of two quantities: from the least of the four products of ends to the greatest, rounded

@@ -1,5 +1,8 @@
 //! Constants and quotients of intervals.
 
+pub(crate) mod estimates;
+pub(crate) mod whole_quotient;
+
 ghost use Rattle.std.specs.Prelude.{◌≡◌, ◌<◌, ◌^◌, ◌/◌, ℤ, pos, neg_ℤ, ◌*ℤ◌, ◌<ℤ◌, ◌≤ℤ◌, unsigned_abs, IsTrue, ◌↔◌};
 ghost use Rattle.std.specs.Int.{div_ceil, int_min, int_max};
 ghost use Rattle.fix_interval.specs.Units.{unit};
@@ -7,8 +10,8 @@ ghost use Rattle.fix_interval.specs.Round.{floor_of, ceil_of, floor_quotient, ce
 ghost use Rattle.fix_interval.specs.Values.{ratio_of, quotient_of_ends, div_of};
 
 use crate::iv::Iv;
-use crate::span::{Span, bounded};
-use crate::whole_quotient::quotient;
+use crate::products::span::{Span, bounded};
+use crate::quotients::whole_quotient::quotient;
 
 /// How many units are one, 2^32.
 const UNIT: i128 = 1 << 32;

@@ -1,12 +1,14 @@
 //! Square roots of intervals.
 
+pub(crate) mod square_root;
+
 ghost use Rattle.std.specs.Prelude.{◌≡◌, ◌<◌, ◌^◌, ◌*◌};
 ghost use Rattle.fix_interval.specs.Units.{unit};
 ghost use Rattle.fix_interval.specs.Round.{floor_root};
 ghost use Rattle.fix_interval.specs.Values.{low_radicand, root_of_high, is_below_zero, root_of};
 
 use crate::iv::Iv;
-use crate::square_root::{root_down, root_up};
+use crate::roots::square_root::{root_down, root_up};
 
 /// How many units are one, 2^32.
 const UNIT: u128 = 1 << 32;

@@ -6,7 +6,7 @@ ghost use Rattle.fix_interval.specs.Interval.{IsEnd};
 ghost use Rattle.fix_interval.specs.Values.{end_of, ratio_of, sum_of_ends, add_of, neg_of, sub_of, greater_low, lesser_low, greater_high, lesser_high, max_of, min_of, hull_of, is_before, is_up_to, less_of, pick_of};
 
 use crate::iv::Iv;
-use crate::short::short_ends;
+use crate::products::short::short_ends;
 use crate::truth::Truth;
 
 /// An end's absolute value stays below this number of units, 2^126.

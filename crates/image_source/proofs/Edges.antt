@@ -11,9 +11,9 @@ use Rattle.scene_geom.specs.Bands.{all_bands}
 use Rattle.scene_geom.proofs.BandLemmas.{at-place}
 use Rattle.scene_parts.specs.Views.{Obstacle}
 use Rattle.scene_parts.specs.Sides.{sides_of}
-use Rattle.scene_parts.specs.declared.edge.Edge.{Edge}
-use Rattle.scene_parts.specs.declared.ends.Ends.{Ends}
-use Rattle.scene_parts.specs.declared.crossing.Crossing.{Crossing}
+use Rattle.scene_parts.specs.declared.screening.edge.Edge.{Edge}
+use Rattle.scene_parts.specs.declared.screening.ends.Ends.{Ends}
+use Rattle.scene_parts.specs.declared.screening.crossing.Crossing.{Crossing}
 use Rattle.scene_parts.specs.Crossings.{counts_in}
 use Rattle.scene_parts.proofs.Counted.{where_true, none-counted, more-counted}
 use Rattle.image_source.specs.declared.leg.Leg.{Leg}

@@ -2,7 +2,7 @@
 use Rattle.std.proofs.Common.{◌≡◌, ℕ, ◌+◌, ◌*◌, ◌^◌, ◌≤◌, ◌<◌, arith, ap, ◌∙◌}
 use Rattle.std.specs.Prelude.{ℤ, ◌+ℤ◌, ◌-ℤ◌, ◌*ℤ◌, unsigned_abs}
 use Rattle.std.proofs.lemmas.Int.{ints, fits_signed_from_abs}
-use Rattle.scene_geom.specs.declared.fraction.Frac.{Frac}
+use Rattle.scene_geom.specs.declared.fractions.fraction.Frac.{Frac}
 use Rattle.scene_geom.proofs.Whole.{kept, abs-mul, abs-sub}
 use Rattle.scene_geom.specs.Plan.{InPlan}
 use Rattle.image_source.specs.Mirrors.{at_place}

@@ -7,8 +7,8 @@ use Rattle.std.proofs.lemmas.Int.{ints}
 use Rattle.std.proofs.Math.Nat.{mul-le-mul}
 use Rattle.scene_geom.specs.declared.plan.Pt.{Pt}
 use Rattle.scene_geom.specs.declared.plan.Side.{Side}
-use Rattle.scene_geom.specs.declared.fraction.Frac.{Frac}
-use Rattle.scene_geom.specs.declared.direction.Dir.{Dir}
+use Rattle.scene_geom.specs.declared.fractions.fraction.Frac.{Frac}
+use Rattle.scene_geom.specs.declared.directions.direction.Dir.{Dir}
 use Rattle.scene_geom.specs.declared.reflection.Reflection.{Reflection}
 use Rattle.scene_geom.specs.Vector.{cross}
 use Rattle.scene_geom.specs.Point.{from_to, along}
@@ -17,7 +17,7 @@ use Rattle.scene_geom.specs.Direction.{way, FitsDirection}
 use Rattle.scene_geom.specs.Crossing.{is_split}
 use Rattle.scene_geom.proofs.Whole.{abs-cross}
 use Rattle.scene_geom.proofs.Crossings.{along-within}
-use Rattle.scene_parts.specs.declared.ends.Ends.{Ends}
+use Rattle.scene_parts.specs.declared.screening.ends.Ends.{Ends}
 use Rattle.scene_parts.specs.Crossings.{rises_above}
 use Rattle.image_source.specs.declared.leg.Leg.{Leg}
 use Rattle.image_source.specs.declared.leg.Leg.TheVariants.{First, Second}

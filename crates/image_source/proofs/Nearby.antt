@@ -7,14 +7,14 @@ use Rattle.std.specs.List.{filter_map, enumerate_from, cons_option}
 use Rattle.std.proofs.lemmas.Bool.{both_ways}
 use Rattle.scene_geom.specs.declared.plan.Pt.{Pt}
 use Rattle.scene_geom.specs.declared.plan.Side.{Side}
-use Rattle.scene_geom.specs.declared.fraction.Frac.{Frac}
-use Rattle.scene_geom.specs.declared.direction.Dir.{Dir}
+use Rattle.scene_geom.specs.declared.fractions.fraction.Frac.{Frac}
+use Rattle.scene_geom.specs.declared.directions.direction.Dir.{Dir}
 use Rattle.scene_geom.specs.declared.reflection.Reflection.{Reflection}
 use Rattle.scene_geom.specs.Fraction.{is_inside, rest_of}
 use Rattle.scene_geom.specs.Crossing.{hits_of}
 use Rattle.scene_parts.specs.Views.{Obstacle}
-use Rattle.scene_parts.specs.declared.ends.Ends.{Ends}
-use Rattle.scene_parts.specs.declared.crossing.Crossing.{Crossing}
+use Rattle.scene_parts.specs.declared.screening.ends.Ends.{Ends}
+use Rattle.scene_parts.specs.declared.screening.crossing.Crossing.{Crossing}
 use Rattle.scene_parts.specs.Sides.{sides_of}
 use Rattle.part_grid.specs.declared.owned.Owned.{Owned}
 use Rattle.part_grid.specs.Ways.{cells_meet_way}
@@ -24,7 +24,7 @@ use Rattle.part_grid.proofs.Numbered.{IsFoundAt, found-at, found-more, looked_up
 use Rattle.image_source.specs.declared.leg.Leg.{Leg}
 use Rattle.image_source.specs.declared.leg.Leg.TheVariants.{First, Second}
 use Rattle.image_source.specs.LegCuts.{place_up_to, place_on, crossing_on, before_all, crossings_along, crossings_from}
-use Rattle.image_source.specs.Near.{is_near}
+use Rattle.image_source.specs.inner.Near.{is_near}
 
 -- ---- crossings as what is found of numbered sides
 before-is : (first : Option (Leg × Crossing)) (others : List (Leg × Crossing)) → cons_option first others ≡ before_all first others

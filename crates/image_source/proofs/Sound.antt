@@ -4,7 +4,7 @@ use Rattle.std.specs.Prelude.{ℤ, pos, negsuc, ◌*ℤ◌, ◌<ℤ◌, unsigned
 use Rattle.std.proofs.lemmas.Int.{ints}
 use Rattle.fix_interval.specs.Tree.{Tree, IsSound}
 use Rattle.scene_geom.specs.declared.plan.Side.{Side}
-use Rattle.scene_geom.specs.declared.fraction.Frac.{Frac}
+use Rattle.scene_geom.specs.declared.fractions.fraction.Frac.{Frac}
 use Rattle.scene_geom.specs.declared.band.Band.{Band}
 use Rattle.scene_geom.proofs.BandLemmas.{frequency-positive}
 use Rattle.image_source.specs.Dimensions.{least_dimension, incidence, dimension_squared, legs_product, needed_squared}

@@ -11,7 +11,7 @@ use Rattle.scene_geom.proofs.Walls.{off, unfolded-fits, over-n, over-d}
 use Rattle.scene_parts.specs.Views.{Obstacle}
 use Rattle.scene_parts.specs.Ranges.{IsObstacle}
 use Rattle.scene_parts.specs.Sides.{sides_of, is_short}
-use Rattle.scene_parts.specs.declared.ends.Ends.{Ends}
+use Rattle.scene_parts.specs.declared.screening.ends.Ends.{Ends}
 use Rattle.image_source.specs.Mirrors.{IsMirror, strikes, stays_below, faces, mirror_of}
 
 -- each side of a list of short ones is short

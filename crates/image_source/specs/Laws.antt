@@ -3,7 +3,7 @@ use Rattle.std.specs.Prelude.{◌≡◌, ◌≤◌, ℕ, pos, ◌*ℤ◌, List, 
 use Rattle.fix_interval.specs.Tree.{Tree, IsSound}
 use Rattle.scene_geom.specs.declared.plan.Pt.{Pt}
 use Rattle.scene_geom.specs.declared.plan.Side.{Side}
-use Rattle.scene_geom.specs.declared.fraction.Frac.{Frac}
+use Rattle.scene_geom.specs.declared.fractions.fraction.Frac.{Frac}
 use Rattle.scene_geom.specs.declared.band.Band.{Band}
 use Rattle.scene_geom.specs.declared.reflection.Reflection.{Reflection}
 use Rattle.scene_geom.specs.Vector.{Vector, cross, dot, scaled, minus}
@@ -11,8 +11,8 @@ use Rattle.scene_geom.specs.Point.{from_to, along}
 use Rattle.scene_geom.specs.Direction.{way, FitsDirection}
 use Rattle.scene_geom.specs.Reflection.{CanReflect, squared_length, to_image, specular}
 use Rattle.scene_parts.specs.Views.{Obstacle}
-use Rattle.scene_parts.specs.declared.edge.Edge.{Edge}
-use Rattle.scene_parts.specs.declared.ends.Ends.{Ends}
+use Rattle.scene_parts.specs.declared.screening.edge.Edge.{Edge}
+use Rattle.scene_parts.specs.declared.screening.ends.Ends.{Ends}
 use Rattle.image_source.specs.declared.leg.Leg.{Leg}
 use Rattle.image_source.specs.Mirrors.{at_place, ahead, IsMirror}
 use Rattle.image_source.specs.LegCuts.{edge_on, edges_in, leg_crossings_of, is_leg_crossing_in}

@@ -7,19 +7,19 @@ use Rattle.std.specs.List.{filter_map}
 use Rattle.std.specs.Option.{option_map, option_and_then}
 use Rattle.scene_geom.specs.declared.plan.Pt.{Pt}
 use Rattle.scene_geom.specs.declared.plan.Side.{Side}
-use Rattle.scene_geom.specs.declared.fraction.Frac.{Frac}
-use Rattle.scene_geom.specs.declared.direction.Dir.{Dir}
+use Rattle.scene_geom.specs.declared.fractions.fraction.Frac.{Frac}
+use Rattle.scene_geom.specs.declared.directions.direction.Dir.{Dir}
 use Rattle.scene_geom.specs.declared.band.Band.{Band}
 use Rattle.scene_geom.specs.declared.reflection.Reflection.{Reflection}
 use Rattle.scene_geom.specs.Bands.{all_bands}
 use Rattle.scene_geom.specs.Fraction.{is_inside, rest_of}
 use Rattle.scene_geom.specs.Crossing.{hits_of}
 use Rattle.scene_parts.specs.Views.{Obstacle}
-use Rattle.scene_parts.specs.declared.cuts.Cut.{Cut}
+use Rattle.scene_parts.specs.declared.screening.cuts.Cut.{Cut}
 use Rattle.scene_parts.specs.Sides.{sides_of}
-use Rattle.scene_parts.specs.declared.edge.Edge.{Edge}
-use Rattle.scene_parts.specs.declared.ends.Ends.{Ends}
-use Rattle.scene_parts.specs.declared.crossing.Crossing.{Crossing}
+use Rattle.scene_parts.specs.declared.screening.edge.Edge.{Edge}
+use Rattle.scene_parts.specs.declared.screening.ends.Ends.{Ends}
+use Rattle.scene_parts.specs.declared.screening.crossing.Crossing.{Crossing}
 use Rattle.scene_parts.specs.Crossings.{rises_above, counts_in, is_crossing_in, cut_of}
 use Rattle.image_source.specs.declared.leg.Leg.{Leg}
 use Rattle.image_source.specs.declared.leg.Leg.TheVariants.{First, Second}

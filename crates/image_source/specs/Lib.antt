@@ -1,5 +1,5 @@
 pub mod Mirrors
 pub mod LegCuts
-pub mod Near
 pub mod Dimensions
 pub mod Laws
+pub mod inner

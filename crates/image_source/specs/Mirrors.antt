@@ -4,7 +4,7 @@ use Rattle.std.specs.Prelude.{ℕ, ℤ, pos, ◌+ℤ◌, ◌-ℤ◌, ◌*ℤ◌,
 use Rattle.std.specs.Bool.{then_some}
 use Rattle.scene_geom.specs.declared.plan.Pt.{Pt}
 use Rattle.scene_geom.specs.declared.plan.Side.{Side}
-use Rattle.scene_geom.specs.declared.fraction.Frac.{Frac}
+use Rattle.scene_geom.specs.declared.fractions.fraction.Frac.{Frac}
 use Rattle.scene_geom.specs.declared.reflection.Reflection.{Reflection}
 use Rattle.scene_geom.specs.Vector.{dot}
 use Rattle.scene_geom.specs.Point.{from_to, along, orient_of}
@@ -14,7 +14,7 @@ use Rattle.scene_geom.specs.Reflection.{are_on_one_side, squared_length, specula
 use Rattle.scene_parts.specs.declared.kinds.Shape.{Shape}
 use Rattle.scene_parts.specs.declared.kinds.Shape.TheVariants.{Barrier, Building}
 use Rattle.scene_parts.specs.Views.{Obstacle}
-use Rattle.scene_parts.specs.declared.ends.Ends.{Ends}
+use Rattle.scene_parts.specs.declared.screening.ends.Ends.{Ends}
 
 -- what changes evenly along the path, from x at the source to y at the receiver, at a place t, times the divisor of t
 abbrev pub at_place : ℤ → ℤ → Frac → ℤ

@@ -7,9 +7,9 @@ use Rattle.std.proofs.lemmas.Bool.{false≢true}
 use Rattle.std.proofs.lemmas.List.{drop_more}
 use Rattle.std.proofs.lemmas.Slice.Eq.{bytes_eq-Decides}
 use Rattle.indexmap.specs.IndexMap.{insert_entry}
-use Rattle.scene_book.specs.Filed.{same_key}
+use Rattle.scene_book.specs.inner.Filed.{same_key}
 use Rattle.scene_book.specs.Lists.{named}
-use Rattle.level_contours.specs.Filing.{is_key}
+use Rattle.level_contours.specs.inner.Filing.{is_key}
 
 module _ {A : Type 0} where
   -- an entry inserted is found by its key, and hides no other

@@ -1,5 +1,5 @@
 pub mod Comparing
 pub mod GridNames
 pub mod Looking
-pub mod Filing
 pub mod Texts
+pub mod inner

@@ -3,7 +3,7 @@ ghost use Rattle.std.specs.Prelude.{◌≡◌, ℕ, List, IfOk, option_map, is_s
 ghost use Rattle.std.specs.Map.{lookup};
 ghost use Rattle.scene_book.specs.Lists.{named};
 ghost use Rattle.level_contours.specs.Looking.{known_total};
-ghost use Rattle.level_contours.specs.Filing.{is_key};
+ghost use Rattle.level_contours.specs.inner.Filing.{is_key};
 
 use fix_interval::Iv;
 use indexmap::IndexMap;

@@ -4,7 +4,7 @@ ghost use Rattle.scene_parts.specs.Limits.{most_columns};
 ghost use Rattle.scene_parts.specs.Names.{IsName};
 ghost use Rattle.scene_book.specs.Grid.{name_in};
 ghost use Rattle.level_contours.specs.GridNames.{names_along, names_of, first_missing_of, NamesAreOfGrid};
-ghost use Rattle.level_contours.specs.Filing.{is_absent};
+ghost use Rattle.level_contours.specs.inner.Filing.{is_absent};
 
 use crate::lookup::filed;
 use crate::names::name_at;
@@ -93,7 +93,7 @@ fn missing_at(
     Ok(Some(Name::from_vec(bytes)))
 }
 
-#[tactic(auto, unfolding(crate::specs::Filing::is_absent))]
+#[tactic(auto, unfolding(crate::specs::inner::Filing::is_absent))]
 fn is_there(names: &IndexMap<Vec<u8>, ()>, name: &[u8]) -> bool
     ensures { not result ≡ is_absent names.now.entries name.now }
 {

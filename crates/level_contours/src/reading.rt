@@ -5,7 +5,7 @@ ghost use Rattle.fix_interval.specs.Interval.{All};
 ghost use Rattle.scene_book.specs.Grid.{name_in};
 ghost use Rattle.level_contours.specs.GridNames.{names_along, names_of};
 ghost use Rattle.level_contours.specs.Looking.{cells_of};
-ghost use Rattle.level_contours.specs.Filing.{is_key, cell_found};
+ghost use Rattle.level_contours.specs.inner.Filing.{is_key, cell_found};
 
 use crate::comparing::cell;
 use crate::lookup::totals;
@@ -64,7 +64,7 @@ fn push_row(
 }
 
 /// The cell of a row and a column.
-#[tactic(auto, unfolding(crate::specs::Filing::cell_found))]
+#[tactic(auto, unfolding(crate::specs::inner::Filing::cell_found))]
 fn cell_at(
     alloc: Global,
     known: &IndexMap<Vec<u8>, Iv>,

@@ -10,18 +10,19 @@ use Rattle.path_cache.specs.Refreshed.{CanRefresh, Stand, is_wanted}
 use Rattle.path_cache.specs.Standing.{AreOfEach}
 use Rattle.touch_test.specs.Touches.{names_receiver, touches_receiver}
 use Rattle.touch_test.proofs.Edits.{answers-old}
-use Rattle.map_board.specs.declared.caches.Cache.{Cache}
+use Rattle.map_board.specs.declared.rows.caches.Cache.{Cache}
 use Rattle.map_board.specs.declared.rows.KeptLevels.{KeptLevels}
 use Rattle.map_board.specs.declared.rows.HeldRow.{HeldRow}
-use Rattle.map_board.specs.declared.renewing.Change.{Change}
+use Rattle.map_board.specs.declared.edits.renewing.Change.{Change}
 use Rattle.map_board.specs.Journal.{scene_at, newest_scene, names, touches, first_touching}
 use Rattle.map_board.specs.Rows.{Kept}
-use Rattle.map_board.specs.Held.{AreWithin}
+use Rattle.map_board.specs.inner.Held.{AreWithin}
 use Rattle.map_board.specs.Facts.{RowIsRight}
 use Rattle.map_board.specs.Machine.{new_row}
-use Rattle.map_board.specs.Marks.{marks_after}
-use Rattle.map_board.specs.Boards.{kept_of, row_of, CacheIsRight, CacheIsThere, ByIsRight, RowHolds, HasNone, IsEmpty}
-use Rattle.map_board.specs.Changes.{scene_before, scene_after, journal_after, IsChange, IsFresh, IsRowAfter, NamesNone}
+use Rattle.map_board.specs.inner.Marks.{marks_after}
+use Rattle.map_board.specs.Boards.{kept_of, row_of}
+use Rattle.map_board.specs.inner.Boards.{CacheIsRight, CacheIsThere, ByIsRight, RowHolds, HasNone, IsEmpty}
+use Rattle.map_board.specs.inner.Changes.{scene_before, scene_after, journal_after, IsChange, IsFresh, IsRowAfter, NamesNone}
 use Rattle.map_board.proofs.Journals.{newest-more, first-more}
 use Rattle.map_board.proofs.RowsRight.{new-right, more-right}
 use Rattle.map_board.proofs.Caching.{right-more}

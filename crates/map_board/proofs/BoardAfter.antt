@@ -11,17 +11,18 @@ use Rattle.scene_book.specs.Applying.{apply_of}
 use Rattle.scene_book.specs.declared.edits.Edit.{Edit}
 use Rattle.touch_test.specs.Touches.{old_part}
 use Rattle.touch_test.proofs.Edits.{answers-old}
-use Rattle.map_board.specs.declared.log.Log.{Log}
-use Rattle.map_board.specs.declared.namings.Naming.{Naming}
+use Rattle.map_board.specs.declared.edits.log.Log.{Log}
+use Rattle.map_board.specs.declared.edits.namings.Naming.{Naming}
 use Rattle.map_board.specs.declared.rows.HeldRow.{HeldRow}
-use Rattle.map_board.specs.declared.renewing.Change.{Change}
+use Rattle.map_board.specs.declared.edits.renewing.Change.{Change}
 use Rattle.map_board.specs.Journal.{scene_left, book_after, scene_at, newest_scene, names}
 use Rattle.map_board.specs.Rows.{Row, row_named}
 use Rattle.map_board.specs.Machine.{new_row, row_after, rows_after}
-use Rattle.map_board.specs.Log.{entries_after}
-use Rattle.map_board.specs.Namings.{noted, naming_of}
-use Rattle.map_board.specs.Boards.{row_of, rows_of, EachHolds, IsOutSince, IsBoard}
-use Rattle.map_board.specs.Changes.{scene_before, scene_after, IsChange}
+use Rattle.map_board.specs.inner.Log.{entries_after}
+use Rattle.map_board.specs.inner.Namings.{noted, naming_of}
+use Rattle.map_board.specs.Boards.{row_of, rows_of}
+use Rattle.map_board.specs.inner.Boards.{EachHolds, IsOutSince, IsBoard}
+use Rattle.map_board.specs.inner.Changes.{scene_before, scene_after, IsChange}
 use Rattle.map_board.proofs.Journals.{newest-more}
 use Rattle.map_board.proofs.RowsRight.{found-right}
 use Rattle.map_board.proofs.Logging.{accepted-as, accepted-more, entries-length, entries-more, later, namings-more}

@@ -19,13 +19,13 @@ use Rattle.touch_test.specs.Laws.{PathStays, UntouchedPathsStay, UntouchedReceiv
 use Rattle.touch_test.proofs.Untouched.{untouched-paths-stay, untouched-receivers-stay}
 use Rattle.touch_test.proofs.Edits.{answers-old}
 use Rattle.touch_test.proofs.Lists.{In, neither, fails-at, in-map, map-agrees, contains, found-in}
-use Rattle.map_board.specs.declared.caches.Cache.{Cache}
+use Rattle.map_board.specs.declared.rows.caches.Cache.{Cache}
 use Rattle.map_board.specs.Journal.{scene_left, book_after, book_after_all, scene_at, newest_scene, first_from, first_after, first_touching, touches}
 use Rattle.map_board.specs.Rows.{Kept}
 use Rattle.map_board.specs.Due.{source_within, touches_source, is_due}
-use Rattle.map_board.specs.Held.{AreWithin}
-use Rattle.map_board.specs.Marks.{marks_after}
-use Rattle.map_board.specs.Boards.{CacheIsRight}
+use Rattle.map_board.specs.inner.Held.{AreWithin}
+use Rattle.map_board.specs.inner.Marks.{marks_after}
+use Rattle.map_board.specs.inner.Boards.{CacheIsRight}
 use Rattle.map_board.proofs.Naming.{named-is, same-name}
 use Rattle.map_board.proofs.Keeping.{none-of}
 use Rattle.map_board.proofs.Journals.{newest-more, at-more, through, some-more}

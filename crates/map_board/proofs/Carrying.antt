@@ -8,12 +8,13 @@ use Rattle.scene_book.specs.Lists.{AreApart}
 use Rattle.scene_book.specs.declared.edits.Edit.{Edit}
 use Rattle.touch_test.specs.Touches.{names_receiver}
 use Rattle.map_board.specs.declared.rows.HeldRow.{HeldRow}
-use Rattle.map_board.specs.declared.renewing.Change.{Change}
+use Rattle.map_board.specs.declared.edits.renewing.Change.{Change}
 use Rattle.map_board.specs.Journal.{names}
 use Rattle.map_board.specs.Rows.{Row, row_named}
 use Rattle.map_board.specs.Machine.{new_row, row_after}
-use Rattle.map_board.specs.Boards.{row_of, rows_of, RowHolds, EachHolds}
-use Rattle.map_board.specs.Changes.{scene_before, scene_after, journal_after, is_unnamed, removed_place, without_place, placed, IsChange, HasRow, IsRowAfter, AreRenewed}
+use Rattle.map_board.specs.Boards.{row_of, rows_of}
+use Rattle.map_board.specs.inner.Boards.{RowHolds, EachHolds}
+use Rattle.map_board.specs.inner.Changes.{scene_before, scene_after, journal_after, is_unnamed, removed_place, without_place, placed, IsChange, HasRow, IsRowAfter, AreRenewed}
 use Rattle.map_board.proofs.Places.{row-at, each-lengths}
 use Rattle.map_board.proofs.AfterEdits.{names-as, fresh-row, fresh-holds}
 use Rattle.map_board.proofs.Staying.{receivers_after, accepted-receivers, Stays, stays, gone-within, rows-left}

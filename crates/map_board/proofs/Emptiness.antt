@@ -11,9 +11,9 @@ use Rattle.scene_book.specs.declared.edits.Edit.{Edit}
 use Rattle.scene_book.specs.declared.edits.Edit.TheVariants as edits
 use Rattle.touch_test.specs.Touches.{is_receiver}
 use Rattle.map_board.specs.declared.rows.HeldRow.{HeldRow}
-use Rattle.map_board.specs.declared.renewing.Change.{Change}
-use Rattle.map_board.specs.Boards.{RowHolds, IsEmpty, EmptyFrom}
-use Rattle.map_board.specs.Changes.{is_receiver_part, may_name_any, without_place, IsChange, HasRow, IsRowAfter, AreRenewed, NamesNone}
+use Rattle.map_board.specs.declared.edits.renewing.Change.{Change}
+use Rattle.map_board.specs.inner.Boards.{RowHolds, IsEmpty, EmptyFrom}
+use Rattle.map_board.specs.inner.Changes.{is_receiver_part, may_name_any, without_place, IsChange, HasRow, IsRowAfter, AreRenewed, NamesNone}
 use Rattle.map_board.proofs.AfterEdits.{empty-after}
 use Rattle.map_board.proofs.Carrying.{some-item, some-within}
 

@@ -13,26 +13,27 @@ use Rattle.path_calc.specs.Bundles.{Bundle}
 use Rattle.path_calc.specs.Show.{sources_within, bundles_of}
 use Rattle.path_cache.specs.Refreshed.{CanRefresh, Stand, is_wanted}
 use Rattle.path_cache.specs.Standing.{AreOfEach}
-use Rattle.map_board.specs.declared.log.LogEntry.{LogEntry}
+use Rattle.map_board.specs.declared.edits.log.LogEntry.{LogEntry}
 use Rattle.map_board.specs.declared.state.Board.TheInside.{Inside}
 use Rattle.map_board.specs.declared.rows.Back.{Back}
-use Rattle.map_board.specs.declared.caches.Cache.{Cache}
+use Rattle.map_board.specs.declared.rows.caches.Cache.{Cache}
 use Rattle.map_board.specs.declared.rows.KeptLevels.{KeptLevels}
 use Rattle.map_board.specs.declared.rows.HeldRow.{HeldRow}
 use Rattle.map_board.specs.Views.{Job, Answer}
-use Rattle.map_board.specs.Held.{AreWithin, IsJob, no_marks}
+use Rattle.map_board.specs.inner.Held.{AreWithin, IsJob, no_marks}
 use Rattle.map_board.specs.Journal.{scene_at, newest_scene, first_naming, first_touching, AreAccepted}
 use Rattle.map_board.specs.Rows.{Kept, Row, State, row_named, version_out, with_row}
 use Rattle.map_board.specs.Jobs.{IsOutFor, MayReturn, IsFit, IsRight}
-use Rattle.map_board.specs.Log.{entries_after}
-use Rattle.map_board.specs.Later.{marks_after_all, first_entry_touching}
-use Rattle.map_board.specs.Back.{held_with, row_with, SuitsAt}
-use Rattle.map_board.specs.Boards.{kept_of, row_of, rows_of, counts_of, CacheIsRight, ByIsRight, RowHolds, EachHolds, IsOutSince, IsBoard}
+use Rattle.map_board.specs.inner.Log.{entries_after}
+use Rattle.map_board.specs.inner.Later.{marks_after_all, first_entry_touching}
+use Rattle.map_board.specs.inner.Back.{held_with, row_with, SuitsAt}
+use Rattle.map_board.specs.Boards.{kept_of, row_of, rows_of, counts_of}
+use Rattle.map_board.specs.inner.Boards.{CacheIsRight, ByIsRight, RowHolds, EachHolds, IsOutSince, IsBoard}
 use Rattle.map_board.proofs.Naming.{named-is, itself}
 use Rattle.map_board.proofs.Logging.{entries-length, later as logged-later}
 use Rattle.map_board.proofs.Places.{At, at-place, none-here, board-set, rows-set}
 use Rattle.map_board.proofs.RowsRight.{kept-right, freed-right}
-use Rattle.map_board.specs.Standing.{IsOrdered}
+use Rattle.map_board.specs.inner.Standing.{IsOrdered}
 use Rattle.map_board.proofs.Caching.{AreRight}
 use Rattle.map_board.proofs.Ordered.{ordered-back}
 use Rattle.map_board.proofs.Since.{right-later, touching-later, fresh-later, answer-right}

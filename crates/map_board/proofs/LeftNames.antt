@@ -9,7 +9,7 @@ use Rattle.scene_book.specs.Laws.{Edited, pieces_of, pieces_of_any}
 use Rattle.scene_book.specs.declared.edits.Edit.TheVariants as edits
 use Rattle.scene_book.proofs.EditLemmas.{accepted-changes}
 use Rattle.touch_test.proofs.Edits.{answers-old}
-use Rattle.map_board.specs.Sources.{LeavesSourceNames}
+use Rattle.map_board.specs.inner.Sources.{LeavesSourceNames}
 
 abbrev pub name_of : Source → List ℕ
 name_of source = source.name

@@ -11,7 +11,7 @@ use Rattle.scene_book.specs.Lists.{named}
 use Rattle.scene_book.specs.Laws.{Edited, pieces_of_any}
 use Rattle.scene_book.specs.declared.edits.Edit.TheVariants as edits
 use Rattle.scene_book.proofs.EditLemmas.{accepted-changes}
-use Rattle.map_board.specs.Sources.{LeavesObstacles, is_obstacle}
+use Rattle.map_board.specs.inner.Sources.{LeavesObstacles, is_obstacle}
 use Rattle.map_board.proofs.LeftSources.{none-named}
 
 -- a list edited by nothing is the same

@@ -9,8 +9,8 @@ use Rattle.scene_book.specs.declared.edits.Edit.{Edit}
 use Rattle.touch_test.specs.Touches.{old_part}
 use Rattle.touch_test.proofs.Edits.{answers-old}
 use Rattle.map_board.specs.Journal.{scene_left, book_after, book_after_all, scene_at, newest_scene, AreAccepted}
-use Rattle.map_board.specs.Log.{entry_of, entries_from, entries_after}
-use Rattle.map_board.specs.Namings.{noted, naming_of, namings_from, namings_of}
+use Rattle.map_board.specs.inner.Log.{entry_of, entries_from, entries_after}
+use Rattle.map_board.specs.inner.Namings.{noted, naming_of, namings_from, namings_of}
 use Rattle.map_board.proofs.Journals.{through, at-more}
 
 -- ---- accepted edits

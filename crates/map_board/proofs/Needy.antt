@@ -4,7 +4,7 @@ use Rattle.std.specs.Prelude.{not, ◌||◌, ◌&&◌}
 use Rattle.std.specs.List.{list_any}
 use Rattle.std.proofs.lemmas.List.{take-set-le}
 use Rattle.map_board.specs.declared.rows.HeldRow.{HeldRow}
-use Rattle.map_board.specs.Boards.{is_held_current, is_held_needy, row_out}
+use Rattle.map_board.specs.inner.Boards.{is_held_current, is_held_needy, row_out}
 
 first-fails : (a b : Bool) → (a || b) ≡ false → a ≡ false
 first-fails true b none = absurd (cc none)

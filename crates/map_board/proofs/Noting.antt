@@ -14,11 +14,11 @@ use Rattle.scene_book.specs.declared.edits.Edit.{Edit}
 use Rattle.scene_book.specs.declared.edits.Edit.TheVariants as edits
 use Rattle.touch_test.specs.Touches.{old_part, is_receiver}
 use Rattle.touch_test.proofs.Lists.{or_false}
-use Rattle.map_board.specs.declared.namings.NamedReceivers.{NamedReceivers}
-use Rattle.map_board.specs.declared.namings.Naming.{Naming}
+use Rattle.map_board.specs.declared.edits.namings.NamedReceivers.{NamedReceivers}
+use Rattle.map_board.specs.declared.edits.namings.Naming.{Naming}
 use Rattle.map_board.specs.Journal.{book_after, book_after_all, first_from, first_naming, names}
-use Rattle.map_board.specs.Namings.{named_part, naming_of, noted, namings_from, namings_of}
-use Rattle.map_board.specs.FirstNaming.{has_name, names_after, first_noted}
+use Rattle.map_board.specs.inner.Namings.{named_part, naming_of, noted, namings_from, namings_of}
+use Rattle.map_board.specs.inner.FirstNaming.{has_name, names_after, first_noted}
 use Rattle.map_board.proofs.Naming.{named-is, same-name}
 
 -- ---- one edit

@@ -8,7 +8,7 @@ use Rattle.scene_book.specs.declared.edits.Edit.{Edit}
 use Rattle.touch_test.specs.Touches.{bundled}
 use Rattle.scene_book.specs.Lists.{NoneNamed, AreApart}
 use Rattle.path_calc.specs.Bundles.{Bundle}
-use Rattle.map_board.specs.Marks.{is_from, marks_from, marks_after, touches_one, TouchesFrom}
+use Rattle.map_board.specs.inner.Marks.{is_from, marks_from, marks_after, touches_one, TouchesFrom}
 use Rattle.map_board.proofs.Naming.{turned, itself}
 
 or-same : (m t : Bool) → t ≡ false → m ≡ (m || t)

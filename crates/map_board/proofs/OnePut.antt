@@ -14,9 +14,10 @@ use Rattle.scene_book.specs.declared.edits.Edit.TheVariants as edits
 use Rattle.touch_test.specs.Touches.{names_receiver, old_part}
 use Rattle.touch_test.proofs.Edits.{answers-old}
 use Rattle.map_board.specs.declared.rows.HeldRow.{HeldRow}
-use Rattle.map_board.specs.declared.renewing.Change.{Change}
-use Rattle.map_board.specs.Boards.{row_of, RowHolds, EachHolds, IsEmpty}
-use Rattle.map_board.specs.Changes.{scene_before, scene_after, is_unnamed, changes_receivers_alone, gone_from, named_place, without_place, put_place, placed, IsChange, IsFresh, IsRowAfter}
+use Rattle.map_board.specs.declared.edits.renewing.Change.{Change}
+use Rattle.map_board.specs.Boards.{row_of}
+use Rattle.map_board.specs.inner.Boards.{RowHolds, EachHolds, IsEmpty}
+use Rattle.map_board.specs.inner.Changes.{scene_before, scene_after, is_unnamed, changes_receivers_alone, gone_from, named_place, without_place, put_place, placed, IsChange, IsFresh, IsRowAfter}
 use Rattle.map_board.proofs.Naming.{named-is, same-name, turned}
 use Rattle.map_board.proofs.Places.{none-here}
 use Rattle.map_board.proofs.Receivers.{put-apart}

@@ -9,10 +9,10 @@ use Rattle.scene_book.specs.Applying.{apply_of}
 use Rattle.scene_book.specs.declared.edits.Edit.{Edit}
 use Rattle.path_calc.specs.Bundles.{Bundle}
 use Rattle.path_cache.specs.Standing.{AreOfEach}
-use Rattle.map_board.specs.declared.caches.Cache.{Cache}
+use Rattle.map_board.specs.declared.rows.caches.Cache.{Cache}
 use Rattle.map_board.specs.Journal.{book_after_all, scene_at, newest_scene, scene_left}
-use Rattle.map_board.specs.Sources.{LeavesSourceNames}
-use Rattle.map_board.specs.Standing.{source_names, NamesStand, IsOrdered}
+use Rattle.map_board.specs.inner.Sources.{LeavesSourceNames}
+use Rattle.map_board.specs.inner.Standing.{source_names, NamesStand, IsOrdered}
 use Rattle.map_board.proofs.Journals.{newest-more, at-more}
 
 -- a version is noted where something holds

@@ -10,9 +10,9 @@ use Rattle.std.proofs.Math.Seq.{take-append_seam, drop-append_seam}
 use Rattle.scene_parts.specs.Views.{Receiver}
 use Rattle.scene_book.specs.declared.edits.Logged.{Logged}
 use Rattle.path_calc.specs.Bundles.{Bundle}
-use Rattle.map_board.specs.declared.caches.Cache.{Cache}
+use Rattle.map_board.specs.declared.rows.caches.Cache.{Cache}
 use Rattle.map_board.specs.declared.rows.HeldRow.{HeldRow}
-use Rattle.map_board.specs.Paths.{counted, kept_of_row, kept_at, paths_to, paths_of, test_of, tests_to, tests_of}
+use Rattle.map_board.specs.inner.Paths.{counted, kept_of_row, kept_at, paths_to, paths_of, test_of, tests_to, tests_of}
 
 pub map-map : {A B C : Type 0} (g : B → C) (f : A → B) (xs : List A) → map (λ x. g (f x)) xs ≡ map g (map f xs)
 map-map g f [] = refl

@@ -10,12 +10,13 @@ use Rattle.scene_parts.specs.Views.{Receiver}
 use Rattle.scene_book.specs.Book.{Book}
 use Rattle.scene_book.specs.Lists.{NoneNamed, AreApart}
 use Rattle.scene_book.specs.declared.edits.Edit.{Edit}
-use Rattle.map_board.specs.declared.log.Log.{Log}
-use Rattle.map_board.specs.declared.namings.Naming.{Naming}
+use Rattle.map_board.specs.declared.edits.log.Log.{Log}
+use Rattle.map_board.specs.declared.edits.namings.Naming.{Naming}
 use Rattle.map_board.specs.declared.rows.HeldRow.{HeldRow}
 use Rattle.map_board.specs.declared.rows.KeptLevels.{KeptLevels}
 use Rattle.map_board.specs.Rows.{Row, row_named, with_row, shown_kept, shown_of, shown_since, is_current, is_out, is_needy}
-use Rattle.map_board.specs.Boards.{kept_of, row_of, rows_of, shown_by, held_shown, is_held_needy, is_held_out, is_held_unsettled, ByIsRight, RowHolds, EachHolds, IsOutSince, IsBoard, is_unsettled}
+use Rattle.map_board.specs.Boards.{kept_of, row_of, rows_of, is_unsettled}
+use Rattle.map_board.specs.inner.Boards.{shown_by, held_shown, is_held_needy, is_held_out, is_held_unsettled, ByIsRight, RowHolds, EachHolds, IsOutSince, IsBoard}
 use Rattle.map_board.proofs.Naming.{turned, itself}
 
 -- ---- what stands at a place

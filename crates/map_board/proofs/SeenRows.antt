@@ -6,7 +6,8 @@ use Rattle.scene_parts.specs.Views.{Receiver}
 use Rattle.scene_book.specs.declared.edits.Edit.{Edit}
 use Rattle.map_board.specs.declared.looks.LookRow.{LookRow}
 use Rattle.map_board.specs.declared.rows.HeldRow.{HeldRow}
-use Rattle.map_board.specs.Boards.{row_of, rows_of, held_look, held_looks, EachHolds}
+use Rattle.map_board.specs.Boards.{row_of, rows_of}
+use Rattle.map_board.specs.inner.Boards.{held_look, held_looks, EachHolds}
 use Rattle.map_board.specs.Machine.{look_row}
 use Rattle.map_board.proofs.Places.{held-shown}
 

@@ -17,10 +17,10 @@ use Rattle.touch_test.proofs.Lists.{found-in}
 use Rattle.map_board.specs.Journal.{book_after, book_after_all, scene_at, newest_scene, first_from, first_after, first_touching, touches, AreAccepted}
 use Rattle.map_board.specs.Rows.{Kept}
 use Rattle.map_board.specs.Due.{source_within, touches_source, is_due}
-use Rattle.map_board.specs.Held.{no_marks}
-use Rattle.map_board.specs.Log.{entries_from, entries_after}
-use Rattle.map_board.specs.Marks.{marks_after}
-use Rattle.map_board.specs.Later.{marks_after_all, first_entry_touching}
+use Rattle.map_board.specs.inner.Held.{no_marks}
+use Rattle.map_board.specs.inner.Log.{entries_from, entries_after}
+use Rattle.map_board.specs.inner.Marks.{marks_after}
+use Rattle.map_board.specs.inner.Later.{marks_after_all, first_entry_touching}
 use Rattle.map_board.proofs.Journals.{newest-more, none-after, through}
 use Rattle.map_board.proofs.Naming.{named-map}
 use Rattle.map_board.proofs.Logging.{accepted-after}

@@ -16,7 +16,7 @@ use Rattle.scene_book.specs.declared.edits.Edit.{Edit}
 use Rattle.scene_book.specs.declared.edits.Edit.TheVariants as edits
 use Rattle.touch_test.specs.Touches.{names_receiver}
 use Rattle.map_board.specs.declared.rows.HeldRow.{HeldRow}
-use Rattle.map_board.specs.Changes.{named_place, gone_from, without_place, most_more}
+use Rattle.map_board.specs.inner.Changes.{named_place, gone_from, without_place, most_more}
 use Rattle.map_board.proofs.Naming.{itself}
 use Rattle.map_board.proofs.Receivers.{through, first}
 

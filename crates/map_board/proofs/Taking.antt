@@ -13,23 +13,24 @@ use Rattle.path_calc.specs.Bundles.{Bundle}
 use Rattle.path_calc.specs.Show.{sources_within}
 use Rattle.path_cache.specs.Refreshed.{CanRefresh, Stand, is_wanted}
 use Rattle.path_cache.specs.Standing.{AreOfEach}
-use Rattle.map_board.specs.declared.log.Log.{Log}
-use Rattle.map_board.specs.declared.namings.Naming.{Naming}
-use Rattle.map_board.specs.declared.caches.Cache.{Cache}
+use Rattle.map_board.specs.declared.edits.log.Log.{Log}
+use Rattle.map_board.specs.declared.edits.namings.Naming.{Naming}
+use Rattle.map_board.specs.declared.rows.caches.Cache.{Cache}
 use Rattle.map_board.specs.declared.rows.KeptLevels.{KeptLevels}
 use Rattle.map_board.specs.declared.rows.HeldRow.{HeldRow}
 use Rattle.map_board.specs.declared.rows.Tally.{Tally}
 use Rattle.map_board.specs.Views.{Job}
-use Rattle.map_board.specs.Held.{AreWithin, IsJobOf}
+use Rattle.map_board.specs.inner.Held.{AreWithin, IsJobOf}
 use Rattle.map_board.specs.Journal.{book_after_all, scene_at, newest_scene}
 use Rattle.map_board.specs.Rows.{Row, State, row_named, with_row, one_more, shown_of, shown_since, is_current, is_needy}
 use Rattle.map_board.specs.Due.{is_due, due_of}
 use Rattle.map_board.specs.Jobs.{IsFit}
 use Rattle.map_board.specs.Machine.{with_out, TakesJob, IsIdle}
-use Rattle.map_board.specs.Boards.{kept_of, row_of, rows_of, counts_of, shown_by, row_out, is_held_needy, is_held_out, CacheIsRight, CacheIsThere, RowHolds, EachHolds, IsBoard, NeedyAt, IsNeedyAt}
+use Rattle.map_board.specs.Boards.{kept_of, row_of, rows_of, counts_of}
+use Rattle.map_board.specs.inner.Boards.{shown_by, row_out, is_held_needy, is_held_out, CacheIsRight, CacheIsThere, RowHolds, EachHolds, IsBoard, NeedyAt, IsNeedyAt}
 use Rattle.map_board.proofs.Keeping.{none-of, this-row}
 use Rattle.map_board.proofs.Places.{At, at-place, held-at, held-needy, any-needy, count-held, each-lengths, rows-lengths, board-set, row-at, rows-set}
-use Rattle.map_board.specs.Standing.{NamesStand, IsOrdered}
+use Rattle.map_board.specs.inner.Standing.{NamesStand, IsOrdered}
 use Rattle.map_board.proofs.RowsRight.{taken-right}
 use Rattle.map_board.proofs.Ordered.{ordered-newest}
 

@@ -7,8 +7,8 @@ use Rattle.path_calc.specs.Bundles.{Bundle}
 use Rattle.path_calc.specs.Show.{bundles_of}
 use Rattle.touch_test.specs.Touches.{TracedPath, bundled, edit_touches, is_set, names_receiver, is_source_within, changed_parts, touches_receiver}
 use Rattle.touch_test.proofs.Edits.{row-touched}
-use Rattle.map_board.specs.declared.renewing.Change.{Change}
-use Rattle.map_board.specs.Changes.{scene_before, scene_after, touches_a_path, IsChange}
+use Rattle.map_board.specs.declared.edits.renewing.Change.{Change}
+use Rattle.map_board.specs.inner.Changes.{scene_before, scene_after, touches_a_path, IsChange}
 
 -- where it is known whether it touches a path
 abbrev beside : Change → Receiver → Bool → Bool

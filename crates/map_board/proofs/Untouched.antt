@@ -10,13 +10,13 @@ use Rattle.scene_book.specs.declared.edits.Edit.TheVariants as edits
 use Rattle.path_calc.specs.Bundles.{Bundle}
 use Rattle.path_calc.specs.Show.{bundles_of}
 use Rattle.touch_test.specs.Touches.{TracedPath, bundled, edit_touches, is_set, names_receiver, is_source_within, changed_parts, touches_receiver}
-use Rattle.map_board.specs.declared.caches.Cache.{Cache}
+use Rattle.map_board.specs.declared.rows.caches.Cache.{Cache}
 use Rattle.map_board.specs.declared.rows.KeptLevels.{KeptLevels}
 use Rattle.map_board.specs.declared.rows.HeldRow.{HeldRow}
-use Rattle.map_board.specs.declared.renewing.Change.{Change}
-use Rattle.map_board.specs.Marks.{marks_after, touches_one}
-use Rattle.map_board.specs.Boards.{ByIsRight, RowHolds}
-use Rattle.map_board.specs.Changes.{scene_before, journal_after, is_unnamed, changes_receivers_alone, IsChange}
+use Rattle.map_board.specs.declared.edits.renewing.Change.{Change}
+use Rattle.map_board.specs.inner.Marks.{marks_after, touches_one}
+use Rattle.map_board.specs.inner.Boards.{ByIsRight, RowHolds}
+use Rattle.map_board.specs.inner.Changes.{scene_before, journal_after, is_unnamed, changes_receivers_alone, IsChange}
 use Rattle.map_board.proofs.AfterEdits.{stale-still, current-by, right-of, kept-past, kept-by, out-holds, marked-holds}
 use Rattle.map_board.proofs.Touched.{beside-is}
 

@@ -5,11 +5,14 @@ ghost use Rattle.path_cache.specs.Refreshed.{CanRefresh};
 ghost use Rattle.path_cache.specs.Renewals.{Gives, with_each};
 ghost use Rattle.path_cache.specs.Standing.{AreOfEach, StandAsSources};
 ghost use Rattle.touch_test.specs.Envelopes.{TellsOf};
-ghost use Rattle.map_board.specs.Calculated.{IsCalculated};
-ghost use Rattle.map_board.specs.Held.{AreWithin, IsJobOf};
+ghost use Rattle.map_board.specs.inner.Calculated.{IsCalculated};
+ghost use Rattle.map_board.specs.inner.Held.{AreWithin, IsJobOf};
 ghost use Rattle.map_board.specs.Jobs.{Answers};
 
-use crate::receiver_copies::ReceiverCopy;
+pub(crate) mod name_copies;
+pub(crate) mod receiver_copies;
+
+use crate::jobs::receiver_copies::ReceiverCopy;
 use crate::rows::Cache;
 use crate::scenes::PreparedScene;
 use path_cache::{Bundle, Renewal, Renewed, Replaced, RowSums, Steps, WithSums, renew};
@@ -49,7 +52,7 @@ impl Model for Job {
 
     ghost Value = { JobSeen };
 
-    ghost use Rattle.map_board.specs.Held.{IsJob, IsAtHand};
+    ghost use Rattle.map_board.specs.inner.Held.{IsJob, IsAtHand};
     ghost use Rattle.map_board.specs.Seen.{job_seen};
 
     ghost view = { job_seen };
@@ -78,7 +81,7 @@ impl Model for Answer {
 
     ghost Value = { AnswerSeen };
 
-    ghost use Rattle.map_board.specs.Held.{IsAnswer};
+    ghost use Rattle.map_board.specs.inner.Held.{IsAnswer};
     ghost use Rattle.map_board.specs.Seen.{answer_seen};
 
     ghost view = { answer_seen };

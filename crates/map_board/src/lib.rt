@@ -3,30 +3,16 @@
 #![tactic(auto)]
 
 mod answers;
-mod back;
-mod caches;
 mod calls;
-mod editing;
-mod held_rows;
+mod edits;
 mod jobs;
-mod landing;
-mod later;
 pub mod laws;
-mod log;
-mod looking;
 mod looks;
-mod marking;
-mod name_copies;
-mod namings;
 mod past;
-mod receiver_copies;
-mod renewing;
-mod returning;
+mod returns;
 mod rows;
 mod scenes;
-mod standing;
 mod state;
-mod testing;
 
 pub use answers::{Landed, Shown};
 pub use calls::{BoardCall, BoardReply, Took};

@@ -1,4 +1,7 @@
 //! Looks at the whole board.
+
+pub(crate) mod looking;
+
 use crate::answers::Shown;
 use scene_parts::Name;
 use std::marker::Model;

@@ -26,7 +26,7 @@ impl Model for Past {
 
     ghost Value = { List Edit };
 
-    ghost use Rattle.map_board.specs.Past.{journal_of};
+    ghost use Rattle.map_board.specs.inner.Past.{journal_of};
 
     ghost view = { λ p. journal_of p.last };
 

@@ -1,11 +1,15 @@
 //! The rows of a board.
 ghost use Rattle.std.specs.Prelude.{◌≡◌, ◌≤◌, false, Some, None, IsSome, IfSome, IfNone, length, count_by};
 ghost use Rattle.std.specs.List.{list_any};
-ghost use Rattle.map_board.specs.Back.{held_with};
-ghost use Rattle.map_board.specs.Boards.{held_shown, is_held_current, is_held_needy, is_held_out, is_held_unsettled, row_out, IsNeedyAt, NoneNeedyBefore};
+ghost use Rattle.map_board.specs.inner.Back.{held_with};
+ghost use Rattle.map_board.specs.inner.Boards.{held_shown, is_held_current, is_held_needy, is_held_out, is_held_unsettled, row_out, IsNeedyAt, NoneNeedyBefore};
+
+pub(crate) mod caches;
+pub(crate) mod held_rows;
+pub(crate) mod standing;
 
 use crate::answers::Shown;
-pub(crate) use crate::caches::Cache;
+pub(crate) use crate::rows::caches::Cache;
 use path_calc::Levels;
 
 /// Levels that were kept: the version whose scene gave them, and the first edit after it that touches the receiver.

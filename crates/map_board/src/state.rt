@@ -3,18 +3,19 @@ ghost use Rattle.std.specs.Prelude.{◌≡◌, ◌<◌, true, false, not, length
 ghost use Rattle.std.specs.List.{list_any};
 ghost use Rattle.map_board.specs.Rows.{start, four_counts, shown_of};
 ghost use Rattle.map_board.specs.Machine.{Takes, TakesJob};
-ghost use Rattle.map_board.specs.Boards.{is_unsettled, NeedyAt};
+ghost use Rattle.map_board.specs.Boards.{is_unsettled};
+ghost use Rattle.map_board.specs.inner.Boards.{NeedyAt};
 
 use crate::answers::Shown;
 use crate::calls::Took;
-use crate::held_rows::HeldRows;
+use crate::edits::log::Log;
+use crate::edits::namings::Naming;
 use crate::jobs::Job;
-use crate::log::Log;
-use crate::namings::Naming;
 use crate::past::Past;
+use crate::rows::held_rows::HeldRows;
+use crate::rows::standing::is_known_since;
 use crate::rows::{Tally, count_out, is_any_unsettled};
 use crate::scenes::PreparedScene;
-use crate::standing::is_known_since;
 use scene_book::Scene;
 use scene_parts::NoMemory;
 use std::alloc::Global;
@@ -40,8 +41,9 @@ pub struct Board {
 
 impl Model for Board {
     ghost use Rattle.map_board.specs.Rows.{State};
-    ghost use Rattle.map_board.specs.Boards.{rows_of, counts_of, IsBoard};
-    ghost use Rattle.map_board.specs.Standing.{NamesStand};
+    ghost use Rattle.map_board.specs.Boards.{rows_of, counts_of};
+    ghost use Rattle.map_board.specs.inner.Boards.{IsBoard};
+    ghost use Rattle.map_board.specs.inner.Standing.{NamesStand};
 
     ghost Value = { State };
 

@@ -9,7 +9,7 @@ use Rattle.map_io.specs.declared.reader.Stop.TheVariants.{Going, AtEnd, AfterFau
 use Rattle.map_io.specs.declared.reader.Next.{Next}
 use Rattle.map_io.specs.Lines.{IsPlain}
 use Rattle.map_io.specs.Reading.{Reading, ahead, Passes, PassesLine, Ends, BreaksOff, ReachesLimit, NextGives}
-use Rattle.map_io.specs.Steps.{Scans, Fills, Brings, Gathers, Sizes, feed_if}
+use Rattle.map_io.specs.inner.Steps.{Scans, Fills, Brings, Gathers, Sizes, feed_if}
 use Rattle.map_io.proofs.Lists.{take-append_cut, empty_if_no_length}
 use Rattle.map_io.proofs.Known.{Consumes-append, Consumes-held, Consumes-came, Consumes-kept, Consumes-dropped}
 

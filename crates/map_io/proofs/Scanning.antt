@@ -11,7 +11,7 @@ use Rattle.std.proofs.lemmas.Bool.{eqb-false, eqb-true, ltb-false}
 use Rattle.map_io.specs.declared.reader.Stop.{Stop}
 use Rattle.map_io.specs.Lines.{IsPlain}
 use Rattle.map_io.specs.Reading.{Reading}
-use Rattle.map_io.specs.Steps.{Scans}
+use Rattle.map_io.specs.inner.Steps.{Scans}
 
 -- the bytes before the first line feed hold none
 pub plain_before_feed : (bytes : List ℕ) (i : ℕ) → position (λ b. b == 10) bytes ≡ Some i → IsPlain (take i bytes)

@@ -3,7 +3,6 @@ pub mod Lines
 pub mod LineLaws
 pub mod Reading
 pub mod LinesAhead
-pub mod Steps
-pub mod Buffers
 pub mod Putting
 pub mod Memory
+pub mod inner

@@ -4,7 +4,7 @@ ghost use Rattle.std.specs.Io.KnownBytes.{ReadConsumes};
 ghost use Rattle.map_io.specs.Causes.{HasCause, Rose};
 ghost use Rattle.map_io.specs.Reading.{fresh, ahead, bytes_read, answer_of, line_limit, input_limit, read_size, NextGives};
 ghost use Rattle.map_io.specs.LinesAhead.{IfBothKnown, TakesLine};
-ghost use Rattle.map_io.specs.Steps.{Scans, Fills, Sizes};
+ghost use Rattle.map_io.specs.inner.Steps.{Scans, Fills, Sizes};
 
 use crate::{Failed, NoMemory, Source};
 use std::alloc::Global;
@@ -65,7 +65,7 @@ impl Model for LineReader {
 
     ghost Value = { Reading };
 
-    ghost use Rattle.map_io.specs.Buffers.{IsSound};
+    ghost use Rattle.map_io.specs.inner.Buffers.{IsSound};
 
     ghost view = { λ r. record {
       line = r.line.items;

@@ -5,7 +5,7 @@ use Rattle.std.proofs.lemmas.List.{length-append, length-map}
 use native.Mathlib.Nat.{suc-mul, mul_comm}
 use Rattle.scene_book.specs.Grid.{name_in}
 use Rattle.command_lines.specs.Views.{Contour}
-use Rattle.command_lines.specs.Ranges.{IsContour}
+use Rattle.command_lines.specs.inner.Ranges.{IsContour}
 use Rattle.map_board.specs.declared.looks.LookAll.{LookAll}
 use Rattle.cell_loops.specs.declared.corners.Corner.{Corner}
 use Rattle.cell_loops.specs.declared.kinds.Cell.{Cell}

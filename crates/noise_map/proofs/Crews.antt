@@ -13,7 +13,7 @@ use Rattle.turn_lock.specs.Standing.{all_parts, first_standing, newcomer, taken_
 use Rattle.turn_lock.proofs.Histories.{begins_self, begins_trans}
 use Rattle.receiver_workers.specs.declared.ended.Ended.{Ended}
 use Rattle.receiver_workers.specs.declared.ended.Ended.TheVariants as ends
-use Rattle.receiver_workers.specs.Working.{HasWorked, Worked}
+use Rattle.receiver_workers.specs.inner.Working.{HasWorked, Worked}
 use Rattle.receiver_workers.specs.declared.calls.Taken.TheVariants as taken
 use Rattle.receiver_workers.specs.declared.calls.SeatCall.{SeatCall}
 use Rattle.receiver_workers.specs.declared.calls.SeatCall.TheVariants as worker_calls
@@ -26,10 +26,10 @@ use Rattle.map_board.specs.Seats.{Entries, owed}
 use Rattle.map_lock.specs.Seats.{BoardSeat, BoardEntry, IsEditor}
 use Rattle.map_lock.specs.Settling.{is_give_back}
 use Rattle.map_lock.specs.Working.{seat_call, last_from, last_call, give_backs, Follows}
-use Rattle.noise_map.specs.declared.status.Status.{Status}
+use Rattle.noise_map.specs.declared.run.status.Status.{Status}
 use Rattle.noise_map.specs.Histories.{HasEnded as WorkerEnded, IsWhole}
-use Rattle.noise_map.specs.Crews.{IsFresh, IsBack, IsBeginner, IsGathering, brought, HasJoined, HasJoinedAll}
-use Rattle.noise_map.specs.Progress.{HasFinished}
+use Rattle.noise_map.specs.inner.Crews.{IsFresh, IsBack, IsBeginner, IsGathering, brought, HasJoined, HasJoinedAll}
+use Rattle.noise_map.specs.inner.Progress.{HasFinished}
 use Rattle.noise_map.proofs.Ways.{is_way-grown}
 
 -- ---- a worker that has ended

@@ -24,18 +24,18 @@ use Rattle.map_board.specs.contracts.past.Past as Past
 use Rattle.map_board.specs.contracts.past.Past.TheKnot as knot
 use Rattle.map_board.specs.declared.past.Past.TheDeep as deep
 use Rattle.map_board.specs.contracts.scenes.PreparedScene as PreparedScene
-use Rattle.map_board.specs.contracts.namings.Naming as Naming
+use Rattle.map_board.specs.contracts.edits.namings.Naming as Naming
 use Rattle.map_board.specs.contracts.rows.HeldRow as HeldRow
-use Rattle.map_board.specs.contracts.held_rows.HeldRows as HeldRows
-use Rattle.map_board.specs.contracts.log.Log as Log
+use Rattle.map_board.specs.contracts.rows.held_rows.HeldRows as HeldRows
+use Rattle.map_board.specs.contracts.edits.log.Log as Log
 use Rattle.map_board.specs.contracts.rows.Tally as Tally
 use Rattle.atomic_table.proofs.shared.Shared.TheSendSync.{the_sync as Table-sync}
 use Rattle.atomic_table.proofs.shared.Seat.TheSendSync.{the_send as Seat-send}
 use Rattle.atomic_table.proofs.send_lease.SendLease.TheSendSync.{the_sync as Lease-sync}
 use Rattle.map_io.specs.contracts.reader.LineReader as LineReader
-use Rattle.noise_map.specs.contracts.step.Shared as Shared
-use Rattle.noise_map.specs.contracts.editor.Editor as Editor
-use Rattle.noise_map.specs.contracts.keeping.KeptVersion as KeptVersion
+use Rattle.noise_map.specs.contracts.lines.step.Shared as Shared
+use Rattle.noise_map.specs.contracts.run.editor.Editor as Editor
+use Rattle.noise_map.specs.contracts.lines.keeping.KeptVersion as KeptVersion
 use Rattle.std.proofs.Crossing.{crosses, Vec-send}
 
 -- a journal holds nothing but what contracts see, so one layer of it may cross whatever the layers in it are

@@ -10,8 +10,8 @@ use Rattle.map_board.specs.declared.looks.LookAll.{LookAll}
 use Rattle.map_board.specs.Seats.{Entries}
 use Rattle.map_board.specs.Showing.{accepted_edits}
 use Rattle.map_lock.specs.Seats.{BoardSeat, BoardEntry}
-use Rattle.noise_map.specs.declared.editor.Editor.{Editor}
-use Rattle.noise_map.specs.declared.keeping.KeptVersion.{KeptVersion}
+use Rattle.noise_map.specs.declared.run.editor.Editor.{Editor}
+use Rattle.noise_map.specs.declared.lines.keeping.KeptVersion.{KeptVersion}
 use Rattle.std.specs.declared.alloc.Global.{Global}
 use Rattle.scene_book.specs.Applying.{lacks_memory}
 use Rattle.scene_book.specs.declared.edits.EditFault.{EditFault}
@@ -19,13 +19,13 @@ use Rattle.map_text.specs.declared.refusals.Refusal.TheVariants.{Edit as OfEdit,
 use Rattle.noise_map.specs.Effects.{Past, is_kept, edits_back, Effect, shows, silent, refused, effect_of_edits, effect_of_undo, journal_with, journal_with_all}
 use Rattle.noise_map.specs.Texts.{answer_to}
 use Rattle.noise_map.specs.Ways.{looks_in, edit_entry, edit_entries, lacking_edit, BreaksOff}
-use Rattle.noise_map.specs.Steps.{kept_in, past_of, kept_when, kept_when_all, IsCut, Knows, HasFollowed, HasGone, HasMade, HasLacked, MakesOrLacks, MakesUnlessMemory, has_lacked, HasMadeAll, HasLackedOne, HasMet, HasFailed, MeetsEditsUnlessMemory}
+use Rattle.noise_map.specs.inner.Steps.{kept_in, past_of, kept_when, kept_when_all, IsCut, Knows, HasFollowed, HasGone, HasMade, HasLacked, MakesOrLacks, MakesUnlessMemory, has_lacked, HasMadeAll, HasLackedOne, HasMet, HasFailed, MeetsEditsUnlessMemory}
 use Rattle.noise_map.proofs.Effects.{get-behind}
 use Rattle.noise_map.proofs.Ways.{looks_in-append, looks_in-one}
 use Rattle.noise_map.proofs.Meeting.{Meets, still, refusal-met, followed-still}
 use Rattle.noise_map.proofs.KeptVersions.{kept_when_all-push, keeping, was-cut}
-use Rattle.noise_map.specs.declared.answer.Answer.{Answer}
-use Rattle.noise_map.specs.declared.answer.Answer.TheVariants as answers
+use Rattle.noise_map.specs.declared.lines.answer.Answer.{Answer}
+use Rattle.noise_map.specs.declared.lines.answer.Answer.TheVariants as answers
 
 -- a seat that went on, and on
 pub gone-on : (a b c : BoardSeat) (front back : Entries) → HasGone a front b → HasGone b back c → HasGone a (front ++ back) c

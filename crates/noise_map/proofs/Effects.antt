@@ -15,7 +15,7 @@ use Rattle.map_board.specs.Journal.{newest_scene, scene_left, book_after}
 use Rattle.map_board.proofs.Journals.{newest-more}
 use Rattle.noise_map.specs.Effects.{Display, silent, refused, settled, known, contoured, looks_asked, with_edit, journal_with, is_refused, Point, at_start, effect_at, passed_line, point_after}
 use Rattle.noise_map.specs.Texts.{answer_to, settled_by, looked_by, contoured_by, rows_of, line_rows, text_from}
-use Rattle.noise_map.specs.Steps.{is_refusal}
+use Rattle.noise_map.specs.inner.Steps.{is_refusal}
 
 -- ---- edits
 

@@ -20,20 +20,20 @@ use Rattle.map_lock.specs.Seats.{BoardSeat, BoardEntry, IsEditor}
 use Rattle.map_board.specs.Showing.{accepted_edits}
 use Rattle.map_lock.specs.Turns.{HasTurned}
 use Rattle.map_lock.specs.Settling.{HasNotFinished, is_finish}
-use Rattle.noise_map.specs.declared.editor.Editor.{Editor}
-use Rattle.noise_map.specs.declared.keeping.KeptVersion.{KeptVersion}
-use Rattle.noise_map.specs.declared.stopped.Stopped.{Stopped}
-use Rattle.noise_map.specs.declared.stopped.Stopped.TheVariants as stops
-use Rattle.noise_map.specs.declared.status.Status.{Status}
-use Rattle.noise_map.specs.declared.status.Status.TheVariants as status
+use Rattle.noise_map.specs.declared.run.editor.Editor.{Editor}
+use Rattle.noise_map.specs.declared.lines.keeping.KeptVersion.{KeptVersion}
+use Rattle.noise_map.specs.declared.lines.stopped.Stopped.{Stopped}
+use Rattle.noise_map.specs.declared.lines.stopped.Stopped.TheVariants as stops
+use Rattle.noise_map.specs.declared.run.status.Status.{Status}
+use Rattle.noise_map.specs.declared.run.status.Status.TheVariants as status
 use Rattle.noise_map.specs.Effects.{point_after}
 use Rattle.noise_map.specs.Making.{site_lines}
 use Rattle.noise_map.specs.Texts.{text_of, rows_of}
 use Rattle.noise_map.specs.Ways.{Way, begun, looks_in}
 use Rattle.noise_map.specs.Histories.{IsWay}
 use Rattle.noise_map.specs.Taking.{joined, TakesFront}
-use Rattle.noise_map.specs.Steps.{kept_in, IsKeptOf, Knows, is_refusal}
-use Rattle.noise_map.specs.Progress.{Read, IsSameSeat, Did, Progress, HasWritten, HasEnded, HasFinished, Ended, AskedEnded, IsTextOf, ending_of, status_at_end, status_of}
+use Rattle.noise_map.specs.inner.Steps.{kept_in, IsKeptOf, Knows, is_refusal}
+use Rattle.noise_map.specs.inner.Progress.{Read, IsSameSeat, Did, Progress, HasWritten, HasEnded, HasFinished, Ended, AskedEnded, IsTextOf, ending_of, status_at_end, status_of}
 use Rattle.noise_map.specs.Outcome.{Covers, CoversFront, Writes, TellsRefused, TakesPartOf}
 use Rattle.noise_map.proofs.Ways.{looks_in-append, looks_in-one, is_way-grown}
 use Rattle.noise_map.proofs.Doing.{same-self, did-more, told-more, broken-told, failed-told, nothing-told, failed-way, stopped-way}

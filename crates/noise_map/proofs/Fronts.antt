@@ -6,8 +6,8 @@ use Rattle.std.proofs.lemmas.List.{append-nil, take-append-drop}
 use Rattle.std.proofs.lemmas.List.Concat.{flat_map-append, flat_map-cons}
 use Rattle.std.specs.Prelude.{Result, Ok, Err}
 use Rattle.map_io.specs.Putting.{TakesPart}
-use Rattle.noise_map.specs.declared.stopped.Stopped.{Stopped}
-use Rattle.noise_map.specs.declared.stopped.Stopped.TheVariants.{WriteFault, NoMemory}
+use Rattle.noise_map.specs.declared.lines.stopped.Stopped.{Stopped}
+use Rattle.noise_map.specs.declared.lines.stopped.Stopped.TheVariants.{WriteFault, NoMemory}
 use Rattle.noise_map.specs.Taking.{joined, IsBegun, TakesFront, Takes}
 
 pub joined-append : (a b : List (List ℕ)) → joined (a ++ b) ≡ joined a ++ joined b

@@ -20,10 +20,10 @@ use Rattle.scene_undo.specs.Inverse.{inverse_of}
 use Rattle.map_board.specs.Journal.{book_after_all, newest_scene}
 use Rattle.map_board.specs.Showing.{accepted_edits}
 use Rattle.map_text.specs.declared.refusals.Refusal.TheVariants.{Edit as OfEdit}
-use Rattle.noise_map.specs.declared.editor.Editor.{Editor}
-use Rattle.noise_map.specs.declared.keeping.KeptVersion.{KeptVersion}
+use Rattle.noise_map.specs.declared.run.editor.Editor.{Editor}
+use Rattle.noise_map.specs.declared.lines.keeping.KeptVersion.{KeptVersion}
 use Rattle.noise_map.specs.Effects.{is_kept, silent, refused, undone_by, way_back, edits_back, display_of_edit, with_edit, journal_with, journal_with_all, with_version, kept_with, kept_with_all}
-use Rattle.noise_map.specs.Steps.{kept_in, past_of, IsKeptOf, Descends, Knows, HasMade, MakesOrLacks, MakesUnlessMemory, display_behind, kept_when, kept_when_all, EndsUpTo, IsCut}
+use Rattle.noise_map.specs.inner.Steps.{kept_in, past_of, IsKeptOf, Descends, Knows, HasMade, MakesOrLacks, MakesUnlessMemory, display_behind, kept_when, kept_when_all, EndsUpTo, IsCut}
 use Rattle.noise_map.proofs.Journals.{way-stays, way-last}
 
 -- ---- lists

@@ -13,9 +13,9 @@ use Rattle.map_io.specs.declared.reader.Next.TheVariants as next
 use Rattle.map_io.specs.Lines.{IsPlain, lines, whole_lines, ended}
 use Rattle.map_io.specs.LineLaws as laws
 use Rattle.map_io.specs.Reading.{Reading, read_size, fresh, ahead, PassesLine, NothingAhead, Ends, BreaksOff, ReachesLimit, NextGives, answer_of, bytes_read, input_limit}
-use Rattle.noise_map.specs.declared.status.Status.{Status}
+use Rattle.noise_map.specs.declared.run.status.Status.{Status}
 use Rattle.noise_map.specs.Outcome.{Covers, CoversAll, CoversRead, CoversLimit, CoversFront, TellsRefused}
-use Rattle.noise_map.specs.Progress.{status_at_end, ending_of, IsTextOf, HandedOut, Read}
+use Rattle.noise_map.specs.inner.Progress.{status_at_end, ending_of, IsTextOf, HandedOut, Read}
 
 begun : (left : Option (List ℕ)) → Consumes left (ahead fresh left) []
 begun None = tt

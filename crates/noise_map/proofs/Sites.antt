@@ -13,9 +13,9 @@ use Rattle.map_text.specs.Rounding.{IsPrintable, IsPrintableLevel}
 use Rattle.map_io.specs.Lines.{lines}
 use Rattle.map_io.specs.LineLaws.{lines-line, lines-last, lines-empty}
 use Rattle.map_io.proofs.Scanning.{plain_before_feed, split_at_feed, plain_without_feed}
-use Rattle.noise_map.specs.FirstLine.{IsFirstLine}
-use Rattle.noise_map.specs.declared.answer.Answer.{Answer}
-use Rattle.noise_map.specs.declared.editor.Editor.{Editor}
+use Rattle.noise_map.specs.inner.FirstLine.{IsFirstLine}
+use Rattle.noise_map.specs.declared.lines.answer.Answer.{Answer}
+use Rattle.noise_map.specs.declared.run.editor.Editor.{Editor}
 use Rattle.scene_parts.specs.Views.{Receiver}
 use Rattle.scene_book.specs.Book.{Book}
 use Rattle.scene_book.specs.declared.edits.Edit.{Edit}
@@ -30,16 +30,16 @@ use Rattle.noise_map.specs.Demands.{demand_of}
 use Rattle.noise_map.specs.Effects.{Display, silent, refused, settled, known, contoured, Past, past_with, Effect, effect_of, journal_with, journal_with_all, Point, at_start, passed_line, point_after}
 use Rattle.noise_map.specs.Texts.{answer_to, settled_by, looked_by, contoured_by}
 use Rattle.noise_map.specs.Ways.{looks_in, look_entry, edit_entry, edit_entries, Settles, DoesLook}
-use Rattle.noise_map.specs.Steps.{HasMet}
+use Rattle.noise_map.specs.inner.Steps.{HasMet}
 use Rattle.noise_map.proofs.Ways.{looks_in-append, looks_in-one}
 use Rattle.noise_map.proofs.KeptVersions.{all-each}
 use Rattle.noise_map.proofs.Meeting.{no-looks}
 use Rattle.noise_map.specs.Making.{no_level, widened, total_in, span_in, Made, made_showing, made_with, making_of, span_with, span_of_rows, made_with_answer, made_after, made_by, nothing_made, site_lines, site_made, site_row, MakesRow}
-use Rattle.noise_map.specs.declared.status.Status.{Status}
-use Rattle.noise_map.specs.Progress.{status_at_end, Did, HasEnded, SiteEnded}
-use Rattle.noise_map.specs.declared.status.Status.TheVariants as status
+use Rattle.noise_map.specs.declared.run.status.Status.{Status}
+use Rattle.noise_map.specs.inner.Progress.{status_at_end, Did, HasEnded, SiteEnded}
+use Rattle.noise_map.specs.declared.run.status.Status.TheVariants as status
 use Rattle.map_io.specs.Putting.{TakesPart}
-use Rattle.noise_map.specs.declared.stopped.Stopped.TheVariants as stops
+use Rattle.noise_map.specs.declared.lines.stopped.Stopped.TheVariants as stops
 use Rattle.noise_map.specs.Taking.{TakesFront}
 use Rattle.noise_map.proofs.Fronts.{row-begun}
 use Rattle.std.specs.Option.{option_map}

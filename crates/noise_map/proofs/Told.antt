@@ -7,10 +7,10 @@ use Rattle.map_io.specs.declared.reader.Stop.TheVariants.{Going, AtEnd, AfterFau
 use Rattle.map_io.specs.declared.reader.Next.{Next}
 use Rattle.map_io.specs.declared.reader.Next.TheVariants as next
 use Rattle.map_io.specs.Reading.{Reading, input_limit}
-use Rattle.noise_map.specs.declared.stopped.Stopped.{Stopped}
-use Rattle.noise_map.specs.declared.stopped.Stopped.TheVariants as stops
-use Rattle.noise_map.specs.declared.status.Status.{Status}
-use Rattle.noise_map.specs.declared.status.Status.TheVariants as status
+use Rattle.noise_map.specs.declared.lines.stopped.Stopped.{Stopped}
+use Rattle.noise_map.specs.declared.lines.stopped.Stopped.TheVariants as stops
+use Rattle.noise_map.specs.declared.run.status.Status.{Status}
+use Rattle.noise_map.specs.declared.run.status.Status.TheVariants as status
 use Rattle.noise_map.specs.Taking.{CausedByWriteFault}
 use Rattle.noise_map.specs.Outcome.{Covers, Outcome, CoversLimit, TellsFault, IsUnbroken, RunsToTheEnd, OutcomeOf, RunOutcome}
 use Rattle.map_lock.specs.Seats.{BoardSeat}
@@ -19,7 +19,7 @@ use Rattle.command_words.specs.declared.line.CommandLine.{CommandLine}
 use Rattle.noise_map.proofs.Reading.{nothing_covered}
 use Rattle.noise_map.proofs.Doing.{nothing-told}
 use Rattle.noise_map.proofs.Undone.{leads-back}
-use Rattle.noise_map.specs.Progress.{status_of, ending_of, HandedOut, Read}
+use Rattle.noise_map.specs.inner.Progress.{status_of, ending_of, HandedOut, Read}
 
 same_some : {X : Type 0} {x y : X} → Some x ≡ Some y → x ≡ y
 same_some e = cc

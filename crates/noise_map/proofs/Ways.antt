@@ -12,8 +12,8 @@ use Rattle.scene_book.specs.declared.edits.Edit.{Edit}
 use Rattle.noise_map.specs.Effects.{Display, silent, refused, settled, known, contoured, Effect, journal_with_all, effect_at, point_after, journal_of}
 use Rattle.noise_map.specs.Ways.{look_in, looks_in, look_entry, edit_entries, Stands, Settles, DoesLook, Does, Way, begun, and_line, Broken}
 use Rattle.noise_map.specs.Histories.{IsWay}
-use Rattle.noise_map.specs.declared.status.Status.{Status}
-use Rattle.noise_map.specs.declared.status.Status.TheVariants as status
+use Rattle.noise_map.specs.declared.run.status.Status.{Status}
+use Rattle.noise_map.specs.declared.run.status.Status.TheVariants as status
 
 -- ---- a history that grows
 

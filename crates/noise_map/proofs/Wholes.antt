@@ -6,10 +6,10 @@ use Rattle.command_words.specs.declared.line.CommandLine.{CommandLine}
 use Rattle.atomic_table.specs.Seated.{TableId}
 use Rattle.map_board.specs.declared.looks.LookAll.{LookAll}
 use Rattle.map_lock.specs.Seats.{BoardSeat}
-use Rattle.noise_map.specs.declared.status.Status.{Status}
+use Rattle.noise_map.specs.declared.run.status.Status.{Status}
 use Rattle.noise_map.specs.Ways.{looks_in}
-use Rattle.noise_map.specs.Crews.{IsBeginner, HasJoinedAll}
-use Rattle.noise_map.specs.Progress.{HasFinished, Ended, SiteEnded, AskedEnded}
+use Rattle.noise_map.specs.inner.Crews.{IsBeginner, HasJoinedAll}
+use Rattle.noise_map.specs.inner.Progress.{HasFinished, Ended, SiteEnded, AskedEnded}
 use Rattle.noise_map.specs.Outcome.{Outcome, OutcomeOf, Writes}
 use Rattle.noise_map.specs.Making.{Makes, site_lines}
 use Rattle.noise_map.proofs.Crews.{comes-whole}

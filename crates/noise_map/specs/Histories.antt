@@ -10,9 +10,9 @@ use Rattle.map_board.specs.Seats.{Entries, editor}
 use Rattle.map_lock.specs.Seats.{BoardSeat, BoardEntry, IsEditor}
 use Rattle.map_lock.specs.Settling.{is_give_back}
 use Rattle.map_lock.specs.Working.{seat_call}
-use Rattle.noise_map.specs.declared.status.Status.{Status}
-use Rattle.noise_map.specs.declared.status.Status.TheVariants.{Done, SomeRefused, Usage}
-use Rattle.noise_map.specs.declared.status.Status.TheVariants.{ReadFault, WriteFault, NoMemory, InputLimit}
+use Rattle.noise_map.specs.declared.run.status.Status.{Status}
+use Rattle.noise_map.specs.declared.run.status.Status.TheVariants.{Done, SomeRefused, Usage}
+use Rattle.noise_map.specs.declared.run.status.Status.TheVariants.{ReadFault, WriteFault, NoMemory, InputLimit}
 use Rattle.noise_map.specs.Ways.{Way, Broken}
 
 -- A worker has ended: its last entry is a take that found the board finished, or the give-back of a job for which it

@@ -3,13 +3,9 @@ pub mod Effects
 pub mod Texts
 pub mod Ways
 pub mod Histories
-pub mod Crews
 pub mod Undone
 pub mod Outcome
 pub mod Taking
-pub mod Rows
-pub mod Steps
-pub mod Progress
 pub mod Making
-pub mod FirstLine
 pub mod Status
+pub mod inner

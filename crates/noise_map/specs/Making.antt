@@ -14,17 +14,17 @@ use Rattle.map_board.specs.declared.looks.LookRow.{LookRow}
 use Rattle.map_lock.specs.Seats.{BoardSeat}
 use Rattle.map_text.specs.Rows.{made_row}
 use Rattle.site_maker.specs.Site.{site_text}
-use Rattle.noise_map.specs.declared.making.Making.{Making}
-use Rattle.noise_map.specs.declared.answer.Answer.{Answer}
-use Rattle.noise_map.specs.declared.answer.Answer.TheVariants.{Nothing, Refused, Settled, Looked, Contoured}
-use Rattle.noise_map.specs.declared.stopped.Stopped.TheVariants as stops
-use Rattle.noise_map.specs.declared.status.Status.{Status}
-use Rattle.noise_map.specs.declared.status.Status.TheVariants as status
-use Rattle.noise_map.specs.declared.editor.Editor.{Editor}
+use Rattle.noise_map.specs.declared.make.making.Making.{Making}
+use Rattle.noise_map.specs.declared.lines.answer.Answer.{Answer}
+use Rattle.noise_map.specs.declared.lines.answer.Answer.TheVariants.{Nothing, Refused, Settled, Looked, Contoured}
+use Rattle.noise_map.specs.declared.lines.stopped.Stopped.TheVariants as stops
+use Rattle.noise_map.specs.declared.run.status.Status.{Status}
+use Rattle.noise_map.specs.declared.run.status.Status.TheVariants as status
+use Rattle.noise_map.specs.declared.run.editor.Editor.{Editor}
 use Rattle.noise_map.specs.Demands.{demand_of}
 use Rattle.noise_map.specs.Effects.{Display, silent, refused, settled, known, contoured, Past, no_past, Effect, effect_of, past_with}
 use Rattle.noise_map.specs.Histories.{HasHistory}
-use Rattle.noise_map.specs.Steps.{past_of, HasMet, HasFollowed, HasFailed}
+use Rattle.noise_map.specs.inner.Steps.{past_of, HasMet, HasFollowed, HasFailed}
 use Rattle.noise_map.specs.Taking.{TakesFront}
 
 -- ---- the levels of a settle

@@ -8,11 +8,11 @@ use Rattle.map_io.specs.Reading.{input_limit, read_size}
 use Rattle.command_words.specs.declared.line.CommandLine.{CommandLine}
 use Rattle.map_board.specs.declared.looks.LookAll.{LookAll}
 use Rattle.map_lock.specs.Seats.{BoardSeat}
-use Rattle.noise_map.specs.declared.status.Status.{Status}
-use Rattle.noise_map.specs.declared.status.Status.TheVariants.{Done, SomeRefused, Usage}
-use Rattle.noise_map.specs.declared.status.Status.TheVariants.{ReadFault, WriteFault, NoMemory, InputLimit}
-use Rattle.noise_map.specs.declared.stopped.Stopped.{Stopped}
-use Rattle.noise_map.specs.declared.stopped.Stopped.TheVariants as stops
+use Rattle.noise_map.specs.declared.run.status.Status.{Status}
+use Rattle.noise_map.specs.declared.run.status.Status.TheVariants.{Done, SomeRefused, Usage}
+use Rattle.noise_map.specs.declared.run.status.Status.TheVariants.{ReadFault, WriteFault, NoMemory, InputLimit}
+use Rattle.noise_map.specs.declared.lines.stopped.Stopped.{Stopped}
+use Rattle.noise_map.specs.declared.lines.stopped.Stopped.TheVariants as stops
 use Rattle.noise_map.specs.Effects.{point_after}
 use Rattle.noise_map.specs.Taking.{joined, IsBegun}
 use Rattle.noise_map.specs.Texts.{text_of}

@@ -1,9 +1,9 @@
 -- The exit status of each end of a run, and what standard error says of it.
 use Rattle.std.specs.Prelude.{ℕ, Option, Some, None}
-use Rattle.noise_map.specs.declared.status.Status.{Status}
-use Rattle.noise_map.specs.declared.status.Status.TheVariants as status
-use Rattle.noise_map.specs.declared.status.Fault.{Fault}
-use Rattle.noise_map.specs.declared.status.Fault.TheVariants as fault
+use Rattle.noise_map.specs.declared.run.status.Status.{Status}
+use Rattle.noise_map.specs.declared.run.status.Status.TheVariants as status
+use Rattle.noise_map.specs.declared.run.status.Fault.{Fault}
+use Rattle.noise_map.specs.declared.run.status.Fault.TheVariants as fault
 
 abbrev pub exit_code_of : Status → ℕ
 exit_code_of status.Done = 0

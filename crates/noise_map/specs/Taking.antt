@@ -2,8 +2,8 @@
 use Rattle.std.specs.Prelude.{◌≡◌, ◌<◌, ℕ, List, [], ◌∷◌, ◌++◌, length, flat_map, Option, Result, Ok, Err, OnOk, IsErrOf}
 use Rattle.std.specs.Io.KnownBytes.{Appends}
 use Rattle.map_io.specs.Causes.{Rose}
-use Rattle.noise_map.specs.declared.stopped.Stopped.{Stopped}
-use Rattle.noise_map.specs.declared.stopped.Stopped.TheVariants.{WriteFault, NoMemory}
+use Rattle.noise_map.specs.declared.lines.stopped.Stopped.{Stopped}
+use Rattle.noise_map.specs.declared.lines.stopped.Stopped.TheVariants.{WriteFault, NoMemory}
 
 -- the bytes of rows, one after the other
 abbrev pub joined : List (List ℕ) → List ℕ

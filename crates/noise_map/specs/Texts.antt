@@ -14,8 +14,8 @@ use Rattle.map_text.specs.declared.heads.Head.{Head}
 use Rattle.map_text.specs.declared.heads.Head.TheVariants.{Settle, Look}
 use Rattle.map_text.specs.Rows.{head_row, refused_row, counts_row}
 use Rattle.map_text.specs.Looks.{receiver_rows}
-use Rattle.noise_map.specs.declared.answer.Answer.{Answer}
-use Rattle.noise_map.specs.declared.answer.Answer.TheVariants.{Nothing, Refused, Settled, Looked, Contoured}
+use Rattle.noise_map.specs.declared.lines.answer.Answer.{Answer}
+use Rattle.noise_map.specs.declared.lines.answer.Answer.TheVariants.{Nothing, Refused, Settled, Looked, Contoured}
 use Rattle.noise_map.specs.Effects.{Display, silent, refused, settled, known, contoured, Point, at_start, effect_at, passed_line}
 
 -- ---- answers

@@ -3,18 +3,24 @@ ghost use Rattle.std.specs.Prelude.{◌≡◌, ℕ, List, [], IfOk};
 ghost use Rattle.map_lock.specs.Settling.{HasNotFinished};
 ghost use Rattle.noise_map.specs.Demands.{demand_of};
 ghost use Rattle.noise_map.specs.Texts.{rows_of};
-ghost use Rattle.noise_map.specs.Rows.{ShowsFew};
+ghost use Rattle.noise_map.specs.inner.Rows.{ShowsFew};
 ghost use Rattle.noise_map.specs.Taking.{Takes, CausedByWriteFault};
-ghost use Rattle.noise_map.specs.Steps.{Knows, MeetsUnlessMemory};
-ghost use Rattle.noise_map.specs.Progress.{ending_of, status_of, IsLineOf, IsTextOf, HasWritten, HasEnded, Ended};
+ghost use Rattle.noise_map.specs.inner.Steps.{Knows, MeetsUnlessMemory};
+ghost use Rattle.noise_map.specs.inner.Progress.{ending_of, status_of, IsLineOf, IsTextOf, HasWritten, HasEnded, Ended};
 ghost use Rattle.noise_map.specs.Outcome.{TellsFault};
 
-use crate::answer::Answer;
-use crate::editor::Editor;
-use crate::rows::Rows;
-use crate::status::{Ending, Status};
-use crate::step::{Shared, refuse_long};
-use crate::stopped::Stopped;
+pub(crate) mod answer;
+pub(crate) mod keeping;
+pub(crate) mod rows;
+pub(crate) mod step;
+pub(crate) mod stopped;
+
+use crate::lines::answer::Answer;
+use crate::lines::rows::Rows;
+use crate::lines::step::{Shared, refuse_long};
+use crate::lines::stopped::Stopped;
+use crate::run::editor::Editor;
+use crate::run::status::{Ending, Status, status_at_end};
 use command_words::CommandLine;
 use map_io::{Gate, LineReader, Next, Sink, Source};
 use map_text::{Head, RowWriter};
@@ -28,8 +34,7 @@ fn ending(next: Next, refused: bool) -> Option<Status>
 {
     match next {
         Next::Line(_) | Next::LongLine => None,
-        Next::End if refused => Some(Status::SomeRefused),
-        Next::End => Some(Status::Done),
+        Next::End => Some(status_at_end(refused)),
         Next::ReadFault => Some(Status::ReadFault),
         Next::InputLimit => Some(Status::InputLimit),
     }

@@ -1,18 +1,9 @@
 //! `noisemap`: a noise mapper by ISO 9613-2, from JSON lines to CSV rows.
 #![tactic(auto)]
 
-mod answer;
-mod crew;
-mod editor;
-mod keeping;
 mod lines;
 mod make;
-mod making;
-mod rows;
 mod run;
-mod status;
-mod step;
-mod stopped;
 #[cfg(test)]
 mod test_faults;
 #[cfg(test)]
@@ -20,7 +11,7 @@ mod test_gate;
 #[cfg(test)]
 mod tests;
 
-use crate::status::{Report, Status};
+use crate::run::status::{Report, Status};
 use map_io::{OpenGate, StdSink, StdSource};
 use std::env::{self, Env};
 use std::io::{self, ErrorKind};

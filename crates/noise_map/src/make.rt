@@ -3,17 +3,18 @@ ghost use Rattle.std.specs.Prelude.{◌≡◌, ◌<◌, ◌-◌, ◌^◌, ◌==�
 ghost use Rattle.std.specs.Option.{option_map};
 ghost use Rattle.path_calc.specs.Levels.{IsLevel};
 ghost use Rattle.map_lock.specs.Settling.{HasNotFinished};
-ghost use Rattle.noise_map.specs.FirstLine.{IsFirstLine};
+ghost use Rattle.noise_map.specs.inner.FirstLine.{IsFirstLine};
 ghost use Rattle.noise_map.specs.Making.{AddsLine};
 ghost use Rattle.noise_map.specs.Outcome.{TellsFault};
-ghost use Rattle.noise_map.specs.Steps.{Knows};
-ghost use Rattle.noise_map.specs.Progress.{HasEnded, SiteEnded};
-ghost use Rattle.noise_map.specs.Progress as progress;
+ghost use Rattle.noise_map.specs.inner.Steps.{Knows};
+ghost use Rattle.noise_map.specs.inner.Progress.{HasEnded, SiteEnded};
 
-use crate::editor::Editor;
-use crate::making::Making;
-use crate::status::{Ending, Status};
-use crate::step::Shared;
+pub(crate) mod making;
+
+use crate::lines::step::Shared;
+use crate::make::making::Making;
+use crate::run::editor::Editor;
+use crate::run::status::{Ending, Status, status_at_end};
 use map_io::{Gate, Sink, put_all};
 use scene_parts::NoMemory;
 use site_maker::site;
@@ -37,17 +38,6 @@ fn first_line(bytes: &[u8]) -> Option<(&[u8], &[u8])>
     match line_feed(bytes) {
         Some(end) => Some((&bytes[..end], &bytes[end + 1..])),
         None => Some((bytes, &bytes[bytes.len()..])),
-    }
-}
-
-/// The status of a run that has come to its end.
-fn status_at_end(refused: bool) -> Status
-    ensures { result ≡ progress.status_at_end refused }
-{
-    if refused {
-        Status::SomeRefused
-    } else {
-        Status::Done
     }
 }
 

@@ -3,17 +3,21 @@ ghost use Rattle.std.specs.Prelude.{◌≡◌, ◌≢◌, ◌≤◌, ◌<◌, �
 ghost use Rattle.std.specs.List.{AllZip};
 ghost use Rattle.map_io.specs.Causes.{Rose};
 ghost use Rattle.command_words.specs.Words.{command_line_of};
-ghost use Rattle.noise_map.specs.Crews.{IsFresh, IsBack};
-ghost use Rattle.noise_map.specs.Progress.{HasEnded, HasFinished, AskedEnded};
-ghost use Rattle.noise_map.specs.Steps.{Knows};
+ghost use Rattle.noise_map.specs.inner.Crews.{IsFresh, IsBack};
+ghost use Rattle.noise_map.specs.inner.Progress.{HasEnded, HasFinished, AskedEnded};
+ghost use Rattle.noise_map.specs.inner.Steps.{Knows};
 ghost use Rattle.noise_map.specs.Outcome.{RunOutcome, TellsFault, RunsToTheEnd};
 
-use crate::crew::{Crew, join_all};
-use crate::editor::Editor;
+pub(crate) mod crew;
+pub(crate) mod editor;
+pub(crate) mod status;
+
 use crate::lines::do_lines;
+use crate::lines::step::Shared;
 use crate::make::do_site;
-use crate::status::{Ending, Report, Status};
-use crate::step::Shared;
+use crate::run::crew::{Crew, join_all};
+use crate::run::editor::Editor;
+use crate::run::status::{Ending, Report, Status};
 use command_words::{CommandLine, WordsFault, command_line};
 use map_io::{Gate, Sink, Source};
 use map_lock::WorkerSeat;

@@ -2,7 +2,7 @@
 ghost use Rattle.std.specs.Prelude.{None};
 
 use crate::run::run;
-use crate::status::Report;
+use crate::run::status::Report;
 use map_io::{Failed, FreeSink, FreeSource, Gate, MemSink, MemSource, OpenGate, Sink, Source};
 use std::alloc::Global;
 use std::process::Abort;

@@ -7,7 +7,7 @@ use Rattle.fix_interval.specs.Interval.{Interval}
 use Rattle.fix_interval.specs.Values.{greater_low, greater_high, max_of}
 use Rattle.fix_interval.specs.Tree.{Tree, Max, enc}
 use Rattle.scene_geom.specs.declared.band.Band.{Band}
-use Rattle.scene_parts.specs.declared.edge.Edge.{Edge}
+use Rattle.scene_parts.specs.declared.screening.edge.Edge.{Edge}
 use Rattle.path_shape.specs.declared.path.Path.{Path}
 use Rattle.scene_book.specs.Orders.{Shuffled, same, under, exchange, after}
 use Rattle.term_barrier.specs.Diffraction.{whole, ten_lg, attenuation}

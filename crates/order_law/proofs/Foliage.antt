@@ -16,7 +16,7 @@ use Rattle.fix_interval.proofs.Ratios.{ratio_of-small, ratio_of-large}
 use Rattle.fix_interval.proofs.Rounding.{ceil_of-pos, floor_of-le-ceil_of}
 use Rattle.fix_interval.proofs.Ceilings.{quotient_up-le}
 use Rattle.scene_geom.specs.declared.plan.Pt.{Pt}
-use Rattle.scene_geom.specs.declared.fraction.Frac.{Frac}
+use Rattle.scene_geom.specs.declared.fractions.fraction.Frac.{Frac}
 use Rattle.scene_geom.specs.declared.band.Band.{Band}
 use Rattle.scene_parts.specs.Views.{Foliage}
 use Rattle.scene_book.specs.Orders.{Shuffled}

@@ -10,9 +10,9 @@ use Rattle.fix_interval.specs.Values.{ratio_of, sum_of_ends, add_of, neg_of, sub
 use Rattle.fix_interval.specs.Tree.{Tree, Add, Sub, Neg, Min, enc}
 use Rattle.fix_interval.proofs.Multiplying.{end_of-small}
 use Rattle.scene_geom.specs.declared.plan.Pt.{Pt}
-use Rattle.scene_geom.specs.declared.fraction.Frac.{Frac}
-use Rattle.scene_geom.specs.declared.direction.Dir.{Dir}
-use Rattle.scene_geom.specs.declared.crossing.Passage.{Passage}
+use Rattle.scene_geom.specs.declared.fractions.fraction.Frac.{Frac}
+use Rattle.scene_geom.specs.declared.directions.direction.Dir.{Dir}
+use Rattle.scene_geom.specs.declared.meetings.crossing.Passage.{Passage}
 use Rattle.scene_geom.specs.Fraction.{rest_of}
 use Rattle.scene_geom.specs.Crossing.{passage_of}
 use Rattle.scene_geom.specs.Outline.{sides_along, ring, area2_of, passages_of, meets_of}

@@ -17,7 +17,7 @@ use Rattle.scene_parts.specs.declared.kinds.Ground.{Ground}
 use Rattle.scene_parts.specs.declared.kinds.Ground.TheVariants.{General, Simple}
 use Rattle.scene_parts.specs.Crossings.{counts_in}
 use Rattle.scene_parts.specs.Sides.{sides_of}
-use Rattle.scene_parts.specs.declared.edge.Edge.{Edge}
+use Rattle.scene_parts.specs.declared.screening.edge.Edge.{Edge}
 use Rattle.scene_book.specs.Orders.{Shuffled, same, under}
 use Rattle.scene_undo.specs.Scenes.{IsZoneWithin, IsFoliageWithin}
 use Rattle.path_shape.specs.Shape.{plan_length, length_of}

@@ -13,8 +13,8 @@ use Rattle.fix_interval.proofs.Ends.{on_ends-second}
 use Rattle.fix_interval.proofs.Multiplying.{end_of-large}
 use Rattle.scene_parts.specs.Views.{Zone}
 use Rattle.path_shape.specs.declared.path.Path.{Path}
-use Rattle.term_ground.specs.declared.region.Region.{Region}
-use Rattle.term_ground.specs.declared.region.Region.TheVariants.{Source, Middle, Receiver}
+use Rattle.term_ground.specs.declared.legs.region.Region.{Region}
+use Rattle.term_ground.specs.declared.legs.region.Region.TheVariants.{Source, Middle, Receiver}
 use Rattle.term_ground.specs.Lengths.{factor, thirty}
 use Rattle.term_ground.specs.Regions.{region_start, region_end, zone_term}
 use Rattle.term_ground.proofs.TermBounds.{factor-within}

@@ -7,8 +7,8 @@ use Rattle.scene_undo.specs.Scenes.{IsZoneWithin}
 use Rattle.path_shape.specs.declared.path.Path.{Path}
 use Rattle.path_shape.specs.Forms.{plus_all}
 use Rattle.path_shape.specs.Outlines.{meets_legs}
-use Rattle.term_ground.specs.declared.region.Region.{Region}
-use Rattle.term_ground.specs.declared.region.Region.TheVariants.{Source, Middle, Receiver}
+use Rattle.term_ground.specs.declared.legs.region.Region.{Region}
+use Rattle.term_ground.specs.declared.legs.region.Region.TheVariants.{Source, Middle, Receiver}
 use Rattle.term_ground.specs.Lengths.{factor}
 use Rattle.term_ground.specs.Regions.{region_start, region_end, zone_term, share_of}
 use Rattle.term_ground.specs.Ground.{ground}

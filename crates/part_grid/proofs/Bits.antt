@@ -8,7 +8,7 @@ use Rattle.std.proofs.lemmas.Nat.Bits.{bit_at-zero, bit_at_set_same, bit_at_set_
 use Rattle.std.proofs.lemmas.Bool.{cases_eq, cases_lt}
 use Rattle.std.proofs.lemmas.List.{same_lists, get_or-set_same, get_or-set_other, length-set, length-replicate, set_past}
 use Rattle.std.proofs.lemmas.List.FromFn.{length-map-range_with_len, get_or-map-range_with_len}
-use Rattle.part_grid.specs.Marks.{is_marked, marks_of, IsMarks}
+use Rattle.part_grid.specs.inner.Marks.{is_marked, marks_of, IsMarks}
 
 -- ---- the list of marks
 pub marks-length : (words : List ℕ) (count : ℕ) → length (marks_of words count) ≡ count

@@ -6,11 +6,11 @@ use Rattle.std.proofs.lemmas.Nat.{same_from_place}
 use Rattle.std.proofs.lemmas.List.{get_or-set_same, get_or-set_other, get_or_read}
 use Rattle.std.proofs.lemmas.Bool.{cases_eq, and_parts, and_from, eq-eqb, eqb-true, ltb-true, lt-ltb, le-ltb, ne_eqb, or_cases, leb-true, le-leb}
 use Rattle.scene_geom.specs.declared.plan.Side.{Side}
-use Rattle.part_grid.specs.declared.span.Span.{Span}
-use Rattle.part_grid.specs.declared.frame.Frame.{Frame}
+use Rattle.part_grid.specs.declared.cells.span.Span.{Span}
+use Rattle.part_grid.specs.declared.cells.frame.Frame.{Frame}
 use Rattle.part_grid.specs.declared.owned.Owned.{Owned}
 use Rattle.part_grid.specs.Span.{has, width}
-use Rattle.part_grid.specs.Index.{cell_at, entered, has_cell}
+use Rattle.part_grid.specs.inner.Index.{cell_at, entered, has_cell}
 use Rattle.part_grid.proofs.Spans.{has-lines, has-from, same-test}
 
 -- ---- one cell

@@ -5,12 +5,12 @@ use Rattle.std.specs.List.{list_any, range_with_len}
 use Rattle.std.proofs.lemmas.Bool.{and_parts}
 use Rattle.scene_geom.specs.declared.plan.Pt.{Pt}
 use Rattle.scene_geom.specs.declared.plan.Side.{Side}
-use Rattle.part_grid.specs.declared.span.Span.{Span}
-use Rattle.part_grid.specs.declared.frame.Frame.{Frame}
+use Rattle.part_grid.specs.declared.cells.span.Span.{Span}
+use Rattle.part_grid.specs.declared.cells.frame.Frame.{Frame}
 use Rattle.part_grid.specs.declared.owned.Owned.{Owned}
 use Rattle.part_grid.specs.Span.{between, has, overlap, common, lines}
 use Rattle.part_grid.specs.Cells.{cell, from_edge, row_at, columns_of, rows_of, columns_between, rows_between, covers, walk_rows, cells_meet_of, boxes_meet}
-use Rattle.part_grid.specs.Index.{entered, has_cell, IsIndex, IsWithin}
+use Rattle.part_grid.specs.inner.Index.{entered, has_cell, IsIndex, IsWithin}
 use Rattle.part_grid.proofs.Spans.{any-start, any-turn, any-end, any-line, found-line, any-common, any-has, same-test, has-lines, has-from}
 
 -- ---- what is marked so far

@@ -5,8 +5,8 @@ use Rattle.std.specs.List.{list_any}
 use Rattle.std.proofs.lemmas.List.{get_or_append_left, get_or_at, map-set, get_or-map}
 use Rattle.std.proofs.lemmas.List.{get_or-set_same, get_or-set_other}
 use Rattle.std.proofs.lemmas.Bool.{cases_eq, cases_lt, eq-eqb, ne_eqb}
-use Rattle.part_grid.specs.declared.register.Entry.{Entry}
-use Rattle.part_grid.specs.Register.{entry_at, numbers_from, lists_of, IsRegister}
+use Rattle.part_grid.specs.declared.numbers.register.Entry.{Entry}
+use Rattle.part_grid.specs.inner.Register.{entry_at, numbers_from, lists_of, IsRegister}
 
 -- more than enough places lead to no more numbers
 numbers-more : (entries : List Entry) → ((k : ℕ) → k < length entries → (entry_at entries k).before ≤ k) → (most place : ℕ) → place ≤ most → place ≤ length entries

@@ -3,9 +3,9 @@ use Rattle.std.proofs.Common.{◌≡◌, ℕ, zero, suc, ◌+◌, ◌-◌, ◌<�
 use Rattle.std.specs.Prelude.{◌||◌, ◌&&◌, nat_le}
 use Rattle.std.specs.List.{list_any, range_with_len}
 use Rattle.std.proofs.lemmas.Bool.{and_parts, and_from, leb-true, le-leb, or_cases, cases_eq, both_ways}
-use Rattle.part_grid.specs.declared.span.Span.{Span}
+use Rattle.part_grid.specs.declared.cells.span.Span.{Span}
 use Rattle.part_grid.specs.Span.{has, overlap, common, width, lines}
-use Rattle.part_grid.specs.Index.{IsWithin}
+use Rattle.part_grid.specs.inner.Index.{IsWithin}
 
 -- two tests that imply one another are one
 pub same-test : (x y : Bool) → (x ≡ true → y ≡ true) → (y ≡ true → x ≡ true) → x ≡ y

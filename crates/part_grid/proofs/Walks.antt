@@ -5,7 +5,7 @@ use Rattle.std.specs.List.{list_any, range_with_len}
 use Rattle.std.proofs.lemmas.Bool.{and_parts, and_from, ne_eqb}
 use Rattle.scene_geom.specs.declared.plan.Pt.{Pt}
 use Rattle.scene_geom.specs.declared.plan.Side.{Side}
-use Rattle.part_grid.specs.declared.span.Span.{Span}
+use Rattle.part_grid.specs.declared.cells.span.Span.{Span}
 use Rattle.part_grid.specs.Span.{between, has, overlap, common, lines}
 use Rattle.part_grid.specs.Cells.{cell, from_edge, row_at, columns_of, rows_of, columns_between, covers, walk_rows, cells_meet_of}
 use Rattle.part_grid.proofs.Spans.{has-from, any-line, any-turn, any-end, any-common}

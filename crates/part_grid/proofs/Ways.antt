@@ -4,11 +4,11 @@ use Rattle.std.specs.Prelude.{ℤ, pos, negsuc, ◌+ℤ◌, ◌-ℤ◌, ◌*ℤ�
 use Rattle.std.proofs.lemmas.Int.{ints, clamps}
 use Rattle.std.proofs.lemmas.Bool.{and_from, cases_eq, eq-eqb, ne_eqb}
 use Rattle.scene_geom.specs.declared.plan.Pt.{Pt}
-use Rattle.scene_geom.specs.declared.fraction.Frac.{Frac}
-use Rattle.scene_geom.specs.declared.direction.Dir.{Dir}
+use Rattle.scene_geom.specs.declared.fractions.fraction.Frac.{Frac}
+use Rattle.scene_geom.specs.declared.directions.direction.Dir.{Dir}
 use Rattle.scene_geom.specs.Plan.{InPlan, nearest, nearest-in_plan}
 use Rattle.scene_geom.specs.Fraction.{over}
-use Rattle.part_grid.specs.declared.span.Span.{Span}
+use Rattle.part_grid.specs.declared.cells.span.Span.{Span}
 use Rattle.part_grid.specs.Span.{between, has, overlap}
 use Rattle.part_grid.specs.Cells.{from_edge, line_of, columns_of, rows_of, covers}
 use Rattle.part_grid.specs.Ways.{floor_of, end_at, northing_at, nearest_line, way_columns, way_rows, west_of, row_into, rows_in}

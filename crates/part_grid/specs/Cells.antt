@@ -7,7 +7,7 @@ use Rattle.std.specs.List.{list_any}
 use Rattle.std.specs.Int.{abs_diff}
 use Rattle.scene_geom.specs.declared.plan.Pt.{Pt}
 use Rattle.scene_geom.specs.declared.plan.Side.{Side}
-use Rattle.part_grid.specs.declared.span.Span.{Span}
+use Rattle.part_grid.specs.declared.cells.span.Span.{Span}
 use Rattle.part_grid.specs.Span.{between, has, overlap, lines}
 
 -- the width of a cell, in mm

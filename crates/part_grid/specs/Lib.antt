@@ -3,7 +3,5 @@ pub mod Cells
 pub mod Near
 pub mod Numbered
 pub mod Ways
-pub mod Register
-pub mod Index
-pub mod Marks
 pub mod Laws
+pub mod inner

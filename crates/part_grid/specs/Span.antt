@@ -1,7 +1,7 @@
 -- Neighbouring columns or rows of cells.
 use Rattle.std.specs.Prelude.{ℕ, suc, ◌-◌, min, max, Bool, ◌&&◌, nat_le, List}
 use Rattle.std.specs.List.{range_with_len}
-use Rattle.part_grid.specs.declared.span.Span.{Span}
+use Rattle.part_grid.specs.declared.cells.span.Span.{Span}
 
 -- from one line to another, in either order
 abbrev pub between : ℕ → ℕ → Span

@@ -3,8 +3,8 @@ ghost use Rattle.std.specs.Prelude.{◌≡◌, [], ◌++◌, length, map, IfOk, 
 ghost use Rattle.std.specs.List.{items_where_true};
 ghost use Rattle.part_grid.specs.Near.{place_of};
 
-use super::marks::Marks;
-use super::owned::{Owned, Place};
+use crate::numbers::marks::Marks;
+use crate::owned::{Owned, Place};
 use std::alloc::{AllocError, Global};
 use std::marker::Model;
 

@@ -6,16 +6,16 @@ ghost use Rattle.part_grid.specs.Ways.{cells_meet_way, sides_near_way};
 ghost use Rattle.scene_geom.specs.Direction.{FitsDirection};
 ghost use Rattle.scene_geom.specs.Fraction.{FitsEnd};
 
-use super::entering::entered;
-use super::found::{Found, list_marked};
-use super::frame::{Frame, frame_of};
-use super::lines::{columns_between, rows_between};
-use super::marking::mark_column;
-use super::marks::Marks;
-use super::owned::{Owned, Place};
-use super::register::Register;
-use super::walk::walk_rows;
-use super::way::{rows_in, way_columns, way_rows};
+use crate::cells::entering::entered;
+use crate::cells::frame::{Frame, frame_of};
+use crate::cells::lines::{columns_between, rows_between};
+use crate::cells::walk::walk_rows;
+use crate::cells::way::{rows_in, way_columns, way_rows};
+use crate::found::{Found, list_marked};
+use crate::numbers::marking::mark_column;
+use crate::numbers::marks::Marks;
+use crate::numbers::register::Register;
+use crate::owned::{Owned, Place};
 use scene_geom::{Dir, Frac, Pt};
 use std::alloc::{AllocError, Global};
 use std::marker::Model;
@@ -31,7 +31,7 @@ pub struct Grid {
 impl Model for Grid {
     ghost use Rattle.std.specs.Prelude.{List};
     ghost use Rattle.part_grid.specs.declared.owned.Owned.{Owned};
-    ghost use Rattle.part_grid.specs.Index.{IsIndex};
+    ghost use Rattle.part_grid.specs.inner.Index.{IsIndex};
 
     ghost Value = { List Owned };
 

@@ -5,22 +5,15 @@
 //! exact: the sides with a cell among those that the segment walks through, in the order in which they were given.
 #![tactic(auto)]
 
-mod entering;
+mod cells;
 mod found;
-mod frame;
 mod grid;
 pub mod laws;
-mod lines;
-mod marking;
-mod marks;
+mod numbers;
 mod owned;
-mod register;
-mod span;
-mod walk;
-mod way;
 
+pub use cells::walk::cells_meet;
+pub use cells::way::end_at;
 pub use found::Found;
 pub use grid::Grid;
 pub use owned::{Owned, Place};
-pub use walk::cells_meet;
-pub use way::end_at;

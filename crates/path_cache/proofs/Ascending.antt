@@ -12,7 +12,8 @@ use Rattle.std.proofs.lemmas.List.{append-nil, append_assoc, take_more, get_or_d
 use Rattle.path_calc.specs.Bundles.{Bundle}
 use Rattle.path_cache.specs.declared.origins.Origin.{Origin}
 use Rattle.path_cache.specs.declared.origins.Origin.TheVariants.{Kept, New}
-use Rattle.path_cache.specs.Origins.{bundle_from, bundles_from, IsBetween, place_after, Ascend}
+use Rattle.path_cache.specs.Origins.{bundle_from, bundles_from, Ascend}
+use Rattle.path_cache.specs.inner.Origins.{IsBetween, place_after}
 
 pub ascend-le : (from : ℕ) (origins : List Origin) (to : ℕ) → Ascend from origins to → from ≤ to
 ascend-le from [] to h = h

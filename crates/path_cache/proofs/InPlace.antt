@@ -6,7 +6,8 @@ use Rattle.std.proofs.lemmas.List.{take_more, take_more_set, drop-set-lt, length
 use Rattle.path_calc.specs.Bundles.{Bundle}
 use Rattle.path_cache.specs.declared.origins.Origin.{Origin}
 use Rattle.path_cache.specs.declared.origins.Origin.TheVariants.{Kept, New}
-use Rattle.path_cache.specs.Origins.{bundle_from, placed_at, StandsAt}
+use Rattle.path_cache.specs.Origins.{bundle_from}
+use Rattle.path_cache.specs.inner.Origins.{placed_at, StandsAt}
 use Rattle.path_cache.proofs.Ascending.{drop-here, some-at, behind-it, there-is}
 
 -- Bundles of which those from a place on are the kept ones, with that of an origin at this place: up to it and behind it

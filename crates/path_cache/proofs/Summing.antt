@@ -16,7 +16,7 @@ use Rattle.energy_sum.specs.Sums.{units_of}
 use Rattle.path_calc.specs.Bundles.{Bundle, IsEnergy, energy_limit}
 use Rattle.path_cache.specs.declared.sums.RowSums.{RowSums}
 use Rattle.path_cache.specs.Sums.{IsSumOver, CanBeSummed, HasEnergies, Fits, energy_at, sum_at}
-use Rattle.path_cache.specs.TakingOff.{HasRoom, HaveRoom, IsPartOf, ArePartOf}
+use Rattle.path_cache.specs.inner.TakingOff.{HasRoom, HaveRoom, IsPartOf, ArePartOf}
 
 -- ---- elements
 

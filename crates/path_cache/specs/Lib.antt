@@ -1,9 +1,7 @@
 pub mod Refreshed
-pub mod OneProof
-pub mod OfOneSource
 pub mod Sums
-pub mod TakingOff
 pub mod Origins
 pub mod Renewals
 pub mod Standing
 pub mod Frames
+pub mod inner

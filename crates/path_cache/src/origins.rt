@@ -1,7 +1,8 @@
 //! Where each bundle of a refreshed row comes from.
 ghost use Rattle.std.specs.Prelude.{◌≡◌, ◌≤◌, ◌<◌, ◌^◌, ◌++◌, ◌∷◌, [], IfOk, OnOk, Some, length, slice_get};
 ghost use Rattle.path_cache.specs.Sums.{Fits};
-ghost use Rattle.path_cache.specs.Origins.{Ascend, bundles_from, place_after};
+ghost use Rattle.path_cache.specs.Origins.{Ascend, bundles_from};
+ghost use Rattle.path_cache.specs.inner.Origins.{place_after};
 
 use crate::sums::RowSums;
 use path_calc::Bundle;

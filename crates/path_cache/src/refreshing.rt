@@ -4,9 +4,10 @@ ghost use Rattle.std.specs.Prelude.{◌≡◌, ◌≤◌, ◌+◌, [], ◌∷◌
 ghost use Rattle.path_calc.specs.Bundles.{bundle_of};
 ghost use Rattle.path_calc.specs.Prepared.{prepared_of};
 ghost use Rattle.path_cache.specs.Refreshed.{CanRefresh, refreshed, refreshed_bundle, is_wanted, count_wanted};
-ghost use Rattle.path_cache.specs.OneProof.{CanRefresh-prop};
-ghost use Rattle.path_cache.specs.Origins.{Ascend, IsBetween, bundle_from, bundles_from};
-ghost use Rattle.path_cache.specs.OfOneSource.{refreshed_of_one, steps_of_one, needs_path};
+ghost use Rattle.path_cache.specs.inner.OneProof.{CanRefresh-prop};
+ghost use Rattle.path_cache.specs.Origins.{Ascend, bundle_from, bundles_from};
+ghost use Rattle.path_cache.specs.inner.Origins.{IsBetween};
+ghost use Rattle.path_cache.specs.inner.OfOneSource.{refreshed_of_one, steps_of_one, needs_path};
 
 use crate::keeping::{find_unmarked, search_unmarked};
 use crate::origins::{Origin, Origins, boxed_copy, copied};

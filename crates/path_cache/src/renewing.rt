@@ -5,7 +5,8 @@ ghost use Rattle.std.specs.Prelude.{◌≡◌, ◌≤◌, ◌<◌, ◌+◌, ◌�
 ghost use Rattle.path_calc.specs.Bundles.{Bundle as BundleSeen};
 ghost use Rattle.path_cache.specs.Refreshed.{CanRefresh, refreshed, count_wanted};
 ghost use Rattle.path_cache.specs.Sums.{Fits};
-ghost use Rattle.path_cache.specs.Origins.{Ascend, StandInPlace, StandsAt, bundles_from, placed_at};
+ghost use Rattle.path_cache.specs.Origins.{Ascend, bundles_from};
+ghost use Rattle.path_cache.specs.inner.Origins.{StandInPlace, StandsAt, placed_at};
 ghost use Rattle.path_cache.specs.Standing.{StandAsSources};
 ghost use Rattle.path_cache.specs.Renewals.{Gives, Leads, with_each, is_in_place};
 

@@ -7,7 +7,7 @@ ghost use Rattle.path_calc.specs.Bundles.{Bundle as BundleSeen, IsEnergy, few_bu
 ghost use Rattle.path_calc.specs.Levels.{levels_of, level_in};
 ghost use Rattle.scene_geom.specs.declared.band.Band.{Band};
 ghost use Rattle.path_cache.specs.Sums.{Fits, level_of_sum, band_level_of_sums};
-ghost use Rattle.path_cache.specs.TakingOff.{HasRoom, HaveRoom, IsPartOf, ArePartOf, FitFrom};
+ghost use Rattle.path_cache.specs.inner.TakingOff.{HasRoom, HaveRoom, IsPartOf, ArePartOf, FitFrom};
 
 use energy_sum::{Sum, level};
 use fix_interval::Iv;

@@ -5,7 +5,7 @@ use Rattle.fix_interval.specs.Interval.{Interval}
 use Rattle.fix_interval.specs.Values.{add_of}
 use Rattle.fix_interval.specs.Tree.{Tree, Known, Const, Add, enc}
 use Rattle.scene_geom.specs.declared.plan.Side.{Side}
-use Rattle.scene_geom.specs.declared.fraction.Frac.{Frac}
+use Rattle.scene_geom.specs.declared.fractions.fraction.Frac.{Frac}
 use Rattle.scene_geom.specs.declared.band.Band.{Band}
 use Rattle.image_source.specs.Dimensions.{incidence, dimension_squared, legs_product, needed_squared}
 use Rattle.energy_sum.specs.Weather.{correction}

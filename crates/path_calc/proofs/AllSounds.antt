@@ -6,13 +6,13 @@ use Rattle.fix_interval.specs.Interval.{Interval}
 use Rattle.fix_interval.specs.Tree.{Tree, Known, Const, Add, enc}
 use Rattle.scene_geom.specs.declared.band.Band.{Band}
 use Rattle.path_calc.specs.declared.lateral.LateralScreening.{LateralScreening}
-use Rattle.path_calc.specs.declared.paths.Paths.{Paths}
-use Rattle.path_calc.specs.Propagations.{Reflected}
-use Rattle.path_calc.specs.Losses.{loss_in}
+use Rattle.path_calc.specs.declared.energies.paths.Paths.{Paths}
+use Rattle.path_calc.specs.inner.Propagations.{Reflected}
+use Rattle.path_calc.specs.inner.Losses.{loss_in}
 use Rattle.path_calc.specs.Energies.{sum_form}
-use Rattle.path_calc.specs.Ranges.{IsSumOf}
-use Rattle.path_calc.specs.Strings.{both_of}
-use Rattle.path_calc.specs.Hearing.{power_at, level_before, past, with_energy, screening_at, lateral_at, screenings_at, reflected_energy, sum_after}
+use Rattle.path_calc.specs.inner.Ranges.{IsSumOf}
+use Rattle.path_calc.specs.inner.Strings.{both_of}
+use Rattle.path_calc.specs.inner.Hearing.{power_at, level_before, past, with_energy, screening_at, lateral_at, screenings_at, reflected_energy, sum_after}
 use Rattle.path_calc.proofs.Alike.{sum-on}
 use Rattle.path_calc.proofs.Sums.{sound-and-more}
 

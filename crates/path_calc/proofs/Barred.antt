@@ -8,12 +8,12 @@ use Rattle.scene_geom.specs.declared.plan.Pt.{Pt}
 use Rattle.scene_geom.specs.declared.plan.Side.{Side}
 use Rattle.scene_geom.specs.declared.band.Band.{Band}
 use Rattle.scene_geom.specs.Crossing.{blocks_of}
-use Rattle.scene_parts.specs.declared.size_test.Breadth.{Breadth}
+use Rattle.scene_parts.specs.declared.screening.size_test.Breadth.{Breadth}
 use Rattle.scene_parts.specs.Views.{Obstacle}
 use Rattle.scene_parts.specs.Sides.{sides_of, squared_length}
 use Rattle.scene_parts.specs.InBand.{exceeds_wavelength}
 use Rattle.scene_geom.specs.Outline.{extent_of}
-use Rattle.scene_parts.specs.declared.ends.Ends.{Ends}
+use Rattle.scene_parts.specs.declared.screening.ends.Ends.{Ends}
 use Rattle.scene_parts.specs.Crossings.{counts_in}
 use Rattle.edge_chain.specs.Chain.{segments_of}
 use Rattle.part_grid.specs.declared.owned.Owned.{Owned}
@@ -22,7 +22,7 @@ use Rattle.part_grid.specs.Numbered.{owned_by, numbered}
 use Rattle.part_grid.proofs.Crossed.{unmet-are-apart}
 use Rattle.part_grid.proofs.Numbered.{IsFoundAt, found-at, or_none, looked_any, any-near, any-by-obstacles, any-more}
 use Rattle.path_calc.specs.LateralPaths.{is_in_the_way}
-use Rattle.path_calc.specs.Strings.{is_within}
+use Rattle.path_calc.specs.inner.Strings.{is_within}
 
 -- ---- one segment
 -- a side of an obstacle that counts in a band blocks the segment

@@ -21,14 +21,14 @@ use Rattle.scene_parts.specs.declared.kinds.Ground.{Ground}
 use Rattle.scene_parts.specs.declared.kinds.Ground.TheVariants as methods
 use Rattle.path_shape.specs.declared.path.Path.{Path}
 use Rattle.path_shape.specs.Shape.{IsPlanSquare}
-use Rattle.path_calc.specs.Hearing.{omega_along}
+use Rattle.path_calc.specs.inner.Hearing.{omega_along}
 use Rattle.fix_interval.specs.Lg.{lg_of, lg_low, lg_high, greatest, decade_of, digits_low, digits_high, turns}
 use Rattle.fix_interval.specs.Ranges.{is_inside, from_to, constant, sum, negation, product, square_root, logarithm, sum_range, root_limit, root_range, logarithm_range}
 use Rattle.enclose_log.proofs.LgRange.{logarithm-ranged}
 use Rattle.fix_interval.proofs.Ratios.{ratio_of-small}
 use Rattle.fix_interval.proofs.Rounding.{floor_of-mono, ceil_of-mono, floor_of-le-ceil_of, ceil_of-pos}
 use Rattle.fix_interval.proofs.Spans.{units-is}
-use Rattle.scene_geom.specs.declared.fraction.Frac.{Frac}
+use Rattle.scene_geom.specs.declared.fractions.fraction.Frac.{Frac}
 use Rattle.fix_interval.proofs.Dividing.{units-mono}
 use Rattle.fix_interval.proofs.RangedFormulas.{between, part-between}
 use Rattle.scene_parts.specs.Ranges.{is_power}
@@ -36,11 +36,11 @@ use Rattle.term_div_atm.specs.Terms.{divergence, absorption}
 use Rattle.term_div_atm.proofs.Ends.{divergence-between, absorption-between}
 use Rattle.term_barrier.specs.Limits.{IsDistance, IsGroundEffect, IsScreening}
 use Rattle.path_calc.specs.Contributions.{unscreened_level, reflection_level}
-use Rattle.path_calc.specs.Propagations.{IsReflectionLevel, IsSolidAngle, IsSimpleGround, IsRaised, IsGroundBy}
-use Rattle.path_calc.specs.Losses.{IsFoliageLoss}
-use Rattle.path_calc.specs.Prepared.{IsEmission, IsSent, IsSentOn}
+use Rattle.path_calc.specs.inner.Propagations.{IsReflectionLevel, IsSolidAngle, IsSimpleGround, IsRaised, IsGroundBy}
+use Rattle.path_calc.specs.inner.Losses.{IsFoliageLoss}
+use Rattle.path_calc.specs.inner.Prepared.{IsEmission, IsSent, IsSentOn}
 use Rattle.energy_sum.specs.Weather.{IsWeatherCorrection}
-use Rattle.path_calc.specs.Ranges.{IsPower, IsDirectivity, IsCorrection, IsWeight, IsOnMap, IsPathSquare, IsUnscreened, IsScreened, IsAtReceiver, IsHearable, IsSmall, IsSumOf}
+use Rattle.path_calc.specs.inner.Ranges.{IsPower, IsDirectivity, IsCorrection, IsWeight, IsOnMap, IsPathSquare, IsUnscreened, IsScreened, IsAtReceiver, IsHearable, IsSmall, IsSumOf}
 use Rattle.path_calc.specs.Levels.{IsLevel, IsLevelEnd}
 
 -- ---- constants

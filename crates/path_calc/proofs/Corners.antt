@@ -29,7 +29,7 @@ use Rattle.term_barrier.specs.Lateral.{steps, between_corners, last_corner, heig
 use Rattle.term_barrier.specs.Limits.{most_top, IsScreening}
 use Rattle.term_barrier.proofs.Lengths.{near-length, near-between}
 use Rattle.term_barrier.proofs.LateralBounds.{c_2-between, attenuated}
-use Rattle.path_calc.specs.Ranges.{IsOnMap}
+use Rattle.path_calc.specs.inner.Ranges.{IsOnMap}
 use Rattle.path_calc.proofs.Bounds.{ratio-between}
 
 -- ---- a length of at most k mm has at most 4,500,000 k units

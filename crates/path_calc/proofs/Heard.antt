@@ -21,9 +21,9 @@ use Rattle.scene_parts.specs.Views.{Source, Receiver, Zone, Foliage, Globals}
 use Rattle.scene_parts.specs.declared.kinds.Air.{Air}
 use Rattle.scene_book.specs.Book.{Book}
 use Rattle.path_shape.specs.declared.path.Path.{Path}
-use Rattle.scene_parts.specs.declared.edge.Edge.{Edge}
+use Rattle.scene_parts.specs.declared.screening.edge.Edge.{Edge}
 use Rattle.path_shape.specs.Shape.{plan_length, length_of}
-use Rattle.scene_parts.specs.declared.crossing.Crossing.{Crossing}
+use Rattle.scene_parts.specs.declared.screening.crossing.Crossing.{Crossing}
 use Rattle.sight_cut.specs.Cuts.{edges_in, crossings_of}
 use Rattle.image_source.specs.Dimensions.{dimension_squared, needed_squared}
 use Rattle.term_div_atm.specs.Terms.{divergence}
@@ -35,24 +35,25 @@ use Rattle.term_ground.proofs.SimpleMethod.{simple-same}
 use Rattle.term_foliage.specs.Foliage.{foliage_attenuation}
 use Rattle.term_foliage.proofs.Lawful.{same-length}
 use Rattle.term_barrier.specs.Screening.{screening}
-use Rattle.path_calc.specs.declared.propagation.Propagation.{Propagation}
+use Rattle.path_calc.specs.declared.direct.propagation.Propagation.{Propagation}
 use Rattle.path_calc.specs.declared.reflected.Sound.{Sound}
-use Rattle.path_calc.specs.Propagations.{Reflected, counts_at}
-use Rattle.path_calc.specs.Losses.{loss_in, losses_along}
-use Rattle.path_calc.specs.declared.paths.Paths.{Paths}
+use Rattle.path_calc.specs.inner.Propagations.{Reflected, counts_at}
+use Rattle.path_calc.specs.inner.Losses.{loss_in, losses_along}
+use Rattle.path_calc.specs.declared.energies.paths.Paths.{Paths}
 use Rattle.path_calc.specs.Weights.{weight_in}
 use Rattle.path_calc.specs.Absorption.{coefficient_in}
 use Rattle.path_calc.specs.Lengths.{distance, reflected_distance}
 use Rattle.path_calc.specs.LateralPaths.{LateralPath, lateral_paths}
 use Rattle.path_calc.specs.ReflectedPaths.{ReflectedPath, path_along}
-use Rattle.path_calc.specs.Strings.{d_z_along, d_z_over}
+use Rattle.path_calc.specs.inner.Strings.{d_z_along, d_z_over}
 use Rattle.path_calc.specs.Surroundings.{Surroundings, path_of, ends_of, edges_at, laterals_at, surroundings_of}
 use Rattle.path_calc.specs.Contributions.{Contribution, emission_in, power_along, power_between, unscreened_level, ground_along, ground_in, screening_in, lateral_screening_in, sound_past, direct_sound, lateral_sound, leading, reflected_power, reflected_ground_in, reflected_screening_in, reflected_foliage_in, reflection_level, reflected_sound, sounds_of}
 use Rattle.path_calc.specs.Energies.{sum_form, weighted, correction_of, band_energy, band_energy_between, long_energy_in}
 use Rattle.path_calc.specs.Bundles.{bundle_of}
-use Rattle.path_calc.specs.Prepared.{PreparedSource, prepared_of, emission_at, has_power}
-use Rattle.path_calc.specs.Ranges.{IsAtReceiver}
-use Rattle.path_calc.specs.Hearing.{IsDirect, ArePaths, direct_square, omega_along, grounds_along, raised, power_at, propagation_along, where_asked, bar_over, bars_over, ground_at, screening_at, lateral_at, may_count, may_be_heard, echo_of, counts_on, sound_along, reflected_of, screenings_at, level_before, past, downwind_energy, long_term_energy, sound_energy, echo_energy, reflected_energy, sum_after, energy_after, long_energy_after}
+use Rattle.path_calc.specs.Prepared.{PreparedSource, prepared_of}
+use Rattle.path_calc.specs.inner.Prepared.{emission_at, has_power}
+use Rattle.path_calc.specs.inner.Ranges.{IsAtReceiver}
+use Rattle.path_calc.specs.inner.Hearing.{IsDirect, ArePaths, direct_square, omega_along, grounds_along, raised, power_at, propagation_along, where_asked, bar_over, bars_over, ground_at, screening_at, lateral_at, may_count, may_be_heard, echo_of, counts_on, sound_along, reflected_of, screenings_at, level_before, past, downwind_energy, long_term_energy, sound_energy, echo_energy, reflected_energy, sum_after, energy_after, long_energy_after}
 use Rattle.path_calc.proofs.Alike.{same-needed, same-dimension, same-correction, energy_by, same-each, same-through, same-lists}
 use Rattle.path_calc.proofs.Sums.{are-small, and-nothing, less-nothing}
 use Rattle.path_calc.proofs.Eight.{at-place, map-same, place-below}

@@ -13,8 +13,8 @@ use Rattle.path_shape.specs.declared.path.Path.{Path}
 use Rattle.term_barrier.specs.Limits.{IsDistance}
 use Rattle.term_foliage.specs.Foliage.{foliage_in, attenuations_over}
 use Rattle.term_foliage.proofs.Bounds.{attenuations-between}
-use Rattle.path_calc.specs.Losses.{IsFoliageLoss, AreLosses, losses_along, loss_in}
-use Rattle.path_calc.specs.Ranges.{IsScreened}
+use Rattle.path_calc.specs.inner.Losses.{IsFoliageLoss, AreLosses, losses_along, loss_in}
+use Rattle.path_calc.specs.inner.Ranges.{IsScreened}
 use Rattle.path_calc.proofs.Eight.{at-place, place-below}
 use Rattle.path_calc.proofs.Sums.{are-small, less-nothing}
 

@@ -9,13 +9,13 @@ use Rattle.scene_geom.specs.declared.band.Band.{Band}
 use Rattle.scene_geom.specs.Bands.{all_bands}
 use Rattle.scene_parts.specs.Views.{Obstacle}
 use Rattle.scene_parts.specs.Sides.{sides_of}
-use Rattle.scene_parts.specs.declared.edge.Edge.{Edge}
-use Rattle.scene_parts.specs.declared.ends.Ends.{Ends}
-use Rattle.scene_parts.specs.declared.crossing.Crossing.{Crossing}
+use Rattle.scene_parts.specs.declared.screening.edge.Edge.{Edge}
+use Rattle.scene_parts.specs.declared.screening.ends.Ends.{Ends}
+use Rattle.scene_parts.specs.declared.screening.crossing.Crossing.{Crossing}
 use Rattle.scene_parts.specs.Crossings.{counts_in}
 use Rattle.sight_cut.specs.Cuts.{edge_of, screens_in, crossing_of, before_all, crossings_along, crossings_from, crossings_of}
 use Rattle.path_calc.specs.LateralPaths.{screening_corners}
-use Rattle.path_calc.specs.Strings.{rises_in, is_number, numbers_after, numbers_in, corners_at}
+use Rattle.path_calc.specs.inner.Strings.{rises_in, is_number, numbers_after, numbers_in, corners_at}
 use Rattle.path_calc.proofs.Eight.{at-place}
 
 -- ---- numbers, one after another

@@ -10,15 +10,15 @@ use Rattle.scene_geom.specs.declared.band.Band.{Band}
 use Rattle.scene_geom.specs.declared.band.Band.TheVariants.{Hz63, Hz125, Hz250, Hz500, Hz1000, Hz2000, Hz4000, Hz8000}
 use Rattle.scene_geom.specs.Bands.{all_bands}
 use Rattle.fix_interval.specs.Interval.{Interval}
-use Rattle.scene_parts.specs.declared.size_test.Breadth.{Breadth}
+use Rattle.scene_parts.specs.declared.screening.size_test.Breadth.{Breadth}
 use Rattle.scene_parts.specs.Views.{Obstacle}
 use Rattle.scene_parts.specs.Sides.{sides_of}
-use Rattle.scene_parts.specs.declared.ends.Ends.{Ends}
+use Rattle.scene_parts.specs.declared.screening.ends.Ends.{Ends}
 use Rattle.scene_parts.specs.Crossings.{counts_in}
 use Rattle.edge_chain.specs.Chain.{blocks_chain}
 use Rattle.path_calc.specs.LateralPaths.{is_in_the_way}
 use Rattle.path_calc.specs.declared.lateral.LateralScreening.{LateralScreening}
-use Rattle.path_calc.specs.Strings.{is_within, both_of, lateral_of}
+use Rattle.path_calc.specs.inner.Strings.{is_within, both_of, lateral_of}
 use Rattle.path_calc.proofs.Barred.{or-false, and-false}
 
 -- ---- what is mapped

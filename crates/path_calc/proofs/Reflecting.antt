@@ -23,9 +23,9 @@ use Rattle.scene_parts.specs.Views.{Obstacle, Globals}
 use Rattle.scene_parts.specs.Sides.{sides_of}
 use Rattle.scene_parts.specs.Ranges.{is_mirror}
 use Rattle.scene_book.specs.Book.{Book, side_total}
-use Rattle.scene_parts.specs.declared.edge.Edge.{Edge}
-use Rattle.scene_parts.specs.declared.ends.Ends.{Ends}
-use Rattle.scene_parts.specs.declared.crossing.Crossing.{Crossing}
+use Rattle.scene_parts.specs.declared.screening.edge.Edge.{Edge}
+use Rattle.scene_parts.specs.declared.screening.ends.Ends.{Ends}
+use Rattle.scene_parts.specs.declared.screening.crossing.Crossing.{Crossing}
 use Rattle.scene_parts.specs.Crossings.{is_crossing_in}
 use Rattle.image_source.specs.declared.leg.Leg.{Leg}
 use Rattle.image_source.specs.Mirrors.{IsMirror, has_mirror, mirror_of}
@@ -35,19 +35,20 @@ use Rattle.image_source.proofs.Edges.{leg-crossings-are-edges}
 use Rattle.image_source.proofs.Fitting.{leg-edges-fit}
 use Rattle.image_source.specs.Laws.{FitsLegEdge}
 use Rattle.term_barrier.specs.Edges.{FitsEdge}
-use Rattle.path_calc.specs.declared.propagation.Propagation.{Propagation}
+use Rattle.path_calc.specs.declared.direct.propagation.Propagation.{Propagation}
 use Rattle.path_calc.specs.declared.reflected.Echo.TheVariants.{Audible}
 use Rattle.path_calc.specs.declared.reflected.Sound.{Sound}
-use Rattle.path_calc.specs.Propagations.{Reflected}
-use Rattle.path_calc.specs.Prepared.{PreparedSource, has_power}
-use Rattle.path_calc.specs.Losses.{losses_along}
-use Rattle.path_calc.specs.declared.segments.Seg.TheVariants.{Legs}
+use Rattle.path_calc.specs.inner.Propagations.{Reflected}
+use Rattle.path_calc.specs.Prepared.{PreparedSource}
+use Rattle.path_calc.specs.inner.Prepared.{has_power}
+use Rattle.path_calc.specs.inner.Losses.{losses_along}
+use Rattle.path_calc.specs.declared.bundles.segments.Seg.TheVariants.{Legs}
 use Rattle.path_calc.specs.Lengths.{reflected_distance}
 use Rattle.path_calc.specs.Contributions.{reflection_level}
-use Rattle.path_calc.specs.Ranges.{IsPathSquare}
+use Rattle.path_calc.specs.inner.Ranges.{IsPathSquare}
 use Rattle.path_calc.specs.Laws.{ReflectedEdgesAreCuts}
 use Rattle.path_calc.specs.ReflectedPaths.{ReflectedPath, path_along, along_legs, reflected_in, reflected_by, reflected_paths}
-use Rattle.path_calc.specs.Hearing.{edges_among, where_asked, bar_over, bars_over, grounds_along, propagation_over, propagation_along, is_asked, crossings_on, truth_in, may_count, may_be_heard, echo_of, counts_on, sound_along, reflected_of}
+use Rattle.path_calc.specs.inner.Hearing.{edges_among, where_asked, bar_over, bars_over, grounds_along, propagation_over, propagation_along, is_asked, crossings_on, truth_in, may_count, may_be_heard, echo_of, counts_on, sound_along, reflected_of}
 use Rattle.path_calc.proofs.Eight.{at-place, map-same}
 use Rattle.path_calc.proofs.Zones.{same-ground_along, same-losses}
 

@@ -8,7 +8,7 @@ use Rattle.fix_interval.specs.Values.{max_of}
 use Rattle.fix_interval.specs.Tree.{Tree, Max, enc}
 use Rattle.scene_geom.specs.declared.band.Band.{Band}
 use Rattle.path_shape.specs.declared.path.Path.{Path}
-use Rattle.scene_parts.specs.declared.edge.Edge.{Edge}
+use Rattle.scene_parts.specs.declared.screening.edge.Edge.{Edge}
 use Rattle.term_barrier.specs.Diffraction.{path_difference, k_met, at_one_edge, at_two_edges, ten_lg, attenuation, single_limit, double_limit}
 use Rattle.term_barrier.specs.Edges.{negated_below, single_difference, single_k, single_argument, single_attenuation, pair_difference, pair_k, pair_argument, where_convex, pair_attenuation}
 use Rattle.term_barrier.specs.Screening.{is_above, edges_above, pairs_of, greatest, top_attenuations, top_attenuation, single_arguments, less_ground, grazing, screening}

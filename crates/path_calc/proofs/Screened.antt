@@ -11,15 +11,15 @@ use Rattle.scene_geom.specs.Bands.{all_bands, place_of}
 use Rattle.scene_parts.specs.Views.{Source, Receiver, Obstacle}
 use Rattle.scene_book.specs.Book.{Book}
 use Rattle.path_shape.specs.declared.path.Path.{Path}
-use Rattle.scene_parts.specs.declared.edge.Edge.{Edge}
-use Rattle.scene_parts.specs.declared.ends.Ends.{Ends}
-use Rattle.scene_parts.specs.declared.crossing.Crossing.{Crossing}
+use Rattle.scene_parts.specs.declared.screening.edge.Edge.{Edge}
+use Rattle.scene_parts.specs.declared.screening.ends.Ends.{Ends}
+use Rattle.scene_parts.specs.declared.screening.crossing.Crossing.{Crossing}
 use Rattle.scene_parts.specs.Crossings.{counts_in, is_crossing_in}
 use Rattle.sight_cut.specs.Cuts.{edges_of, edges_in, screens_in, crossings_of}
 use Rattle.sight_cut.proofs.Edges.{crossings-are-edges}
 use Rattle.term_barrier.specs.Screening.{marked, screening}
 use Rattle.path_calc.specs.Surroundings.{ends_of, edges_at, surroundings_of}
-use Rattle.path_calc.specs.Hearing.{edges_among, where_asked, bar_over, bars_over}
+use Rattle.path_calc.specs.inner.Hearing.{edges_among, where_asked, bar_over, bars_over}
 use Rattle.path_calc.specs.Laws.{EdgesAreCuts}
 use Rattle.path_calc.proofs.Eight.{at-place, map-same}
 

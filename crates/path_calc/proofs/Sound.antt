@@ -8,7 +8,7 @@ use Rattle.energy_sum.specs.Energies.{energy_form}
 use Rattle.energy_sum.specs.Weather.{correction}
 use Rattle.scene_parts.specs.Views.{Source, Receiver, Zone, Globals}
 use Rattle.scene_book.specs.Book.{Book}
-use Rattle.scene_geom.specs.declared.fraction.Frac.{Frac}
+use Rattle.scene_geom.specs.declared.fractions.fraction.Frac.{Frac}
 use Rattle.path_shape.specs.Shape.{plan_length, length_of}
 use Rattle.image_source.proofs.Sound.{condition-is-sound}
 use Rattle.term_ground.proofs.Sound.{ground-sound}

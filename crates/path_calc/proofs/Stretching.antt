@@ -8,10 +8,10 @@ use Rattle.fix_interval.specs.Interval.{Interval}
 use Rattle.fix_interval.specs.Tree.{Tree, Known, enc}
 use Rattle.scene_geom.specs.declared.plan.Pt.{Pt}
 use Rattle.scene_geom.specs.declared.band.Band.{Band}
-use Rattle.scene_parts.specs.declared.size_test.Breadth.{Breadth}
+use Rattle.scene_parts.specs.declared.screening.size_test.Breadth.{Breadth}
 use Rattle.scene_parts.specs.Views.{Obstacle}
 use Rattle.scene_parts.specs.Sides.{sides_of}
-use Rattle.scene_parts.specs.declared.ends.Ends.{Ends}
+use Rattle.scene_parts.specs.declared.screening.ends.Ends.{Ends}
 use Rattle.scene_parts.specs.Crossings.{counts_in}
 use Rattle.sight_cut.specs.Cuts.{screens_in, crossings_of}
 use Rattle.edge_chain.specs.declared.hand.Hand.{Hand}
@@ -21,11 +21,11 @@ use Rattle.edge_chain.specs.Laws.{way_along_axes}
 use Rattle.edge_chain.proofs.Length.{chains_are_short}
 use Rattle.term_barrier.specs.Diffraction.{attenuation, ten_lg, at_one_edge, at_two_edges, c_3, path_difference}
 use Rattle.term_barrier.specs.Lateral.{lateral_difference, side_attenuation}
-use Rattle.path_calc.specs.declared.strings.Stretched.{Stretched}
-use Rattle.path_calc.specs.declared.strings.Strings.{Strings}
-use Rattle.path_calc.specs.Ranges.{IsShort}
+use Rattle.path_calc.specs.declared.lateral.strings.Stretched.{Stretched}
+use Rattle.path_calc.specs.declared.lateral.strings.Strings.{Strings}
+use Rattle.path_calc.specs.inner.Ranges.{IsShort}
 use Rattle.path_calc.specs.LateralPaths.{LateralPath, screening_corners, is_in_the_way, leads_in, lateral_path}
-use Rattle.path_calc.specs.Strings.{numbers_in, corners_at, is_within, leads_unless, leads_along, IsStretched, AreStretched, d_z_round, listed, both_of, lateral_in, d_z_along, d_z_over}
+use Rattle.path_calc.specs.inner.Strings.{numbers_in, corners_at, is_within, leads_unless, leads_along, IsStretched, AreStretched, d_z_round, listed, both_of, lateral_in, d_z_along, d_z_over}
 use Rattle.path_calc.proofs.Numbered.{corners-there}
 
 -- ---- a string

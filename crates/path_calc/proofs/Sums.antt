@@ -17,10 +17,10 @@ use Rattle.fix_interval.proofs.Multiplying.{end_of-small}
 use Rattle.energy_sum.specs.Sums.{units_of}
 use Rattle.std.specs.Option.{option_map}
 use Rattle.path_calc.specs.Energies.{sum_form}
-use Rattle.path_calc.specs.Strings.{listed}
-use Rattle.path_calc.specs.Hearing.{with_energy}
+use Rattle.path_calc.specs.inner.Strings.{listed}
+use Rattle.path_calc.specs.inner.Hearing.{with_energy}
 use Rattle.path_calc.specs.Bundles.{IsEnergy, energy_limit, few_bundles}
-use Rattle.path_calc.specs.Ranges.{IsSumOf, IsSmall, sound_limit}
+use Rattle.path_calc.specs.inner.Ranges.{IsSumOf, IsSmall, sound_limit}
 
 -- ---- nothing added
 

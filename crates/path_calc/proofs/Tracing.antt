@@ -13,23 +13,23 @@ use Rattle.scene_geom.specs.Crossing.{differ}
 use Rattle.scene_geom.specs.Outline.{sides_along}
 use Rattle.scene_parts.specs.Views.{Source, Receiver, Obstacle, Globals}
 use Rattle.scene_book.specs.Book.{Book}
-use Rattle.scene_parts.specs.declared.ends.Ends.{Ends}
+use Rattle.scene_parts.specs.declared.screening.ends.Ends.{Ends}
 use Rattle.sight_cut.specs.Cuts.{screens_in, crossings_of}
 use Rattle.edge_chain.specs.declared.hand.Hand.{Hand}
 use Rattle.edge_chain.specs.declared.hand.Hand.TheVariants.{Left, Right}
 use Rattle.edge_chain.specs.Chain.{chain_of, segments_of}
-use Rattle.path_calc.specs.declared.segments.Seg.{Seg}
-use Rattle.path_calc.specs.declared.segments.Seg.TheVariants.{Straight}
-use Rattle.path_calc.specs.declared.strings.Strings.{Strings}
+use Rattle.path_calc.specs.declared.bundles.segments.Seg.{Seg}
+use Rattle.path_calc.specs.declared.bundles.segments.Seg.TheVariants.{Straight}
+use Rattle.path_calc.specs.declared.lateral.strings.Strings.{Strings}
 use Rattle.path_calc.specs.LateralPaths.{lateral_paths, screening_corners}
 use Rattle.path_calc.specs.ReflectedPaths.{ReflectedPath}
 use Rattle.path_calc.specs.ScreeningSets.{screens_before, is_renewed}
-use Rattle.path_calc.specs.Strings.{numbers_in, corners_at, AreStretched}
+use Rattle.path_calc.specs.inner.Strings.{numbers_in, corners_at, AreStretched}
 use Rattle.path_calc.specs.Surroundings.{ends_of, surroundings_of}
 use Rattle.path_calc.specs.Trace.{straight, string_segments, lateral_segments, legs_of, trace_of}
-use Rattle.path_calc.specs.Tracing.{same_numbers, segments_between, segments_after, segments_in_band}
+use Rattle.path_calc.specs.inner.Tracing.{same_numbers, segments_between, segments_after, segments_in_band}
 use Rattle.path_calc.specs.Prepared.{PreparedSource}
-use Rattle.path_calc.specs.Hearing.{reflected_of}
+use Rattle.path_calc.specs.inner.Hearing.{reflected_of}
 use Rattle.path_calc.proofs.Numbered.{screening_from, numbers-from, corners-there}
 use Rattle.path_calc.proofs.Stretching.{no-chain, none-passes}
 

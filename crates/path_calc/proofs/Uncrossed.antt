@@ -11,20 +11,20 @@ use Rattle.scene_geom.specs.declared.band.Band.{Band}
 use Rattle.scene_geom.specs.Bands.{all_bands}
 use Rattle.scene_parts.specs.Views.{Obstacle}
 use Rattle.path_shape.specs.declared.path.Path.{Path}
-use Rattle.scene_parts.specs.declared.edge.Edge.{Edge}
-use Rattle.scene_parts.specs.declared.ends.Ends.{Ends}
-use Rattle.scene_parts.specs.declared.crossing.Crossing.{Crossing}
+use Rattle.scene_parts.specs.declared.screening.edge.Edge.{Edge}
+use Rattle.scene_parts.specs.declared.screening.ends.Ends.{Ends}
+use Rattle.scene_parts.specs.declared.screening.crossing.Crossing.{Crossing}
 use Rattle.sight_cut.specs.Cuts.{screens_in, crossings_of}
 use Rattle.sight_cut.proofs.Edges.{crossings-are-edges}
 use Rattle.term_barrier.specs.Diffraction.{whole}
 use Rattle.term_barrier.specs.Limits.{IsScreening}
-use Rattle.path_calc.specs.declared.segments.Seg.{Seg}
-use Rattle.path_calc.specs.Hearing.{edges_among, where_asked, bar_over, bars_over}
+use Rattle.path_calc.specs.declared.bundles.segments.Seg.{Seg}
+use Rattle.path_calc.specs.inner.Hearing.{edges_among, where_asked, bar_over, bars_over}
 use Rattle.path_calc.specs.LateralPaths.{lateral_paths}
 use Rattle.path_calc.specs.ScreeningSets.{is_renewed}
-use Rattle.path_calc.specs.Strings.{both_of, lateral_of, d_z_over}
+use Rattle.path_calc.specs.inner.Strings.{both_of, lateral_of, d_z_over}
 use Rattle.path_calc.specs.Trace.{lateral_segments}
-use Rattle.path_calc.specs.Tracing.{segments_in_band}
+use Rattle.path_calc.specs.inner.Tracing.{segments_in_band}
 use Rattle.path_calc.proofs.Eight.{map-same}
 use Rattle.path_calc.proofs.Screened.{above-in}
 

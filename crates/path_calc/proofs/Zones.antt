@@ -9,13 +9,13 @@ use Rattle.fix_interval.specs.Interval.{Interval}
 use Rattle.scene_geom.specs.declared.band.Band.{Band}
 use Rattle.scene_geom.specs.Bands.{place_of}
 use Rattle.term_foliage.specs.Foliage.{foliage_attenuation}
-use Rattle.path_calc.specs.Losses.{losses_along}
+use Rattle.path_calc.specs.inner.Losses.{losses_along}
 use Rattle.path_calc.proofs.Eight.{at-place}
 use Rattle.path_shape.specs.Forms.{zero_form}
 use Rattle.term_foliage.proofs.Lawful.{only-met}
 use Rattle.path_shape.specs.declared.path.Path.{Path}
-use Rattle.term_ground.specs.declared.region.Region.{Region}
-use Rattle.term_ground.specs.declared.region.Region.TheVariants.{Source, Middle, Receiver}
+use Rattle.term_ground.specs.declared.legs.region.Region.{Region}
+use Rattle.term_ground.specs.declared.legs.region.Region.TheVariants.{Source, Middle, Receiver}
 use Rattle.path_shape.specs.Outlines.{meets_legs}
 use Rattle.term_ground.specs.Zones.{met_zones}
 use Rattle.term_ground.specs.Regions.{region_start, region_end, zone_term, share_of}

@@ -8,7 +8,7 @@ use Rattle.fix_interval.specs.Tree.{enc}
 use Rattle.energy_sum.specs.Sums.{units_of}
 use Rattle.scene_geom.specs.declared.band.Band.{Band}
 use Rattle.scene_geom.specs.Bands.{all_bands, place_of}
-use Rattle.path_calc.specs.declared.segments.Seg.{Seg}
+use Rattle.path_calc.specs.declared.bundles.segments.Seg.{Seg}
 use Rattle.path_calc.specs.Segments.{FitsSegment}
 use Rattle.path_calc.specs.Surroundings.{Surroundings, ends_of, surroundings_of}
 use Rattle.path_calc.specs.Trace.{trace_along}

@@ -7,7 +7,7 @@ use Rattle.scene_parts.specs.declared.kinds.Ground.{Ground}
 use Rattle.scene_parts.specs.declared.kinds.Ground.TheVariants.{General, Simple}
 use Rattle.path_shape.specs.declared.path.Path.{Path}
 use Rattle.path_shape.specs.Shape.{plan_length, length_of, plan_square_form, square_form}
-use Rattle.scene_parts.specs.declared.edge.Edge.{Edge}
+use Rattle.scene_parts.specs.declared.screening.edge.Edge.{Edge}
 use Rattle.term_div_atm.specs.Terms.{divergence, absorption}
 use Rattle.term_ground.specs.Ground.{ground}
 use Rattle.term_ground.specs.Alternative.{simple_ground, solid_angle}

@@ -1,8 +1,8 @@
 -- Between code and definitions: the segments that a list of them holds.
 use Rattle.std.specs.Prelude.{List, [], ◌∷◌}
-use Rattle.path_calc.specs.declared.segments.Seg.{Seg}
-use Rattle.path_calc.specs.declared.segments.Held.{Held}
-use Rattle.path_calc.specs.declared.segments.Held.TheVariants.{Nothing, One, Many}
+use Rattle.path_calc.specs.declared.bundles.segments.Seg.{Seg}
+use Rattle.path_calc.specs.declared.bundles.segments.Held.{Held}
+use Rattle.path_calc.specs.declared.bundles.segments.Held.TheVariants.{Nothing, One, Many}
 
 abbrev pub segments_in : Held → List Seg
 segments_in (Nothing alloc) = []

@@ -2,7 +2,7 @@
 use Rattle.std.specs.Prelude.{ℕ, Bool, ◌+◌, ◌*◌, nat_le, pos, unsigned_abs}
 use Rattle.std.specs.Int.{abs_diff}
 use Rattle.scene_geom.specs.declared.plan.Pt.{Pt}
-use Rattle.scene_geom.specs.declared.fraction.Frac.{Frac}
+use Rattle.scene_geom.specs.declared.fractions.fraction.Frac.{Frac}
 use Rattle.fix_interval.specs.Tree.{Tree, Const, Add, Root}
 use Rattle.path_shape.specs.Shape.{squared, plan_square}
 

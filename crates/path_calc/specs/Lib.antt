@@ -17,9 +17,4 @@ pub mod Levels
 pub mod Show
 pub mod Laws
 pub mod Prepared
-pub mod Strings
-pub mod Tracing
-pub mod Propagations
-pub mod Ranges
-pub mod Losses
-pub mod Hearing
+pub mod inner

@@ -11,10 +11,10 @@ use Rattle.scene_parts.specs.Views.{Obstacle, Zone, Foliage}
 use Rattle.scene_parts.specs.Sides.{sides_of}
 use Rattle.scene_book.specs.Book.{Book}
 use Rattle.path_shape.specs.Shape.{length_of}
-use Rattle.scene_parts.specs.declared.edge.Edge.{Edge}
+use Rattle.scene_parts.specs.declared.screening.edge.Edge.{Edge}
 use Rattle.path_shape.specs.declared.path.Path.{Path}
 use Rattle.path_shape.specs.declared.legs.Legs.TheVariants.{Two}
-use Rattle.scene_parts.specs.declared.ends.Ends.{Ends}
+use Rattle.scene_parts.specs.declared.screening.ends.Ends.{Ends}
 use Rattle.image_source.specs.Mirrors.{mirror_of}
 use Rattle.image_source.specs.LegCuts.{edges_in}
 use Rattle.path_calc.specs.GroundZones.{zones_on, foliage_on}

@@ -6,7 +6,7 @@ use Rattle.scene_geom.specs.declared.band.Band.TheVariants.{Hz63, Hz125, Hz250, 
 use Rattle.scene_geom.specs.Bands.{all_bands}
 use Rattle.scene_geom.specs.Crossing.{differ}
 use Rattle.scene_parts.specs.Views.{Obstacle}
-use Rattle.scene_parts.specs.declared.ends.Ends.{Ends}
+use Rattle.scene_parts.specs.declared.screening.ends.Ends.{Ends}
 use Rattle.sight_cut.specs.Cuts.{screens_in}
 
 -- an obstacle screens in the band before. Before the first band none does

@@ -7,8 +7,8 @@ use Rattle.scene_parts.specs.Views.{Source, Receiver, Obstacle, Zone, Foliage}
 use Rattle.scene_book.specs.Book.{Book}
 use Rattle.path_shape.specs.Shape.{direct_path}
 use Rattle.path_shape.specs.declared.path.Path.{Path}
-use Rattle.scene_parts.specs.declared.edge.Edge.{Edge}
-use Rattle.scene_parts.specs.declared.ends.Ends.{Ends}
+use Rattle.scene_parts.specs.declared.screening.edge.Edge.{Edge}
+use Rattle.scene_parts.specs.declared.screening.ends.Ends.{Ends}
 use Rattle.sight_cut.specs.Cuts.{edges_in}
 use Rattle.path_calc.specs.GroundZones.{zones_on, foliage_on}
 use Rattle.path_calc.specs.LateralPaths.{LateralPath, lateral_paths_round}

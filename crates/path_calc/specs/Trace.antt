@@ -6,10 +6,10 @@ use Rattle.scene_geom.specs.declared.band.Band.{Band}
 use Rattle.scene_geom.specs.Bands.{all_bands}
 use Rattle.scene_parts.specs.Views.{Source, Receiver}
 use Rattle.scene_book.specs.Book.{Book}
-use Rattle.scene_parts.specs.declared.ends.Ends.{Ends}
+use Rattle.scene_parts.specs.declared.screening.ends.Ends.{Ends}
 use Rattle.edge_chain.specs.Chain.{segments_of}
-use Rattle.path_calc.specs.declared.segments.Seg.{Seg}
-use Rattle.path_calc.specs.declared.segments.Seg.TheVariants.{Straight, Legs}
+use Rattle.path_calc.specs.declared.bundles.segments.Seg.{Seg}
+use Rattle.path_calc.specs.declared.bundles.segments.Seg.TheVariants.{Straight, Legs}
 use Rattle.path_calc.specs.LateralPaths.{LateralPath}
 use Rattle.path_calc.specs.ReflectedPaths.{ReflectedPath}
 use Rattle.path_calc.specs.Surroundings.{Surroundings, ends_of, laterals_at, renewed_at, surroundings_of}

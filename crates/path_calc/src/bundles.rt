@@ -2,7 +2,11 @@
 ghost use Rattle.std.specs.Prelude.{◌≡◌, ◌<◌, ◌^◌, pos, ◌≤ℤ◌, ◌<ℤ◌, IsSomeAnd};
 ghost use Rattle.path_calc.specs.Bundles.{IsEnergy, energy_in};
 
-use crate::segments::Segs;
+pub(crate) mod calculation;
+pub(crate) mod segments;
+pub(crate) mod steps;
+
+use crate::bundles::segments::Segs;
 use fix_interval::Iv;
 use scene_geom::{Band, Pt};
 use scene_parts::Name;

@@ -6,15 +6,20 @@ ghost use Rattle.path_calc.specs.Energies.{sum_form};
 ghost use Rattle.path_calc.specs.Bundles.{bundle_of};
 ghost use Rattle.path_calc.specs.Trace.{trace_of};
 ghost use Rattle.path_calc.specs.Prepared.{prepared_of};
-ghost use Rattle.path_calc.specs.Ranges.{AreInRange, IsSumOf, most_sounds};
-ghost use Rattle.path_calc.specs.Hearing.{energy_after, long_energy_after};
+ghost use Rattle.path_calc.specs.inner.Ranges.{AreInRange, IsSumOf, most_sounds};
+ghost use Rattle.path_calc.specs.inner.Hearing.{energy_after, long_energy_after};
 
-use crate::hearing::{Heard, heard_in};
+pub(crate) mod hearing;
+pub(crate) mod paths;
+pub(crate) mod small_sums;
+pub(crate) mod weights;
+
+use crate::bundles::segments::Segs;
+use crate::energies::hearing::{Heard, heard_in};
+use crate::energies::paths::{Paths, paths_between};
+use crate::energies::small_sums::plus;
 use crate::indexed::IndexedScene;
-use crate::paths::{Paths, paths_between};
 use crate::prepared::{PreparedReceiver, PreparedSource};
-use crate::segments::Segs;
-use crate::small_sums::plus;
 use fix_interval::{Iv, exact};
 use part_grid::Found;
 use scene_geom::Band;

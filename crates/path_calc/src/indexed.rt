@@ -8,9 +8,9 @@ ghost use Rattle.image_source.specs.LegCuts.{leg_crossings_of};
 ghost use Rattle.std.specs.List.{list_any};
 ghost use Rattle.scene_geom.specs.declared.band.Band.{Band};
 ghost use Rattle.path_calc.specs.LateralPaths.{is_in_the_way};
-ghost use Rattle.path_calc.specs.Strings.{is_within};
+ghost use Rattle.path_calc.specs.inner.Strings.{is_within};
 
-use crate::blocked::{blocking, blocking_near};
+use crate::lateral::blocked::{blocking, blocking_near};
 use image_source::{Leg, Mirror, leg_crossings, leg_crossings_near};
 use part_grid::{Found, Grid};
 use scene_book::Scene;

@@ -2,14 +2,18 @@
 ghost use Rattle.std.specs.Prelude.{◌≡◌, ◌++◌, flat_map, All, IfOk, OnOk};
 ghost use Rattle.scene_parts.specs.Ranges.{IsHeight};
 ghost use Rattle.sight_cut.specs.Cuts.{crossings_of};
-ghost use Rattle.path_calc.specs.Ranges.{IsOnMap, IsLateralScreening};
+ghost use Rattle.path_calc.specs.inner.Ranges.{IsOnMap, IsLateralScreening};
 ghost use Rattle.scene_geom.specs.Bands.{all_bands};
-ghost use Rattle.path_calc.specs.Strings.{AreStretched, lateral_of, both_of, d_z_over, numbers_in};
-ghost use Rattle.path_calc.specs.Tracing.{segments_after, segments_in_band};
+ghost use Rattle.path_calc.specs.inner.Strings.{AreStretched, lateral_of, both_of, d_z_over, numbers_in};
+ghost use Rattle.path_calc.specs.inner.Tracing.{segments_after, segments_in_band};
 
+pub(crate) mod blocked;
+pub(crate) mod screening_obstacles;
+pub(crate) mod strings;
+
+use crate::bundles::segments::Segs;
 use crate::indexed::IndexedScene;
-use crate::segments::Segs;
-use crate::strings::Strings;
+use crate::lateral::strings::Strings;
 use fix_interval::Iv;
 use part_grid::Found;
 use scene_geom::Band;

@@ -4,10 +4,11 @@ ghost use Rattle.std.specs.Option.{option_map};
 ghost use Rattle.fix_interval.specs.Tree.{Known, Const, Add, enc};
 ghost use Rattle.path_calc.specs.Contributions.{power_in as power_of, emission_in as emission_of};
 ghost use Rattle.scene_geom.specs.Bands.{all_bands};
-ghost use Rattle.path_calc.specs.Prepared.{prepared_of, emission_at, has_power as is_powered, IsEmission};
-ghost use Rattle.path_calc.specs.Ranges.{IsPower, IsCorrection};
+ghost use Rattle.path_calc.specs.Prepared.{prepared_of};
+ghost use Rattle.path_calc.specs.inner.Prepared.{emission_at, has_power as is_powered, IsEmission};
+ghost use Rattle.path_calc.specs.inner.Ranges.{IsPower, IsCorrection};
 
-use crate::numbers::hundredths;
+use crate::totals::numbers::hundredths;
 use fix_interval::{Iv, add};
 use scene_geom::Band;
 use scene_parts::{PointSource, Receiver};
@@ -23,7 +24,8 @@ pub struct PreparedSource {
 }
 
 impl Model for PreparedSource {
-    ghost use Rattle.path_calc.specs.Prepared.{PreparedSource as PreparedSourceSeen, IsPrepared};
+    ghost use Rattle.path_calc.specs.Prepared.{PreparedSource as PreparedSourceSeen};
+    ghost use Rattle.path_calc.specs.inner.Prepared.{IsPrepared};
 
     ghost Value = { PreparedSourceSeen };
 

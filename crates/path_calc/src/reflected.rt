@@ -1,12 +1,14 @@
 //! What the bands share of a path by way of a wall.
 ghost use Rattle.std.specs.Prelude.{◌≡◌};
 ghost use Rattle.fix_interval.specs.Values.{add_of};
-ghost use Rattle.path_calc.specs.Prepared.{IsSent, IsSentOn};
+ghost use Rattle.path_calc.specs.inner.Prepared.{IsSent, IsSentOn};
 ghost use Rattle.path_calc.specs.Segments.{FitsSegment};
-ghost use Rattle.path_calc.specs.Propagations.{IsEcho, IsReflectedSound, counts_at};
+ghost use Rattle.path_calc.specs.inner.Propagations.{IsEcho, IsReflectedSound, counts_at};
 
-use crate::propagation::Propagation;
-use crate::segments::Seg;
+pub(crate) mod reflections;
+
+use crate::bundles::segments::Seg;
+use crate::direct::propagation::Propagation;
 use fix_interval::{Iv, Truth, add};
 use scene_geom::Band;
 use std::marker::Model;
@@ -37,7 +39,7 @@ pub(crate) struct Sound {
 }
 
 impl Model for Reflected {
-    ghost use Rattle.path_calc.specs.Propagations.{Reflected as ReflectedSeen, IsReflected};
+    ghost use Rattle.path_calc.specs.inner.Propagations.{Reflected as ReflectedSeen, IsReflected};
 
     ghost Value = { ReflectedSeen };
 

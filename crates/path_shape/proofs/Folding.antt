@@ -5,8 +5,8 @@ use Rattle.std.specs.List.{FoldsTo, fold, cons_option}
 use Rattle.std.specs.Option.{option_to_list}
 use Rattle.scene_geom.specs.declared.plan.Pt.{Pt}
 use Rattle.scene_geom.specs.declared.plan.Side.{Side}
-use Rattle.scene_geom.specs.declared.direction.Dir.{Dir}
-use Rattle.scene_geom.specs.declared.crossing.Passage.{Passage}
+use Rattle.scene_geom.specs.declared.directions.direction.Dir.{Dir}
+use Rattle.scene_geom.specs.declared.meetings.crossing.Passage.{Passage}
 use Rattle.scene_geom.specs.Crossing.{passage_of}
 use Rattle.scene_geom.specs.Outline.{passages_of}
 

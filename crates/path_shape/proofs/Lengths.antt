@@ -19,7 +19,7 @@ use Rattle.fix_interval.proofs.Dividing.{≤ℤ_trans}
 use Rattle.fix_interval.proofs.Spans.{Span, units-is}
 use Rattle.scene_geom.specs.declared.plan.Pt.{Pt}
 use Rattle.scene_geom.specs.declared.plan.Side.{Side}
-use Rattle.scene_geom.specs.declared.fraction.Frac.{Frac}
+use Rattle.scene_geom.specs.declared.fractions.fraction.Frac.{Frac}
 use Rattle.scene_geom.specs.Point.{from_to}
 use Rattle.scene_geom.specs.Reflection.{CanReflect, squared_length, off_wall, along_wall, unfolded_square}
 use Rattle.scene_geom.proofs.Walls.{unfolded-fits, over-n}

@@ -4,9 +4,9 @@ use Rattle.std.specs.Prelude.{if◌then◌else◌, pos, int_lt}
 use Rattle.std.proofs.lemmas.Int.{ints}
 use Rattle.fix_interval.specs.Tree.{Tree, Sub, Neg, Min, IsSound, enc}
 use Rattle.scene_geom.specs.declared.plan.Pt.{Pt}
-use Rattle.scene_geom.specs.declared.fraction.Frac.{Frac}
-use Rattle.scene_geom.specs.declared.direction.Dir.{Dir}
-use Rattle.scene_geom.specs.declared.crossing.Passage.{Passage}
+use Rattle.scene_geom.specs.declared.fractions.fraction.Frac.{Frac}
+use Rattle.scene_geom.specs.declared.directions.direction.Dir.{Dir}
+use Rattle.scene_geom.specs.declared.meetings.crossing.Passage.{Passage}
 use Rattle.scene_geom.specs.Fraction.{rest_of}
 use Rattle.scene_geom.specs.Outline.{passages_of, ring, area2_of, meets_of}
 use Rattle.path_shape.specs.declared.legs.Legs.{Legs}

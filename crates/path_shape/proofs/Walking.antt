@@ -8,13 +8,13 @@ use Rattle.fix_interval.specs.Interval.{Interval}
 use Rattle.fix_interval.specs.Values.{neg_of}
 use Rattle.fix_interval.specs.Tree.{Tree, Known, Add, enc}
 use Rattle.scene_geom.specs.declared.plan.Pt.{Pt}
-use Rattle.scene_geom.specs.declared.direction.Dir.{Dir}
-use Rattle.scene_geom.specs.declared.crossing.Passage.{Passage}
+use Rattle.scene_geom.specs.declared.directions.direction.Dir.{Dir}
+use Rattle.scene_geom.specs.declared.meetings.crossing.Passage.{Passage}
 use Rattle.scene_geom.specs.Outline.{passages_of, ring, area2_of}
 use Rattle.path_shape.specs.declared.stretch.Stretch.{Stretch}
 use Rattle.path_shape.specs.Forms.{zero_form}
 use Rattle.path_shape.specs.Outlines.{counted, length_inside}
-use Rattle.path_shape.specs.Stretches.{walked, length_along, joined_lengths}
+use Rattle.path_shape.specs.inner.Stretches.{walked, length_along, joined_lengths}
 use Rattle.path_shape.proofs.Folding.{folds-as}
 use Rattle.path_shape.proofs.Sums.{plus_all-known}
 use Rattle.path_shape.proofs.Outlines.{same-length_inside}

@@ -3,9 +3,9 @@ use Rattle.std.specs.Prelude.{pos, unsigned_abs, int_lt, Bool, true, false, ◌|
 use Rattle.std.specs.List.{filter}
 use Rattle.fix_interval.specs.Tree.{Tree, Const, Add, Sub, Neg, Max, Min}
 use Rattle.scene_geom.specs.declared.plan.Pt.{Pt}
-use Rattle.scene_geom.specs.declared.fraction.Frac.{Frac}
-use Rattle.scene_geom.specs.declared.direction.Dir.{Dir}
-use Rattle.scene_geom.specs.declared.crossing.Passage.{Passage}
+use Rattle.scene_geom.specs.declared.fractions.fraction.Frac.{Frac}
+use Rattle.scene_geom.specs.declared.directions.direction.Dir.{Dir}
+use Rattle.scene_geom.specs.declared.meetings.crossing.Passage.{Passage}
 use Rattle.scene_geom.specs.Fraction.{over, rest_of}
 use Rattle.scene_geom.specs.Outline.{ring, area2_of, passages_of, meets_of}
 use Rattle.path_shape.specs.declared.legs.Legs.{Legs}

@@ -12,8 +12,9 @@ ghost use Rattle.scene_geom.specs.Outline.{ring, area2_of, passages_of, meets_of
 ghost use Rattle.path_shape.specs.Shape.{IsPath};
 ghost use Rattle.path_shape.specs.Forms.{one_form};
 ghost use Rattle.path_shape.specs.Outlines.{place_form, length_inside};
-ghost use Rattle.path_shape.specs.Stretches.{length_along, length_on_path};
-ghost use Rattle.path_shape.specs.Stretches.{joined_lengths, walked};
+ghost use Rattle.path_shape.specs.Stretches.{length_on_path};
+ghost use Rattle.path_shape.specs.inner.Stretches.{length_along};
+ghost use Rattle.path_shape.specs.inner.Stretches.{joined_lengths, walked};
 
 use super::legs::Legs;
 use super::path::Path;

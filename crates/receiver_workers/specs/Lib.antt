@@ -1,2 +1,2 @@
 pub mod Owing
-pub mod Working
+pub mod inner

@@ -7,7 +7,7 @@ use Rattle.std.specs.declared.alloc.Global.{Global}
 use Rattle.std.proofs.lemmas.Slice.Eq.{bytes_eq-Decides}
 use Rattle.indexmap.specs.IndexMap.{insert_entry, insert_all}
 use Rattle.scene_book.specs.Lists.{named, place_of, put_in, put_all, take_out, NoneNamed, AreApart}
-use Rattle.scene_book.specs.Filed.{AreFiled, same_key}
+use Rattle.scene_book.specs.inner.Filed.{AreFiled, same_key}
 
 abbrev pub is_key : List ℕ → Vec ℕ Global → Bool
 is_key name key = bytes_eq name key.items

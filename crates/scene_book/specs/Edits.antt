@@ -1,6 +1,6 @@
 -- The edit of what a line gives.
-use Rattle.scene_parts.specs.declared.checked.Checked.{Checked}
-use Rattle.scene_parts.specs.declared.checked.Checked.TheVariants as checked
+use Rattle.scene_parts.specs.declared.checks.checked.Checked.{Checked}
+use Rattle.scene_parts.specs.declared.checks.checked.Checked.TheVariants as checked
 use Rattle.scene_book.specs.declared.edits.Edit.{Edit}
 use Rattle.scene_book.specs.declared.edits.Edit.TheVariants as edits
 

@@ -1,9 +1,9 @@
 pub mod Limits
 pub mod Lists
-pub mod Filed
 pub mod Book
 pub mod Orders
 pub mod Grid
 pub mod Applying
 pub mod Edits
 pub mod Laws
+pub mod inner

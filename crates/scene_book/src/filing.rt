@@ -2,7 +2,7 @@
 ghost use Rattle.std.specs.Prelude.{◌≡◌, ◌≤◌, length, IfOk};
 ghost use Rattle.std.specs.Map.{values_of};
 ghost use Rattle.indexmap.specs.IndexMap.{spare, insert_all as insert_all_of, IsUnique};
-ghost use Rattle.scene_book.specs.Filed.{AreFiled, same_key};
+ghost use Rattle.scene_book.specs.inner.Filed.{AreFiled, same_key};
 
 use super::register::Named;
 use indexmap::IndexMap;

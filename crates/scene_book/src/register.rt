@@ -60,7 +60,7 @@ impl<T: Named> Model for Register<T> {
     ghost use Rattle.std.specs.Prelude.{List};
     ghost use Rattle.std.specs.Coded.{coded_list};
     ghost use Rattle.indexmap.specs.IndexMap.{values};
-    ghost use Rattle.scene_book.specs.Filed.{AreFiled};
+    ghost use Rattle.scene_book.specs.inner.Filed.{AreFiled};
 
     ghost Value = { List T };
 

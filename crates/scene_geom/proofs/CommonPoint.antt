@@ -8,7 +8,7 @@ use Rattle.std.proofs.Math.IntN.{*ℤ_comm, *ℤ-negsuc, neg_ℤ-neg_ℤ}
 use borrow.Author.Differences.{up, down, product_is}
 use Rattle.scene_geom.specs.declared.plan.Pt.{Pt}
 use Rattle.scene_geom.specs.declared.plan.Side.{Side}
-use Rattle.scene_geom.specs.declared.fraction.Frac.{Frac}
+use Rattle.scene_geom.specs.declared.fractions.fraction.Frac.{Frac}
 use Rattle.scene_geom.specs.Vector.{Vector, cross}
 use Rattle.scene_geom.specs.Point.{from_to, along}
 use Rattle.scene_geom.specs.Fraction.{over, inner, is_inside}

@@ -9,15 +9,15 @@ use Rattle.std.proofs.lemmas.List.{reverse-append, reverse-reverse}
 use Rattle.std.proofs.Math.IntN.{+ℤ_comm, neg_ℤ-+ℤ}
 use Rattle.scene_geom.specs.declared.plan.Pt.{Pt}
 use Rattle.scene_geom.specs.declared.plan.Side.{Side}
-use Rattle.scene_geom.specs.declared.fraction.Frac.{Frac}
-use Rattle.scene_geom.specs.declared.direction.Dir.{Dir}
+use Rattle.scene_geom.specs.declared.fractions.fraction.Frac.{Frac}
+use Rattle.scene_geom.specs.declared.directions.direction.Dir.{Dir}
 use Rattle.scene_geom.specs.Vector.{cross}
 use Rattle.scene_geom.specs.Point.{at, turned}
 use Rattle.scene_geom.specs.Crossing.{passage_of}
 use Rattle.scene_geom.specs.Laws.{AreaReversed}
 use Rattle.scene_geom.proofs.Blocking.{neg-below, neg-above}
 use Rattle.scene_geom.specs.Outline.{sides_along, ring, swept, area2_of, passages_of, winding_of, meets_of}
-use Rattle.scene_geom.specs.ClearWinding.{add_turns, clear_turn_of, clear_winding_of}
+use Rattle.scene_geom.specs.inner.ClearWinding.{add_turns, clear_turn_of, clear_winding_of}
 use Rattle.scene_geom.proofs.Windings.{add_turns-zero, add_turns-assoc, clear, some_inside, clear_winding-is}
 
 -- the other sign

@@ -7,14 +7,14 @@ use Rattle.std.proofs.lemmas.Int.{ints}
 use Rattle.std.proofs.Math.IntN.{neg_ℤ-neg_ℤ}
 use Rattle.scene_geom.specs.declared.plan.Pt.{Pt}
 use Rattle.scene_geom.specs.declared.plan.Side.{Side}
-use Rattle.scene_geom.specs.declared.fraction.Frac.{Frac}
-use Rattle.scene_geom.specs.declared.direction.Dir.{Dir}
+use Rattle.scene_geom.specs.declared.fractions.fraction.Frac.{Frac}
+use Rattle.scene_geom.specs.declared.directions.direction.Dir.{Dir}
 use Rattle.scene_geom.specs.Vector.{Vector, cross}
 use Rattle.scene_geom.specs.Point.{from_to, along, turned}
 use Rattle.scene_geom.specs.Fraction.{over, is_ahead, is_inside}
 use Rattle.scene_geom.specs.Direction.{way}
 use Rattle.scene_geom.specs.Crossing.{differ, is_left, passage_of}
-use Rattle.scene_geom.specs.ClearWinding.{clear_turn_of}
+use Rattle.scene_geom.specs.inner.ClearWinding.{clear_turn_of}
 use Rattle.scene_geom.specs.Laws.{MeetsReversed}
 use Rattle.scene_geom.proofs.Whole.{mul_sub, sub_mul}
 use Rattle.scene_geom.proofs.Vectors.{cross-between}

@@ -10,13 +10,13 @@ use mir.Syntax.{w128}
 use mir.Val.{SFits, of_z}
 use Rattle.scene_geom.specs.declared.plan.Pt.{Pt}
 use Rattle.scene_geom.specs.declared.plan.Side.{Side}
-use Rattle.scene_geom.specs.declared.fraction.Frac.{Frac}
-use Rattle.scene_geom.specs.declared.direction.Dir.{Dir}
-use Rattle.scene_geom.specs.declared.crossing.Passage.{Passage}
+use Rattle.scene_geom.specs.declared.fractions.fraction.Frac.{Frac}
+use Rattle.scene_geom.specs.declared.directions.direction.Dir.{Dir}
+use Rattle.scene_geom.specs.declared.meetings.crossing.Passage.{Passage}
 use Rattle.scene_geom.specs.Fraction.{is_inside}
 use Rattle.scene_geom.specs.Crossing.{passage_of}
 use Rattle.scene_geom.specs.Outline.{passages_of, turn_of, winding_of}
-use Rattle.scene_geom.specs.ClearWinding.{clear_turn_of, add_turns, clear_winding_of}
+use Rattle.scene_geom.specs.inner.ClearWinding.{clear_turn_of, add_turns, clear_winding_of}
 
 -- whether some passage lies strictly between
 abbrev pub some_inside : List Passage → Frac → Bool

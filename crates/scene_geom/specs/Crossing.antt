@@ -5,9 +5,9 @@ use Rattle.std.specs.Bool.{then_some}
 use Rattle.std.specs.Option.{option_map, option_and_then}
 use Rattle.scene_geom.specs.declared.plan.Pt.{Pt}
 use Rattle.scene_geom.specs.declared.plan.Side.{Side}
-use Rattle.scene_geom.specs.declared.fraction.Frac.{Frac}
-use Rattle.scene_geom.specs.declared.direction.Dir.{Dir}
-use Rattle.scene_geom.specs.declared.crossing.Passage.{Passage}
+use Rattle.scene_geom.specs.declared.fractions.fraction.Frac.{Frac}
+use Rattle.scene_geom.specs.declared.directions.direction.Dir.{Dir}
+use Rattle.scene_geom.specs.declared.meetings.crossing.Passage.{Passage}
 use Rattle.scene_geom.specs.Vector.{Vector, cross}
 use Rattle.scene_geom.specs.Point.{from_to, along, orient_of}
 use Rattle.scene_geom.specs.Fraction.{over, inner}

@@ -1,7 +1,7 @@
 -- Directions: a vector over a divisor.
 use Rattle.std.specs.Prelude.{zero, suc, ℤ, pos, negsuc, ◌≤◌, unsigned_abs}
 use Rattle.scene_geom.specs.declared.plan.Pt.{Pt}
-use Rattle.scene_geom.specs.declared.direction.Dir.{Dir}
+use Rattle.scene_geom.specs.declared.directions.direction.Dir.{Dir}
 use Rattle.scene_geom.specs.Positive.{suc-positive}
 use Rattle.scene_geom.specs.Vector.{Vector}
 use Rattle.scene_geom.specs.Point.{from_to}

@@ -1,7 +1,7 @@
 -- Fractions, kept as they were found and not reduced.
 use Rattle.std.specs.Prelude.{◌<ℤ◌, zero, suc, ℤ, pos, negsuc, neg_ℤ, ◌-ℤ◌, ◌*ℤ◌, ◌≤◌, Bool, ◌&&◌, int_lt, unsigned_abs, Option}
 use Rattle.std.specs.Bool.{then_some}
-use Rattle.scene_geom.specs.declared.fraction.Frac.{Frac}
+use Rattle.scene_geom.specs.declared.fractions.fraction.Frac.{Frac}
 use Rattle.scene_geom.specs.Positive.{suc-positive}
 
 -- n over d, with the divisor made positive. No definition divides by 0, which counts as 1 here

@@ -2,8 +2,8 @@
 use Rattle.std.specs.Prelude.{◌≡◌, ℤ, pos, ◌+ℤ◌, ◌-ℤ◌, ◌*ℤ◌, neg_ℤ, false, None, Some, List, reverse}
 use Rattle.scene_geom.specs.declared.plan.Pt.{Pt}
 use Rattle.scene_geom.specs.declared.plan.Side.{Side}
-use Rattle.scene_geom.specs.declared.fraction.Frac.{Frac}
-use Rattle.scene_geom.specs.declared.direction.Dir.{Dir}
+use Rattle.scene_geom.specs.declared.fractions.fraction.Frac.{Frac}
+use Rattle.scene_geom.specs.declared.directions.direction.Dir.{Dir}
 use Rattle.scene_geom.specs.Vector.{Vector, cross, dot}
 use Rattle.scene_geom.specs.Point.{from_to, along, orient_of, turned}
 use Rattle.scene_geom.specs.Direction.{way}

@@ -2,12 +2,11 @@ pub mod Plan
 pub mod Vector
 pub mod Positive
 pub mod Point
-pub mod Step
 pub mod Fraction
 pub mod Direction
 pub mod Crossing
 pub mod Outline
-pub mod ClearWinding
 pub mod Reflection
 pub mod Bands
 pub mod Laws
+pub mod inner

@@ -3,29 +3,23 @@
 //! reflections, within 128. No call takes memory.
 #![tactic(auto)]
 
-mod aims;
 mod band;
-mod beside;
-mod crossing;
-mod direction;
-mod fraction;
+mod directions;
+mod fractions;
 pub mod laws;
-mod meeting;
+mod meetings;
 mod outline;
-mod places;
 mod plan;
 mod reflection;
-mod step;
-mod turns;
 
-pub use aims::dir_of;
 pub use band::Band;
-pub use crossing::{Passage, blocks, crosses, hits, passes};
-pub use direction::Dir;
-pub use fraction::Frac;
-pub use meeting::meets;
+pub use directions::aims::dir_of;
+pub use directions::direction::Dir;
+pub use directions::turns::orient;
+pub use fractions::fraction::Frac;
+pub use fractions::places::{lies_inside, rest_after};
+pub use meetings::crossing::{Passage, blocks, crosses, hits, passes};
+pub use meetings::meeting::meets;
 pub use outline::{area2, extent};
-pub use places::{lies_inside, rest_after};
 pub use plan::{Pt, Side};
 pub use reflection::{Reflection, is_short, on_one_side, unfold};
-pub use turns::orient;

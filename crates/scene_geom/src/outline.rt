@@ -5,9 +5,9 @@ ghost use Rattle.scene_geom.specs.Outline.{area2_of, extent_of};
 ghost use Rattle.scene_geom.specs.Point.{at};
 ghost use Rattle.scene_geom.specs.Vector.{cross};
 
-use super::plan::Pt;
-use super::step::Step;
-use super::turns::turn;
+use crate::directions::step::Step;
+use crate::directions::turns::turn;
+use crate::plan::Pt;
 
 /// Twice the signed area of an outline, in mm²: positive where its corners go round to the left. The
 /// last corner is joined to the first. 0 for no corners.

@@ -5,14 +5,14 @@ ghost use Rattle.scene_geom.specs.Reflection.{are_on_one_side, CanReflect, FitsR
 ghost use Rattle.scene_geom.specs.Reflection.{have_one_sign, off_wall, squared_length, image_dir};
 ghost use Rattle.scene_geom.specs.Reflection.{specular, to_image, unfolded, unfolded_square};
 ghost use Rattle.scene_geom.specs.Reflection as form;
-ghost use Rattle.scene_geom.specs.Step.{vector};
+ghost use Rattle.scene_geom.specs.inner.Step.{vector};
 
-use super::direction::Dir;
-use super::fraction::Frac;
-use super::places::fraction;
-use super::plan::{Pt, Side};
-use super::step::Step;
-use super::turns::turn;
+use crate::directions::direction::Dir;
+use crate::directions::step::Step;
+use crate::directions::turns::turn;
+use crate::fractions::fraction::Frac;
+use crate::fractions::places::fraction;
+use crate::plan::{Pt, Side};
 
 /// The length of the longest side that reflects, in mm. With it 128 bits hold all products over the
 /// legs.

@@ -17,10 +17,10 @@ use Rattle.scene_parts.specs.declared.outlines.RawPt.{RawPt}
 use Rattle.scene_parts.specs.declared.faults.PartFault.{PartFault}
 use Rattle.scene_parts.specs.declared.faults.PartFault.TheVariants.{OutOfRange, OutsideMethod, UnknownKind, TooLight, FewCorners, FlatShape, SideTooLong, WeakMirror}
 use Rattle.scene_parts.specs.declared.parts.Part.TheVariants as parts
-use Rattle.scene_parts.specs.declared.raw.RawPart.{RawPart}
-use Rattle.scene_parts.specs.declared.raw.RawPart.TheVariants as raw
-use Rattle.scene_parts.specs.declared.checked.Checked.{Checked}
-use Rattle.scene_parts.specs.declared.checked.Checked.TheVariants as checked
+use Rattle.scene_parts.specs.declared.checks.raw.RawPart.{RawPart}
+use Rattle.scene_parts.specs.declared.checks.raw.RawPart.TheVariants as raw
+use Rattle.scene_parts.specs.declared.checks.checked.Checked.{Checked}
+use Rattle.scene_parts.specs.declared.checks.checked.Checked.TheVariants as checked
 use Rattle.scene_parts.specs.Limits.{most_corners, most_columns, widest_step, plan_end, farthest_reach, greatest_height, least_density}
 use Rattle.scene_parts.specs.Views.{Source, Obstacle, Zone, Foliage, Receiver, Grid, Setting}
 use Rattle.scene_parts.specs.Sides.{sides_in, squared_length, is_short, floor_root}

@@ -1,14 +1,14 @@
 -- Sides of obstacles where they cross the way from source to receiver (ISO 9613-2, 7.4): whether the edge there rises
 -- above the line of sight, and in which bands the obstacle is large enough to screen.
 use Rattle.std.specs.Prelude.{ℕ, pos, ◌+ℤ◌, ◌-ℤ◌, ◌*ℤ◌, int_lt, Bool, false, slice_index_or}
-use Rattle.scene_geom.specs.declared.fraction.Frac.{Frac}
+use Rattle.scene_geom.specs.declared.fractions.fraction.Frac.{Frac}
 use Rattle.scene_geom.specs.declared.band.Band.{Band}
 use Rattle.scene_geom.specs.Bands.{place_of}
 use Rattle.scene_parts.specs.Views.{Obstacle}
 use Rattle.scene_parts.specs.InBand.{is_in_band}
-use Rattle.scene_parts.specs.declared.cuts.Cut.{Cut}
-use Rattle.scene_parts.specs.declared.ends.Ends.{Ends}
-use Rattle.scene_parts.specs.declared.crossing.Crossing.{Crossing}
+use Rattle.scene_parts.specs.declared.screening.cuts.Cut.{Cut}
+use Rattle.scene_parts.specs.declared.screening.ends.Ends.{Ends}
+use Rattle.scene_parts.specs.declared.screening.crossing.Crossing.{Crossing}
 
 -- an edge of height H rises above the line of sight at the place t where H > h_s + t (h_r - h_s)
 abbrev pub rises_above : Ends → ℕ → Frac → Bool

@@ -1,7 +1,7 @@
 //! What is wrong with a part.
-use super::kinds::Field;
-use super::memory::NoMemory;
-use super::texts::Word;
+use crate::kinds::Field;
+use crate::memory::NoMemory;
+use crate::texts::Word;
 
 /// Why a part is refused. `NoMemory` can come at any time; of the others the first in this order is
 /// the answer, and of `OutOfRange` the first field in the order of its line.

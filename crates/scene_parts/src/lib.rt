@@ -3,13 +3,7 @@
 //! stands what a crossing of an obstacle's side is, with the test of the obstacle's size in each band.
 #![tactic(auto)]
 
-mod checked;
-mod checking;
-mod crossing;
-mod cuts;
-mod edge;
-mod edges;
-mod ends;
+mod checks;
 mod faults;
 pub mod fields;
 mod kinds;
@@ -17,29 +11,25 @@ pub mod limits;
 mod memory;
 mod outlines;
 mod parts;
-mod powers;
-mod ranges;
-mod raw;
+mod screening;
 mod settings;
-mod shapes;
-mod size_test;
 mod texts;
 mod words;
 
-pub use checked::Checked;
-pub use checking::check;
-pub use crossing::Crossing;
-pub use cuts::Cut;
-pub use edge::Edge;
-pub use edges::{side_of, sides};
-pub use ends::Ends;
+pub use checks::checked::Checked;
+pub use checks::checking::check;
+pub use checks::raw::RawPart;
 pub use faults::PartFault;
 pub use kinds::{Air, Class, Field, Ground, Kind, Shape};
 pub use memory::NoMemory;
+pub use outlines::shapes::squared;
 pub use outlines::{Outline, RawPoints, RawPt};
 pub use parts::{Foliage, Obstacle, Part, PointSource, Receiver, Zone};
-pub use raw::RawPart;
+pub use screening::crossing::Crossing;
+pub use screening::cuts::Cut;
+pub use screening::edge::Edge;
+pub use screening::edges::{side_of, sides};
+pub use screening::ends::Ends;
+pub use screening::size_test::{Breadth, bands_of, in_band};
 pub use settings::{Globals, GridSpec, SetSpec};
-pub use shapes::squared;
-pub use size_test::{Breadth, bands_of, in_band};
 pub use texts::{Name, PlainName, Word};

@@ -1,6 +1,8 @@
 //! Outlines: the corners of barriers, buildings, zones and foliage.
 ghost use Rattle.std.specs.Prelude.{◌≡◌};
 
+pub(crate) mod shapes;
+
 use scene_geom::Pt;
 use std::marker::Model;
 

@@ -1,7 +1,7 @@
 //! The parts of a scene. No value of these types is out of its range.
-use super::kinds::{Kind, Shape};
-use super::outlines::Outline;
-use super::texts::Name;
+use crate::kinds::{Kind, Shape};
+use crate::outlines::Outline;
+use crate::texts::Name;
 use scene_geom::Pt;
 use std::marker::Model;
 

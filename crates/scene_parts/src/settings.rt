@@ -1,6 +1,6 @@
 //! What holds of the whole scene, and grids of receivers.
-use super::kinds::{Air, Ground};
-use super::texts::Name;
+use crate::kinds::{Air, Ground};
+use crate::texts::Name;
 use scene_geom::Pt;
 use std::marker::Model;
 

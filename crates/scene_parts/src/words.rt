@@ -3,9 +3,9 @@ ghost use Rattle.std.specs.Prelude.{◌≡◌};
 ghost use Rattle.scene_parts.specs.Answers.{optional};
 ghost use Rattle.scene_parts.specs.Checking.{kind_of, air_of, ground_of};
 
-use super::faults::PartFault;
-use super::kinds::{Air, Ground, Kind};
-use super::texts::Word;
+use crate::faults::PartFault;
+use crate::kinds::{Air, Ground, Kind};
+use crate::texts::Word;
 
 /// The kind of source that a word names, or that it is outside the method or unknown.
 #[tactic(auto, unfolding(crate::specs::Checking::kind_of))]

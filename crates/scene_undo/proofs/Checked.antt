@@ -15,10 +15,10 @@ use Rattle.scene_parts.specs.declared.parts.Part.TheVariants as parts
 use Rattle.scene_parts.specs.declared.faults.PartFault.{PartFault}
 use Rattle.scene_parts.specs.declared.faults.PartFault.TheVariants.{OutOfRange}
 use Rattle.scene_parts.specs.declared.kinds.Field.{Field}
-use Rattle.scene_parts.specs.declared.raw.RawPart.{RawPart}
-use Rattle.scene_parts.specs.declared.raw.RawPart.TheVariants as raw
-use Rattle.scene_parts.specs.declared.checked.Checked.{Checked}
-use Rattle.scene_parts.specs.declared.checked.Checked.TheVariants as checked
+use Rattle.scene_parts.specs.declared.checks.raw.RawPart.{RawPart}
+use Rattle.scene_parts.specs.declared.checks.raw.RawPart.TheVariants as raw
+use Rattle.scene_parts.specs.declared.checks.checked.Checked.{Checked}
+use Rattle.scene_parts.specs.declared.checks.checked.Checked.TheVariants as checked
 use Rattle.scene_book.specs.declared.edits.Edit.TheVariants as edits
 use Rattle.scene_book.specs.Edits.{edit_of}
 use Rattle.scene_undo.specs.Scenes.{IsZoneWithin, IsFoliageWithin, IsGridWithin, IsEdit}

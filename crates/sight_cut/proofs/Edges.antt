@@ -11,10 +11,10 @@ use Rattle.scene_geom.specs.Bands.{all_bands}
 use Rattle.scene_geom.proofs.BandLemmas.{at-place}
 use Rattle.scene_parts.specs.Views.{Obstacle}
 use Rattle.scene_parts.specs.Sides.{sides_of}
-use Rattle.scene_parts.specs.declared.edge.Edge.{Edge}
-use Rattle.scene_parts.specs.declared.cuts.Cut.{Cut}
-use Rattle.scene_parts.specs.declared.ends.Ends.{Ends}
-use Rattle.scene_parts.specs.declared.crossing.Crossing.{Crossing}
+use Rattle.scene_parts.specs.declared.screening.edge.Edge.{Edge}
+use Rattle.scene_parts.specs.declared.screening.cuts.Cut.{Cut}
+use Rattle.scene_parts.specs.declared.screening.ends.Ends.{Ends}
+use Rattle.scene_parts.specs.declared.screening.crossing.Crossing.{Crossing}
 use Rattle.scene_parts.specs.Crossings.{counts_in, is_crossing_in, cut_of}
 use Rattle.sight_cut.specs.Cuts.{edge_of, edges_of, edges_in, screens_in, crossing_of, before_all, crossings_along, crossings_from}
 use Rattle.scene_parts.proofs.Counted.{where_true, none-counted, more-counted}

@@ -2,7 +2,7 @@
 use Rattle.std.proofs.Common.{◌≡◌, ℕ, List, ◌++◌, Result, Ok, Err, IfOk, string_bytes, String, Global, ◌∙◌, ap, append_assoc}
 use Rattle.site_maker.specs.Draws.{Drawing}
 use Rattle.site_maker.specs.Site.{◌then◌}
-use Rattle.site_maker.specs.Making.{IsDrawn, Adds}
+use Rattle.site_maker.specs.inner.Making.{IsDrawn, Adds}
 use Rattle.site_maker.specs.declared.maker.Maker.{Maker}
 use Rattle.site_maker.specs.declared.memory.NoMemory.{NoMemory}
 

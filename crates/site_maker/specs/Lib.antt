@@ -2,4 +2,4 @@ pub mod Draws
 pub mod Json
 pub mod Parts
 pub mod Site
-pub mod Making
+pub mod inner

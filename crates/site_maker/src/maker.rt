@@ -1,7 +1,7 @@
 //! The text of a site, line after line.
 ghost use Rattle.std.specs.Prelude.{◌≡◌, ◌<◌, [], OnOk, string_bytes};
 ghost use Rattle.site_maker.specs.Draws.{gives};
-ghost use Rattle.site_maker.specs.Making.{Adds};
+ghost use Rattle.site_maker.specs.inner.Making.{Adds};
 ghost use Rattle.site_maker.specs.Parts.{part};
 ghost use Rattle.site_maker.specs.Site.{all_of, edit, each_below};
 

@@ -1,7 +1,7 @@
 //! Parts, drawn one after another.
 ghost use Rattle.std.specs.Prelude.{◌≡◌, ◌==◌, IfOk, string_bytes, if◌then◌else◌};
 ghost use Rattle.site_maker.specs.Parts.{source, building, barrier, zone, part};
-ghost use Rattle.site_maker.specs.Making.{IsDrawn};
+ghost use Rattle.site_maker.specs.inner.Making.{IsDrawn};
 
 use crate::draws::Draws;
 use crate::kinds::Kind;

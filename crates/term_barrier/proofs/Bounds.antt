@@ -19,13 +19,13 @@ use Rattle.fix_interval.proofs.Multiplying.{end_of-small}
 use Rattle.fix_interval.proofs.Spans.{at_least_one-low, unit-pos, floor-not_negative}
 use Rattle.enclose_log.proofs.LgRange.{logarithm-ranged}
 use Rattle.scene_geom.specs.declared.band.Band.{Band}
-use Rattle.scene_parts.specs.declared.edge.Edge.{Edge}
+use Rattle.scene_parts.specs.declared.screening.edge.Edge.{Edge}
 use Rattle.path_shape.specs.declared.path.Path.{Path}
 use Rattle.term_barrier.specs.Diffraction.{whole, ten_lg, attenuation, single_limit, double_limit}
 use Rattle.term_barrier.specs.Edges.{single_argument, pair_argument, where_convex}
 use Rattle.term_barrier.specs.Limits.{IsGroundEffect, IsScreening}
 use Rattle.term_barrier.specs.Screening.{edges_above, pairs_of, top_attenuation, screening}
-use Rattle.term_barrier.specs.Prepared.{greater_of, greatest_from, single_value, both_value, best_over, best_argument, below_line, screened_by}
+use Rattle.term_barrier.specs.inner.Prepared.{greater_of, greatest_from, single_value, both_value, best_over, best_argument, below_line, screened_by}
 use Rattle.term_barrier.proofs.Screened.{top-is, screening-is}
 
 -- ---- ten times a logarithm of what is at least 1

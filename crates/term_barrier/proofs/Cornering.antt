@@ -9,7 +9,7 @@ use Rattle.scene_geom.specs.declared.band.Band.TheVariants.{Hz63, Hz125, Hz250, 
 use Rattle.scene_geom.specs.Bands.{all_bands}
 use Rattle.path_shape.specs.Shape.{plan_length}
 use Rattle.term_barrier.specs.Diffraction.{c_3, at_one_edge, at_two_edges, path_difference, three_and, attenuation, ten_lg, single_limit, double_limit}
-use Rattle.term_barrier.specs.Reaching.{apart_of, two_edges}
+use Rattle.term_barrier.specs.inner.Reaching.{apart_of, two_edges}
 use Rattle.term_barrier.specs.Lateral.{in_band, steps, between_corners, last_corner, height_square, lateral_difference, side_attenuation}
 
 -- a sum of formulas

@@ -7,7 +7,7 @@ use Rattle.fix_interval.specs.Interval.{Interval, IsInterval}
 use Rattle.fix_interval.specs.Values.{max_of, greater_high}
 use Rattle.fix_interval.proofs.Intervals.{IsInterval-max_of}
 use Rattle.term_barrier.specs.Diffraction.{double_limit}
-use Rattle.term_barrier.specs.Prepared.{greater_of, greatest_from, Decides, Numbered, are_marked, marked_values}
+use Rattle.term_barrier.specs.inner.Prepared.{greater_of, greatest_from, Decides, Numbered, are_marked, marked_values}
 use Rattle.term_barrier.proofs.OneLogarithm.{screens, screens-max}
 
 -- so far a number decides: with D_z of the rest behind, D_z of it gives the greatest of all

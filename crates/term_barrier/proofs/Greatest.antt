@@ -5,7 +5,7 @@ use Rattle.std.specs.Option.{option_map}
 use Rattle.std.specs.List.{reduce}
 use Rattle.fix_interval.specs.Interval.{Interval}
 use Rattle.fix_interval.specs.Tree.{Tree, Max, enc}
-use Rattle.term_barrier.specs.Prepared.{greater_of, greatest_from}
+use Rattle.term_barrier.specs.inner.Prepared.{greater_of, greatest_from}
 
 pub greatest-append : (best : Option Interval) (xs ys : List Interval) → greatest_from best (xs ++ ys) ≡ greatest_from (greatest_from best xs) ys
 greatest-append best [] ys = refl

@@ -3,12 +3,12 @@ use Rattle.std.proofs.Common.{◌≡◌, ℕ, ◌+◌, add-one, true, false, Lis
 use Rattle.std.proofs.lemmas.List.{map-append}
 use Rattle.fix_interval.specs.Interval.{Interval}
 use Rattle.scene_geom.specs.declared.band.Band.{Band}
-use Rattle.scene_parts.specs.declared.edge.Edge.{Edge}
+use Rattle.scene_parts.specs.declared.screening.edge.Edge.{Edge}
 use Rattle.path_shape.specs.declared.path.Path.{Path}
 use Rattle.term_barrier.specs.declared.single.Single.{Single}
 use Rattle.term_barrier.specs.declared.pair.Pair.{Pair}
-use Rattle.term_barrier.specs.declared.joined.Joined.{Joined}
-use Rattle.term_barrier.specs.Prepared.{Adds, IsPair, IsNoPair, StandFor, edges_in, risen, joined_value, numbered_value}
+use Rattle.term_barrier.specs.declared.pair.joined.Joined.{Joined}
+use Rattle.term_barrier.specs.inner.Prepared.{Adds, IsPair, IsNoPair, StandFor, edges_in, risen, joined_value, numbered_value}
 use Rattle.term_barrier.proofs.Raising.{stand-same, stand-append, stand-without}
 
 abbrev pub Edges : Type 0

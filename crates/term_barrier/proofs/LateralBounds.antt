@@ -28,7 +28,7 @@ use Rattle.scene_geom.specs.declared.band.Band.{Band}
 use Rattle.scene_geom.specs.declared.band.Band.TheVariants.{Hz63, Hz125, Hz250, Hz500, Hz1000, Hz2000, Hz4000, Hz8000}
 use Rattle.path_shape.specs.Shape.{plan_length}
 use Rattle.term_barrier.specs.Diffraction.{whole, c_2_by_wavelength, five_wavelengths_squared, c_3, path_difference, at_one_edge, at_two_edges, three_and, ten_lg, attenuation, single_limit, double_limit}
-use Rattle.term_barrier.specs.Reaching.{apart_of, two_edges}
+use Rattle.term_barrier.specs.inner.Reaching.{apart_of, two_edges}
 use Rattle.term_barrier.specs.Lateral.{between_corners, last_corner, height_square}
 use Rattle.term_barrier.specs.Limits.{most_top, IsDistance}
 use Rattle.term_barrier.proofs.Lengths.{Near, near-length, near-sum, near-wider, near-corners, near-between}

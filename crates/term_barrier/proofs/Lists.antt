@@ -4,7 +4,7 @@ use Rattle.std.specs.Prelude.{filter, flat_map, ◌&&◌, if◌then◌else◌, O
 use Rattle.std.proofs.lemmas.List.{map-append}
 use Rattle.std.proofs.lemmas.List.Elements.{filter-append}
 use Rattle.term_barrier.specs.Screening.{marked, both_ways, pairs_of}
-use Rattle.term_barrier.specs.Prepared.{is_marked}
+use Rattle.term_barrier.specs.inner.Prepared.{is_marked}
 
 -- ---- maps and filters
 

@@ -4,7 +4,7 @@ use Rattle.std.specs.Prelude.{filter, flat_map, Option}
 use Rattle.std.proofs.lemmas.List.{drop_more, drop_all, map-append}
 use Rattle.fix_interval.specs.Interval.{Interval}
 use Rattle.term_barrier.specs.Screening.{marked, both_ways, pairs_of}
-use Rattle.term_barrier.specs.Prepared.{greater_of, greatest_from, is_marked}
+use Rattle.term_barrier.specs.inner.Prepared.{greater_of, greatest_from, is_marked}
 use Rattle.term_barrier.proofs.Lists.{marked-none, marked-step}
 use Rattle.term_barrier.proofs.Greatest.{greatest-append}
 

@@ -23,7 +23,7 @@ use Rattle.enclose_log.proofs.LgInterval.{lg_of-ends}
 use Rattle.enclose_log.proofs.Monotone.{lg_low-mono, lg_high-mono}
 use Rattle.enclose_log.proofs.Value.{lg-ordered, lg_high-within, lg_low-from_one}
 use Rattle.term_barrier.specs.Diffraction.{whole, ten_lg, attenuation, single_limit, double_limit}
-use Rattle.term_barrier.specs.Prepared.{IsRaised}
+use Rattle.term_barrier.specs.inner.Prepared.{IsRaised}
 
 -- D_z of a number that stands under the logarithm
 abbrev pub screens : ℕ → Interval → Interval

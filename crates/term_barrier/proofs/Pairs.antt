@@ -9,14 +9,14 @@ use Rattle.fix_interval.specs.declared.truth.Truth.{Truth}
 use Rattle.fix_interval.specs.declared.truth.Truth.TheVariants.{Sure, Never, Unsure}
 use Rattle.fix_interval.specs.Tree.{Tree, Known, Mul, enc}
 use Rattle.scene_geom.specs.declared.band.Band.{Band}
-use Rattle.scene_parts.specs.declared.edge.Edge.{Edge}
+use Rattle.scene_parts.specs.declared.screening.edge.Edge.{Edge}
 use Rattle.path_shape.specs.declared.path.Path.{Path}
-use Rattle.term_barrier.specs.declared.bend.Bend.{Bend}
-use Rattle.term_barrier.specs.declared.apart.Apart.{Apart}
+use Rattle.term_barrier.specs.declared.single.bend.Bend.{Bend}
+use Rattle.term_barrier.specs.declared.pair.apart.Apart.{Apart}
 use Rattle.term_barrier.specs.Diffraction.{whole, three_and, attenuation, ten_lg, at_two_edges, c_3, double_limit}
 use Rattle.term_barrier.specs.Edges.{across, edge_to_edge, pair_difference, pair_k, pair_argument, pair_attenuation, where_convex}
-use Rattle.term_barrier.specs.Reaching.{apart_of, two_edges}
-use Rattle.term_barrier.specs.Prepared.{bend_of, both_of, convexity_of, IsConvexity, IsNoPair}
+use Rattle.term_barrier.specs.inner.Reaching.{apart_of, two_edges}
+use Rattle.term_barrier.specs.inner.Prepared.{bend_of, both_of, convexity_of, IsConvexity, IsNoPair}
 
 -- ---- choices
 

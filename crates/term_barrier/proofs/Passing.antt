@@ -13,11 +13,11 @@ use Rattle.fix_interval.proofs.Intervals.{IsInterval-All, IsInterval-add_of, IsI
 use Rattle.fix_interval.proofs.Multiplying.{end_of-small, end_of-large, least_of-le-greatest_of, IsInterval-outward}
 use Rattle.fix_interval.proofs.Ratios.{IsInterval-Const}
 use Rattle.scene_geom.specs.declared.band.Band.{Band}
-use Rattle.term_barrier.specs.declared.apart.Apart.{Apart}
+use Rattle.term_barrier.specs.declared.pair.apart.Apart.{Apart}
 use Rattle.term_barrier.specs.declared.pair.Pair.{Pair}
 use Rattle.term_barrier.specs.Diffraction.{whole, three_and, double_limit}
-use Rattle.term_barrier.specs.Reaching.{two_edges, pair_number, growth_of, most_number, IsReach}
-use Rattle.term_barrier.specs.Prepared.{pair_value, Passes}
+use Rattle.term_barrier.specs.inner.Reaching.{two_edges, pair_number, growth_of, most_number, IsReach}
+use Rattle.term_barrier.specs.inner.Prepared.{pair_value, Passes}
 use Rattle.term_barrier.proofs.Bounds.{known-attenuation}
 use Rattle.term_barrier.proofs.OneLogarithm.{screens, screens-picked}
 

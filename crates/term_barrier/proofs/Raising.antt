@@ -8,7 +8,7 @@ use Rattle.fix_interval.specs.Interval.{Interval}
 use Rattle.fix_interval.specs.Values.{max_of, greater_low, greater_high}
 use Rattle.fix_interval.specs.Tree.{enc}
 use Rattle.term_barrier.specs.Diffraction.{whole}
-use Rattle.term_barrier.specs.Prepared.{greatest_from, Numbered, are_marked, marked_values, IsRaised, StandFor}
+use Rattle.term_barrier.specs.inner.Prepared.{greatest_from, Numbered, are_marked, marked_values, IsRaised, StandFor}
 use Rattle.term_barrier.proofs.Greatest.{greatest-append}
 
 -- ---- the order

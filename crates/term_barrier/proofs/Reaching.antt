@@ -21,9 +21,9 @@ use Rattle.fix_interval.proofs.Rounding.{ceil_of-pos}
 use Rattle.fix_interval.proofs.Spans.{unit-pos}
 use Rattle.scene_geom.specs.declared.band.Band.{Band}
 use Rattle.scene_geom.specs.declared.band.Band.TheVariants.{Hz63, Hz125, Hz250, Hz500, Hz1000, Hz2000, Hz4000, Hz8000}
-use Rattle.term_barrier.specs.declared.apart.Apart.{Apart}
+use Rattle.term_barrier.specs.declared.pair.apart.Apart.{Apart}
 use Rattle.term_barrier.specs.Diffraction.{c_2_by_wavelength}
-use Rattle.term_barrier.specs.Reaching.{known_c_3, two_edges, pair_number, growth_of, most_number, reach_of, IsNear, IsReach}
+use Rattle.term_barrier.specs.inner.Reaching.{known_c_3, two_edges, pair_number, growth_of, most_number, reach_of, IsNear, IsReach}
 use Rattle.term_barrier.proofs.LateralBounds.{Naturals, waves, naturals-sum, naturals-quotient}
 
 -- ---- ends

@@ -8,12 +8,12 @@ use Rattle.std.proofs.lemmas.Bool.{false≢true}
 use Rattle.fix_interval.specs.Interval.{Interval}
 use Rattle.fix_interval.specs.Tree.{Tree, Known, Max, enc}
 use Rattle.scene_geom.specs.declared.band.Band.{Band}
-use Rattle.scene_parts.specs.declared.edge.Edge.{Edge}
+use Rattle.scene_parts.specs.declared.screening.edge.Edge.{Edge}
 use Rattle.path_shape.specs.declared.path.Path.{Path}
 use Rattle.term_barrier.specs.Diffraction.{whole, attenuation, ten_lg}
 use Rattle.term_barrier.specs.Edges.{single_argument, single_attenuation, pair_attenuation}
 use Rattle.term_barrier.specs.Screening.{is_above, edges_above, pairs_of, greatest, top_attenuations, top_attenuation, single_arguments, less_ground, grazing, screening}
-use Rattle.term_barrier.specs.Prepared.{greatest_from, single_value, both_value, best_over, best_argument, screened_by}
+use Rattle.term_barrier.specs.inner.Prepared.{greatest_from, single_value, both_value, best_over, best_argument, screened_by}
 use Rattle.term_barrier.proofs.Lists.{map-map}
 use Rattle.term_barrier.proofs.Greatest.{greatest-append, greatest-reduce}
 

@@ -2,7 +2,7 @@
 use Rattle.std.proofs.Common.{◌≡◌, ℕ, pos, refl}
 use Rattle.fix_interval.specs.Tree.{Tree, Const, Sub, enc}
 use Rattle.term_barrier.specs.Edges.{rise, slant}
-use Rattle.term_barrier.specs.Prepared.{slant_of}
+use Rattle.term_barrier.specs.inner.Prepared.{slant_of}
 
 pub slant-is : (x : Tree) (high low : ℕ) → slant_of (enc x) (enc (rise high low)) ≡ enc (slant x high low)
 unfolding slant

@@ -10,7 +10,7 @@ use Rattle.scene_geom.specs.declared.band.Band.{Band}
 use Rattle.scene_geom.specs.Bands.{frequency_of}
 use Rattle.scene_geom.proofs.BandLemmas.{frequency-positive}
 use Rattle.path_shape.specs.Shape.{plan_length}
-use Rattle.scene_parts.specs.declared.edge.Edge.{Edge}
+use Rattle.scene_parts.specs.declared.screening.edge.Edge.{Edge}
 use Rattle.path_shape.specs.declared.path.Path.{Path}
 use Rattle.term_barrier.specs.Diffraction.{whole, c_2_by_wavelength, five_wavelengths_squared, c_3, path_difference, k_met, at_one_edge, at_two_edges, ten_lg, attenuation, single_limit, double_limit}
 use Rattle.term_barrier.specs.Edges.{across, beside, place, rest, rise, slant, source_to_edge, edge_to_receiver, edge_to_edge, negated_below, single_difference, single_k, single_argument, pair_difference, pair_k, pair_argument, distance_to, where_convex, pair_attenuation}

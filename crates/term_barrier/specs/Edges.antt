@@ -9,7 +9,7 @@ use Rattle.scene_geom.specs.Fraction.{rest_of}
 use Rattle.scene_geom.specs.Point.{along}
 use Rattle.scene_geom.specs.Reflection.{squared_length}
 use Rattle.scene_geom.specs.Vector.{cross, dot}
-use Rattle.scene_parts.specs.declared.edge.Edge.{Edge}
+use Rattle.scene_parts.specs.declared.screening.edge.Edge.{Edge}
 use Rattle.path_shape.specs.declared.path.Path.{Path}
 use Rattle.term_barrier.specs.Diffraction.{whole, path_difference, k_met, at_one_edge, at_two_edges, three_and, attenuation, single_limit, double_limit}
 

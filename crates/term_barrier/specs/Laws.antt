@@ -6,7 +6,7 @@ use Rattle.scene_geom.specs.declared.plan.Side.{Side}
 use Rattle.scene_geom.specs.Direction.{direct}
 use Rattle.scene_geom.specs.Crossing.{crosses_of}
 use Rattle.scene_geom.specs.declared.band.Band.{Band}
-use Rattle.scene_parts.specs.declared.edge.Edge.{Edge}
+use Rattle.scene_parts.specs.declared.screening.edge.Edge.{Edge}
 use Rattle.path_shape.specs.declared.path.Path.{Path}
 use Rattle.term_barrier.specs.Edges.{FitsEdge}
 use Rattle.term_barrier.specs.Screening.{marked, screening}

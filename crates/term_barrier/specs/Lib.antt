@@ -4,5 +4,4 @@ pub mod Screening
 pub mod Lateral
 pub mod Laws
 pub mod Limits
-pub mod Reaching
-pub mod Prepared
+pub mod inner

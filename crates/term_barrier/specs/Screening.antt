@@ -5,7 +5,7 @@ use Rattle.std.specs.List.{reduce, list_any}
 use Rattle.fix_interval.specs.Interval.{Interval}
 use Rattle.fix_interval.specs.Tree.{Tree, Sub, Max, Pick}
 use Rattle.scene_geom.specs.declared.band.Band.{Band}
-use Rattle.scene_parts.specs.declared.edge.Edge.{Edge}
+use Rattle.scene_parts.specs.declared.screening.edge.Edge.{Edge}
 use Rattle.path_shape.specs.declared.path.Path.{Path}
 use Rattle.term_barrier.specs.Diffraction.{whole, attenuation, single_limit}
 use Rattle.term_barrier.specs.Edges.{single_argument, single_attenuation, pair_attenuation}

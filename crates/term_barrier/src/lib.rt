@@ -4,18 +4,8 @@
 //! a chain of corners. What the octave bands share of a path is calculated once, in `Screens`.
 #![tactic(auto)]
 
-mod apart;
-mod bend;
-mod components;
-mod convexity;
-mod formulas;
-mod gathering;
-mod greater;
-mod joined;
 pub mod laws;
 mod pair;
-mod pairing;
-mod reach;
 mod screens;
 mod sides;
 mod single;

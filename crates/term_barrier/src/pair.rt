@@ -1,14 +1,22 @@
 //! Diffraction at two edges, one after another.
 
+pub(crate) mod apart;
+pub(crate) mod convexity;
+pub(crate) mod joined;
+pub(crate) mod pairing;
+pub(crate) mod reach;
+
 ghost use Rattle.std.specs.Prelude.{IfSome};
 ghost use Rattle.std.proofs.Props.{props};
-ghost use Rattle.term_barrier.specs.Reaching.{IsReach};
+ghost use Rattle.term_barrier.specs.inner.Reaching.{IsReach};
 
-use crate::apart::Apart;
-use crate::bend::{Bend, slant};
-use crate::convexity::convexity;
-use crate::formulas::{at_two_edges, double_attenuation, k_met, path_difference, three_and};
-use crate::reach::{reach, stays_below};
+use crate::pair::apart::Apart;
+use crate::pair::convexity::convexity;
+use crate::pair::reach::{reach, stays_below};
+use crate::single::bend::{Bend, slant};
+use crate::single::formulas::{
+    at_two_edges, double_attenuation, k_met, path_difference, three_and,
+};
 use fix_interval::{Iv, Truth, add, exact, mul, pick, sub};
 use path_shape::Path;
 use scene_geom::Band;
@@ -30,8 +38,8 @@ impl Pair {
     ghost use Rattle.fix_interval.specs.Tree.{Known, enc};
     ghost use Rattle.scene_geom.specs.declared.band.Band.{Band};
     ghost use Rattle.term_barrier.specs.Diffraction.{attenuation, double_limit};
-    ghost use Rattle.term_barrier.specs.Reaching.{growth_of};
-    ghost use Rattle.term_barrier.specs.Prepared.{bend_of, both_value, pair_value, IsPair, IsNoPair, Passes};
+    ghost use Rattle.term_barrier.specs.inner.Reaching.{growth_of};
+    ghost use Rattle.term_barrier.specs.inner.Prepared.{bend_of, both_value, pair_value, IsPair, IsNoPair, Passes};
 
     /// Two edges on a path whose source and receiver are `d` apart, in metres. Where sound never bends over both, there is
     /// no pair: D_z is 0 then in every band.

@@ -1,16 +1,19 @@
 //! Screening over the top, with what the bands of a path share calculated once.
 
+pub(crate) mod gathering;
+pub(crate) mod greater;
+
 ghost use Rattle.std.specs.Prelude.{◌≡◌, All, IfOk};
 ghost use Rattle.fix_interval.specs.Tree.{Known, enc};
 ghost use Rattle.term_barrier.specs.Edges.{FitsEdge};
 ghost use Rattle.term_barrier.specs.Limits.{IsGroundEffect, IsScreening};
 ghost use Rattle.term_barrier.specs.Screening.{marked, screening};
 
-use crate::formulas::{below_line, less_ground};
-use crate::gathering::{best_over, greatest_argument, prepare};
-use crate::joined::Joined;
-use crate::pairing::prepare_pairs;
+use crate::pair::joined::Joined;
+use crate::pair::pairing::prepare_pairs;
+use crate::screens::gathering::{best_over, greatest_argument, prepare};
 use crate::single::Single;
+use crate::single::formulas::{below_line, less_ground};
 use fix_interval::Iv;
 use path_shape::Path;
 use scene_geom::Band;
@@ -31,7 +34,7 @@ pub struct Screens {
 
 impl Model for Screens {
     ghost use Rattle.term_barrier.specs.Screening.{Passing};
-    ghost use Rattle.term_barrier.specs.Prepared.{ArePrepared, edges_in};
+    ghost use Rattle.term_barrier.specs.inner.Prepared.{ArePrepared, edges_in};
 
     ghost Value = { Passing };
 

@@ -9,8 +9,8 @@ ghost use Rattle.term_barrier.specs.Lateral.{between_corners, in_band, last_corn
 ghost use Rattle.term_barrier.specs.Lateral as form;
 ghost use Rattle.term_barrier.specs.Limits.{most_corners, most_top, IsDistance};
 
-use crate::apart::Apart;
-use crate::formulas::{
+use crate::pair::apart::Apart;
+use crate::single::formulas::{
     at_one_edge, at_two_edges, double_attenuation, path_difference, single_attenuation, three_and,
 };
 use fix_interval::{Iv, add, exact, ratio};
@@ -31,7 +31,7 @@ impl Model for RoundSides {
     ghost use Rattle.std.specs.Prelude.{List, map};
     ghost use Rattle.fix_interval.specs.Interval.{Interval};
     ghost use Rattle.scene_geom.specs.Bands.{all_bands};
-    ghost use Rattle.term_barrier.specs.Reaching.{round_value};
+    ghost use Rattle.term_barrier.specs.inner.Reaching.{round_value};
 
     ghost Value = { List Interval };
 

@@ -1,14 +1,18 @@
 //! Diffraction at a single edge.
 
+pub(crate) mod bend;
+pub(crate) mod components;
+pub(crate) mod formulas;
+
 ghost use Rattle.std.specs.Prelude.{◌≡◌};
 ghost use Rattle.fix_interval.specs.Tree.{Known, Mul, enc};
 ghost use Rattle.term_barrier.specs.Diffraction.{at_one_edge, three_and};
 ghost use Rattle.term_barrier.specs.Edges.{FitsEdge};
 ghost use Rattle.term_barrier.specs.Edges as form;
-ghost use Rattle.term_barrier.specs.Prepared.{single_of};
+ghost use Rattle.term_barrier.specs.inner.Prepared.{single_of};
 
-use crate::bend::{Bend, slant};
-use crate::formulas::{at_one_edge, k_met, path_difference, three_and};
+use crate::single::bend::{Bend, slant};
+use crate::single::formulas::{at_one_edge, k_met, path_difference, three_and};
 use fix_interval::{Iv, add, mul, neg};
 use path_shape::Path;
 use scene_geom::Band;

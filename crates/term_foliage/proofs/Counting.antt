@@ -16,7 +16,7 @@ use Rattle.path_shape.specs.Stretches.{length_on_path}
 use Rattle.path_shape.proofs.Sums.{plus_all-known}
 use Rattle.path_shape.proofs.Outlines.{same-length_on_legs}
 use Rattle.term_foliage.specs.Foliage.{low_stretch, length_in, lengths_in, met_foliage, where_any}
-use Rattle.term_foliage.specs.Distances.{known_stretch, met_length, with_length, with_lengths}
+use Rattle.term_foliage.specs.inner.Distances.{known_stretch, met_length, with_length, with_lengths}
 
 pub drop-step : {X : Type 0} (x : X) (xs : List X) (i : ℕ) → x ≡ get_or xs i x → i < length xs → drop i xs ≡ x ∷ drop (i + 1) xs
 drop-step {X = X} x xs i e h = rw (drop-cons xs i x, add-one) (ap (λ (y : X). y ∷ drop (suc i) xs) (sym e))

@@ -1,3 +1,3 @@
-pub mod Distances
 pub mod Foliage
 pub mod Laws
+pub mod inner

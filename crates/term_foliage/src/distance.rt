@@ -6,8 +6,8 @@ ghost use Rattle.fix_interval.specs.Bounds.{AreBetween};
 ghost use Rattle.fix_interval.specs.Tree.{Known, enc};
 ghost use Rattle.fix_interval.specs.Values.{ratio_of};
 ghost use Rattle.path_shape.specs.Shape.{IsPath};
-ghost use Rattle.term_foliage.specs.Distances.{met_length, known_stretch};
-ghost use Rattle.term_foliage.specs.Distances as distances;
+ghost use Rattle.term_foliage.specs.inner.Distances.{met_length, known_stretch};
+ghost use Rattle.term_foliage.specs.inner.Distances as distances;
 ghost use Rattle.term_foliage.specs.Foliage.{where_any, lengths_in, foliage_distance, attenuations, attenuations_over};
 ghost use Rattle.term_foliage.specs.Foliage as form;
 

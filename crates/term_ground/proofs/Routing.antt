@@ -4,21 +4,21 @@ use Rattle.std.specs.Prelude.{Option, Some, ◌||◌, if◌then◌else◌}
 use Rattle.std.specs.Bool.{then_some}
 use Rattle.fix_interval.specs.Tree.{Tree, Known, Add, Sub, Min, enc}
 use Rattle.scene_geom.specs.declared.plan.Pt.{Pt}
-use Rattle.scene_geom.specs.declared.direction.Dir.{Dir}
-use Rattle.scene_geom.specs.declared.fraction.Frac.{Frac}
+use Rattle.scene_geom.specs.declared.directions.direction.Dir.{Dir}
+use Rattle.scene_geom.specs.declared.fractions.fraction.Frac.{Frac}
 use Rattle.scene_geom.specs.Fraction.{rest_of}
 use Rattle.scene_geom.specs.Outline.{meets_of}
 use Rattle.path_shape.specs.declared.legs.Legs.{Legs}
 use Rattle.path_shape.specs.declared.legs.Legs.TheVariants.{One, Two}
 use Rattle.path_shape.specs.declared.path.Path.{Path}
-use Rattle.term_ground.specs.declared.leg.Leg.{Leg}
-use Rattle.term_ground.specs.declared.leg.Route.{Route}
+use Rattle.term_ground.specs.declared.legs.leg.Leg.{Leg}
+use Rattle.term_ground.specs.declared.legs.leg.Route.{Route}
 use Rattle.path_shape.specs.declared.stretch.Stretch.{Stretch}
-use Rattle.term_ground.specs.declared.stretch.Stretches.{Stretches}
+use Rattle.term_ground.specs.declared.legs.stretch.Stretches.{Stretches}
 use Rattle.path_shape.specs.Forms.{zero_form, one_form}
 use Rattle.path_shape.specs.Outlines.{place_form, length_inside, length_on_legs, meets_legs}
-use Rattle.path_shape.specs.Stretches.{on_first_leg, on_second_leg}
-use Rattle.term_ground.specs.Walks.{of_stretches, each_stretch, IsLeg, HasLegs, IsRoute, lengths_on_leg, lengths_on_path, joined_lengths}
+use Rattle.path_shape.specs.inner.Stretches.{on_first_leg, on_second_leg}
+use Rattle.term_ground.specs.inner.Walks.{of_stretches, each_stretch, IsLeg, HasLegs, IsRoute, lengths_on_leg, lengths_on_path, joined_lengths}
 use Rattle.path_shape.proofs.Outlines.{same-length_inside}
 
 leg-is : (outline : List Pt) (leg : Leg) (start : Pt) (dir : Dir) (end : Frac) (stretches : Stretches) → IsLeg leg start dir end stretches

@@ -12,9 +12,9 @@ use Rattle.term_ground.specs.Zones.{met_zones}
 use Rattle.path_shape.proofs.Sums.{same-plus_all}
 use Rattle.path_shape.proofs.Outlines.{same-length_on_legs}
 use Rattle.term_ground.specs.Regions.{region_start, region_end, zone_term, stretch_share, share_of}
-use Rattle.term_ground.specs.Walks.{known_term, summed}
-use Rattle.term_ground.specs.declared.region.Region.{Region}
-use Rattle.term_ground.specs.declared.region.Region.TheVariants.{Source, Middle, Receiver}
+use Rattle.term_ground.specs.inner.Walks.{known_term, summed}
+use Rattle.term_ground.specs.declared.legs.region.Region.{Region}
+use Rattle.term_ground.specs.declared.legs.region.Region.TheVariants.{Source, Middle, Receiver}
 use Rattle.term_ground.specs.Ground.{near_growth, far_growth, middle_part, ground}
 
 -- the terms of zones, with what the code knows in the place of the formulas of g0, u0 and u1

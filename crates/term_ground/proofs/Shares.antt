@@ -8,7 +8,7 @@ use Rattle.fix_interval.specs.Bounds.{IsBetween, AreBetween}
 use Rattle.fix_interval.specs.Values.{ratio_of, max_of, min_of, hull_of, pick_of, less_of}
 use Rattle.fix_interval.specs.declared.truth.Truth.{Truth}
 use Rattle.fix_interval.specs.declared.truth.Truth.TheVariants.{Sure, Never, Unsure}
-use Rattle.term_ground.specs.declared.region.Region.{Region}
+use Rattle.term_ground.specs.declared.legs.region.Region.{Region}
 use Rattle.path_shape.specs.Forms.{zero_form, one_form}
 use Rattle.term_ground.specs.Regions.{region_from, known_share}
 use Rattle.term_ground.proofs.TermBounds.{factor-within}
@@ -16,7 +16,7 @@ use Rattle.fix_interval.specs.Interval.{Interval}
 use Rattle.fix_interval.specs.Tree.{Known, enc}
 use Rattle.scene_parts.specs.Views.{Zone}
 use Rattle.path_shape.specs.declared.path.Path.{Path}
-use Rattle.term_ground.specs.declared.region.Region.TheVariants.{Source, Middle, Receiver}
+use Rattle.term_ground.specs.declared.legs.region.Region.TheVariants.{Source, Middle, Receiver}
 use Rattle.term_ground.specs.Regions.{share_of}
 use Rattle.term_ground.specs.Ground.{attenuations, ground}
 

@@ -4,8 +4,8 @@ use Rattle.std.specs.List.{All}
 use Rattle.fix_interval.specs.Tree.{Tree, Add, IsSound}
 use Rattle.scene_parts.specs.Views.{Zone}
 use Rattle.path_shape.specs.declared.path.Path.{Path}
-use Rattle.term_ground.specs.declared.region.Region.{Region}
-use Rattle.term_ground.specs.declared.region.Region.TheVariants.{Source, Middle, Receiver}
+use Rattle.term_ground.specs.declared.legs.region.Region.{Region}
+use Rattle.term_ground.specs.declared.legs.region.Region.TheVariants.{Source, Middle, Receiver}
 use Rattle.term_ground.specs.Lengths.{factor}
 use Rattle.term_ground.specs.Zones.{met_zones}
 use Rattle.path_shape.proofs.Sums.{sound-sum}

@@ -25,8 +25,8 @@ use Rattle.path_shape.specs.declared.path.Path.{Path}
 use Rattle.path_shape.proofs.Lengths.{Found, path-found, div_ceil-within}
 use Rattle.path_shape.specs.Shape.{IsPath}
 use Rattle.path_shape.proofs.Eight.{all_eight}
-use Rattle.term_ground.specs.declared.region.Region.{Region}
-use Rattle.term_ground.specs.declared.region.Region.TheVariants.{Source, Middle, Receiver}
+use Rattle.term_ground.specs.declared.legs.region.Region.{Region}
+use Rattle.term_ground.specs.declared.legs.region.Region.TheVariants.{Source, Middle, Receiver}
 use Rattle.path_shape.specs.Forms.{zero_form}
 use Rattle.term_ground.specs.Lengths.{factor}
 use Rattle.term_ground.specs.Limits.{HasHeights, least_ground, most_ground}
@@ -34,7 +34,7 @@ use Rattle.term_ground.specs.Regions.{middle_from, share_of}
 use Rattle.term_ground.specs.Ground.{one_and_a_half, near_growth, far_growth, decay_at_125, far_decay_at_125, decay_at_250, decay_at_500, decay_at_1000, a_prime, b_prime, c_prime, d_prime, end_region_below_2khz, end_region_from_2khz, minus_one_and_a_half, middle_part, middle_at_63, middle_above, ground}
 use Rattle.term_ground.specs.Ground as form
 use Rattle.term_ground.specs.declared.attenuation.EndRegion.{EndRegion}
-use Rattle.term_ground.specs.EndRegions.{IsEndRegion, hard}
+use Rattle.term_ground.specs.inner.EndRegions.{IsEndRegion, hard}
 
 -- ---- ranges of parts
 

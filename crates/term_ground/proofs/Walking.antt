@@ -6,8 +6,8 @@ use Rattle.fix_interval.specs.Interval.{Interval}
 use Rattle.fix_interval.specs.Tree.{Tree, Known, Add, enc}
 use Rattle.fix_interval.specs.Values.{add_of, neg_of, sub_of, mul_of, div_of}
 use Rattle.scene_geom.specs.declared.plan.Pt.{Pt}
-use Rattle.scene_geom.specs.declared.direction.Dir.{Dir}
-use Rattle.scene_geom.specs.declared.crossing.Passage.{Passage}
+use Rattle.scene_geom.specs.declared.directions.direction.Dir.{Dir}
+use Rattle.scene_geom.specs.declared.meetings.crossing.Passage.{Passage}
 use Rattle.scene_geom.specs.Outline.{passages_of, ring, area2_of, meets_of}
 use Rattle.path_shape.proofs.Folding.{folds-as}
 use Rattle.path_shape.proofs.Sums.{plus_all-known}
@@ -16,14 +16,14 @@ use Rattle.scene_parts.specs.Views.{Zone}
 use Rattle.path_shape.specs.declared.legs.Legs.TheVariants.{One}
 use Rattle.path_shape.specs.declared.path.Path.{Path}
 use Rattle.path_shape.specs.declared.stretch.Stretch.{Stretch}
-use Rattle.term_ground.specs.declared.stretch.Stretches.{Stretches}
-use Rattle.term_ground.specs.declared.stretch.Regional.{Regional}
+use Rattle.term_ground.specs.declared.legs.stretch.Stretches.{Stretches}
+use Rattle.term_ground.specs.declared.legs.stretch.Regional.{Regional}
 use Rattle.path_shape.specs.Forms.{plus_all}
 use Rattle.term_ground.specs.Lengths.{factor}
 use Rattle.path_shape.specs.Outlines.{counted, length_inside, meets_legs, whole}
 use Rattle.term_ground.specs.Zones.{met_zones}
-use Rattle.path_shape.specs.Stretches.{walked}
-use Rattle.term_ground.specs.Walks.{of_stretches, lengths_along, nothing, advanced, known_term, summed}
+use Rattle.path_shape.specs.inner.Stretches.{walked}
+use Rattle.term_ground.specs.inner.Walks.{of_stretches, lengths_along, nothing, advanced, known_term, summed}
 
 advanced-step : (first rest all : Interval → Stretch → Interval) → ((quantity : Interval) (stretch : Stretch) → all quantity stretch ≡ rest (first quantity stretch) stretch)
     → (quantities : Regional) (stretches : Stretches) → advanced all quantities stretches ≡ advanced rest (advanced first quantities stretches) stretches

@@ -4,8 +4,8 @@ use Rattle.fix_interval.specs.Interval.{Interval}
 use Rattle.fix_interval.specs.Tree.{Tree, Known, Sub, Mul, Div, Max, Min, Pick, enc}
 use Rattle.scene_parts.specs.Views.{Zone}
 use Rattle.path_shape.specs.declared.path.Path.{Path}
-use Rattle.term_ground.specs.declared.region.Region.{Region}
-use Rattle.term_ground.specs.declared.region.Region.TheVariants.{Source, Middle, Receiver}
+use Rattle.term_ground.specs.declared.legs.region.Region.{Region}
+use Rattle.term_ground.specs.declared.legs.region.Region.TheVariants.{Source, Middle, Receiver}
 use Rattle.path_shape.specs.Forms.{zero_form, one_form, plus_all}
 use Rattle.term_ground.specs.Lengths.{factor, thirty}
 use Rattle.path_shape.specs.Outlines.{length_on_legs}

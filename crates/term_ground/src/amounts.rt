@@ -1,14 +1,16 @@
 //! Sums and products of quantities that aren't negative, in 64 bits.
 
+pub(crate) mod amount;
+
 ghost use Rattle.std.specs.Prelude.{◌≡◌, ◌+◌, ◌*◌, ◌/◌, ◌≤◌, ◌^◌, pos, neg_ℤ};
 ghost use Rattle.std.specs.Int.{div_ceil};
 ghost use Rattle.fix_interval.specs.Bounds.{AreBetween};
 ghost use Rattle.fix_interval.specs.Tree.{Known, Add, enc};
 ghost use Rattle.fix_interval.specs.Values.{add_of, mul_of};
-ghost use Rattle.term_ground.specs.Amounts.{interval_of};
+ghost use Rattle.term_ground.specs.inner.Amounts.{interval_of};
 ghost use Rattle.term_ground.specs.Ground.{minus_one_and_a_half};
 
-use crate::amount::Amount;
+use crate::amounts::amount::Amount;
 use fix_interval::Iv;
 
 impl Amount {

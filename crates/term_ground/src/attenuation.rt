@@ -4,18 +4,18 @@ ghost use Rattle.std.specs.Prelude.{◌≡◌, ◌<◌, ◌≤◌, ◌^◌, pos,
 ghost use Rattle.fix_interval.specs.Tree.{Known, Add, Const, Mul, enc};
 ghost use Rattle.fix_interval.specs.Bounds.{AreBetween};
 ghost use Rattle.path_shape.specs.Shape.{IsPath};
-ghost use Rattle.term_ground.specs.Amounts.{interval_of};
+ghost use Rattle.term_ground.specs.inner.Amounts.{interval_of};
 ghost use Rattle.term_ground.specs.Ground.{ground, end_region_below_2khz};
 ghost use Rattle.term_ground.specs.Limits.{HasHeights, AreLimited};
-ghost use Rattle.term_ground.specs.EndRegions.{IsEndRegion, no_factor};
-ghost use Rattle.term_ground.specs.EndRegions.{known_attenuations};
-ghost use Rattle.term_ground.specs.declared.stretch.Regional.{Regional};
+ghost use Rattle.term_ground.specs.inner.EndRegions.{IsEndRegion, no_factor};
+ghost use Rattle.term_ground.specs.inner.EndRegions.{known_attenuations};
+ghost use Rattle.term_ground.specs.declared.legs.stretch.Regional.{Regional};
 ghost use Rattle.term_ground.specs.Ground as form;
 
-use crate::amount::Amount;
+use crate::amounts::amount::Amount;
+use crate::coverage::share::shares;
 use crate::decays::{Decays, Growths, decays_at, growths_over};
-use crate::share::shares;
-use crate::stretch::{Regional, middle_from};
+use crate::legs::stretch::{Regional, middle_from};
 use fix_interval::{Iv, Truth, add, div, exact, less, mul, pick, sub};
 use path_shape::Path;
 use scene_parts::Zone;

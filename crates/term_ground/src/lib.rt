@@ -5,22 +5,16 @@
 //! the path and its length alone.
 #![tactic(auto)]
 
-mod amount;
 mod amounts;
 mod attenuation;
-mod covering;
+mod coverage;
 mod decays;
 pub mod laws;
-mod leg;
-mod lengths;
-mod region;
-mod route;
-mod share;
+mod legs;
 mod simple;
-mod stretch;
 
 pub use attenuation::{a_gr, a_gr_between};
+pub use coverage::share::region_share;
 pub use decays::{Decays, decays_at};
-pub use region::Region;
-pub use share::region_share;
+pub use legs::region::Region;
 pub use simple::{a_gr_simple, d_omega};

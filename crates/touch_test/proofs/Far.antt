@@ -7,8 +7,8 @@ use Rattle.std.proofs.lemmas.Bool.{eqb-true, and_parts}
 use Rattle.std.proofs.lemmas.Bool.Decides.{Decides-int_eq}
 use Rattle.scene_geom.specs.declared.plan.Pt.{Pt}
 use Rattle.scene_geom.specs.declared.plan.Side.{Side}
-use Rattle.scene_geom.specs.declared.fraction.Frac.{Frac}
-use Rattle.scene_geom.specs.declared.direction.Dir.{Dir}
+use Rattle.scene_geom.specs.declared.fractions.fraction.Frac.{Frac}
+use Rattle.scene_geom.specs.declared.directions.direction.Dir.{Dir}
 use Rattle.scene_geom.specs.Fraction.{rest_of}
 use Rattle.scene_geom.specs.Direction.{direct}
 use Rattle.scene_geom.specs.Point.{Pt_eq}
@@ -18,14 +18,14 @@ use Rattle.scene_parts.specs.declared.kinds.Shape.{Shape}
 use Rattle.scene_parts.specs.declared.kinds.Shape.TheVariants.{Barrier, Building}
 use Rattle.scene_parts.specs.Views.{Receiver, Obstacle}
 use Rattle.scene_parts.specs.Sides.{sides_in, sides_of}
-use Rattle.scene_parts.specs.declared.ends.Ends.{Ends}
+use Rattle.scene_parts.specs.declared.screening.ends.Ends.{Ends}
 use Rattle.scene_parts.specs.declared.parts.Part.{Part}
 use Rattle.scene_parts.specs.declared.parts.Part.TheVariants as parts
 use Rattle.image_source.specs.LegCuts.{place_up_to}
 use Rattle.path_shape.specs.Outlines.{whole}
 use Rattle.path_calc.specs.Bundles.{Bundle}
-use Rattle.path_calc.specs.declared.segments.Seg.{Seg}
-use Rattle.path_calc.specs.declared.segments.Seg.TheVariants.{Straight, Legs}
+use Rattle.path_calc.specs.declared.bundles.segments.Seg.{Seg}
+use Rattle.path_calc.specs.declared.bundles.segments.Seg.TheVariants.{Straight, Legs}
 use Rattle.touch_test.specs.declared.envelopes.Envelope.{Envelope}
 use Rattle.touch_test.specs.Crossings.{crosses_segment, meets_leg}
 use Rattle.touch_test.specs.Envelopes.{HoldsWay, HoldsSegment, HoldsPath, lies_aside, lies_ahead, lies_beyond, part_may_touch, is_elsewhere, FarEditsTouchNoPath}

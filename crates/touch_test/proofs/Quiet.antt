@@ -14,8 +14,8 @@ use Rattle.scene_geom.specs.Laws.{UncrossedIsUnblocked}
 use Rattle.scene_parts.specs.Views.{Obstacle}
 use Rattle.scene_parts.specs.Sides.{sides_of}
 use Rattle.scene_book.specs.Book.{Book}
-use Rattle.scene_parts.specs.declared.edge.Edge.{Edge}
-use Rattle.scene_parts.specs.declared.ends.Ends.{Ends}
+use Rattle.scene_parts.specs.declared.screening.edge.Edge.{Edge}
+use Rattle.scene_parts.specs.declared.screening.ends.Ends.{Ends}
 use Rattle.scene_parts.specs.Crossings.{counts_in}
 use Rattle.sight_cut.specs.Cuts as cuts
 use Rattle.edge_chain.specs.Chain.{segments_of, blocks_chain}
@@ -23,8 +23,8 @@ use Rattle.image_source.specs.declared.leg.Leg.{Leg}
 use Rattle.image_source.specs.declared.leg.Leg.TheVariants.{First, Second}
 use Rattle.image_source.specs.Mirrors.{has_mirror, mirror_of}
 use Rattle.image_source.specs.LegCuts.{place_on, edge_on, edges_on}
-use Rattle.path_calc.specs.declared.segments.Seg.{Seg}
-use Rattle.path_calc.specs.declared.segments.Seg.TheVariants.{Straight, Legs}
+use Rattle.path_calc.specs.declared.bundles.segments.Seg.{Seg}
+use Rattle.path_calc.specs.declared.bundles.segments.Seg.TheVariants.{Straight, Legs}
 use Rattle.path_calc.specs.LateralPaths.{is_in_the_way}
 use Rattle.path_calc.specs.ReflectedPaths.{reflected_in, reflected_by, along_legs}
 use Rattle.path_calc.specs.Trace.{straight}

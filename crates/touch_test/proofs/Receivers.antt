@@ -15,7 +15,7 @@ use Rattle.std.proofs.Math.Seq.{get_or-append_seam, take-append_seam}
 use Rattle.std.proofs.Math.Nat.{eq-or-lt_of_le}
 use Rattle.scene_parts.specs.Views.{Receiver, Grid}
 use Rattle.scene_book.specs.Grid.{name_in, receiver_at, columns_from, rows_from, receivers_of}
-use Rattle.touch_test.specs.Numbers.{read_on}
+use Rattle.touch_test.specs.inner.Numbers.{read_on}
 
 pub own : IsNumeralModel (λ ds. all_ascii_digits ds ≡ true) (read_on 0)
 own = numerals_by_fold _ (search rules) read_on (search rules)

@@ -16,8 +16,8 @@ use Rattle.scene_parts.specs.Views.{Source, Receiver, Obstacle, Zone, Foliage}
 use Rattle.scene_parts.specs.Sides.{sides_of}
 use Rattle.scene_book.specs.Book.{Book}
 use Rattle.scene_book.specs.Laws.{Edited, Pieces, ListsEdited}
-use Rattle.scene_parts.specs.declared.edge.Edge.{Edge}
-use Rattle.scene_parts.specs.declared.ends.Ends.{Ends}
+use Rattle.scene_parts.specs.declared.screening.edge.Edge.{Edge}
+use Rattle.scene_parts.specs.declared.screening.ends.Ends.{Ends}
 use Rattle.scene_parts.specs.Crossings.{counts_in}
 use Rattle.sight_cut.specs.Cuts as cuts
 use Rattle.edge_chain.specs.declared.hand.Hand.{Hand}
@@ -27,8 +27,8 @@ use Rattle.image_source.specs.declared.leg.Leg.{Leg}
 use Rattle.image_source.specs.declared.leg.Leg.TheVariants.{First, Second}
 use Rattle.image_source.specs.Mirrors.{has_mirror}
 use Rattle.image_source.specs.LegCuts as legs
-use Rattle.path_calc.specs.declared.segments.Seg.{Seg}
-use Rattle.path_calc.specs.declared.segments.Seg.TheVariants.{Legs}
+use Rattle.path_calc.specs.declared.bundles.segments.Seg.{Seg}
+use Rattle.path_calc.specs.declared.bundles.segments.Seg.TheVariants.{Legs}
 use Rattle.path_shape.specs.Outlines.{met}
 use Rattle.term_foliage.specs.Laws.{unnamed as nameless}
 use Rattle.path_calc.specs.GroundZones.{unnamed, zones_on, foliage_on}

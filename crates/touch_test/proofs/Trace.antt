@@ -18,8 +18,8 @@ use Rattle.edge_chain.specs.declared.hand.Hand.{Hand}
 use Rattle.edge_chain.specs.declared.hand.Hand.TheVariants.{Left, Right}
 use Rattle.edge_chain.specs.Chain.{chain_of}
 use Rattle.image_source.specs.Mirrors.{mirror_of}
-use Rattle.path_calc.specs.declared.segments.Seg.{Seg}
-use Rattle.path_calc.specs.declared.segments.Seg.TheVariants.{Straight, Legs}
+use Rattle.path_calc.specs.declared.bundles.segments.Seg.{Seg}
+use Rattle.path_calc.specs.declared.bundles.segments.Seg.TheVariants.{Straight, Legs}
 use Rattle.path_calc.specs.LateralPaths.{lateral_path, lateral_paths, screening_corners}
 use Rattle.path_calc.specs.ReflectedPaths.{ReflectedPath, along_legs, reflected_in, reflected_by}
 use Rattle.path_calc.specs.ScreeningSets.{screens_before, changes_in, is_renewed}

@@ -10,8 +10,8 @@ use Rattle.scene_geom.specs.Reflection.{unfolded}
 use Rattle.path_shape.specs.declared.legs.Legs.TheVariants as legs
 use Rattle.image_source.specs.LegCuts.{place_up_to}
 use Rattle.path_shape.specs.Outlines.{meets_legs}
-use Rattle.path_calc.specs.declared.segments.Seg.{Seg}
-use Rattle.path_calc.specs.declared.segments.Seg.TheVariants.{Straight, Legs}
+use Rattle.path_calc.specs.declared.bundles.segments.Seg.{Seg}
+use Rattle.path_calc.specs.declared.bundles.segments.Seg.TheVariants.{Straight, Legs}
 
 -- ---- sides
 

@@ -4,8 +4,8 @@ use Rattle.std.specs.Prelude.{◌≡◌, ◌≤ℤ◌, int_lt, Bool, true, false
 use Rattle.std.specs.List.{list_any, list_all}
 use Rattle.std.specs.Ordering.{int_eq}
 use Rattle.scene_geom.specs.declared.plan.Pt.{Pt}
-use Rattle.scene_geom.specs.declared.fraction.Frac.{Frac}
-use Rattle.scene_geom.specs.declared.direction.Dir.{Dir}
+use Rattle.scene_geom.specs.declared.fractions.fraction.Frac.{Frac}
+use Rattle.scene_geom.specs.declared.directions.direction.Dir.{Dir}
 use Rattle.scene_geom.specs.Fraction.{rest_of}
 use Rattle.scene_geom.specs.Direction.{direct}
 use Rattle.scene_geom.specs.Reflection.{unfolded}
@@ -16,8 +16,8 @@ use Rattle.scene_book.specs.declared.edits.Edit.{Edit}
 use Rattle.part_grid.specs.Laws.{LiesBetween}
 use Rattle.path_shape.specs.Outlines.{whole}
 use Rattle.path_calc.specs.Bundles.{Bundle}
-use Rattle.path_calc.specs.declared.segments.Seg.{Seg}
-use Rattle.path_calc.specs.declared.segments.Seg.TheVariants.{Straight, Legs}
+use Rattle.path_calc.specs.declared.bundles.segments.Seg.{Seg}
+use Rattle.path_calc.specs.declared.bundles.segments.Seg.TheVariants.{Straight, Legs}
 use Rattle.touch_test.specs.declared.envelopes.Envelope.{Envelope}
 use Rattle.touch_test.specs.Touches.{bundled, changed_parts, edit_touches, is_receiver, is_set, puts_by_grid}
 

@@ -1,5 +1,5 @@
 pub mod Crossings
-pub mod Numbers
 pub mod Touches
 pub mod Laws
 pub mod Envelopes
+pub mod inner

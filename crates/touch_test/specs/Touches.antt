@@ -13,10 +13,10 @@ use Rattle.scene_book.specs.Grid.{receivers_of}
 use Rattle.scene_book.specs.Applying.{replaced, part_named}
 use Rattle.scene_book.specs.declared.edits.Edit.{Edit}
 use Rattle.scene_book.specs.declared.edits.Edit.TheVariants as edits
-use Rattle.scene_parts.specs.declared.ends.Ends.{Ends}
+use Rattle.scene_parts.specs.declared.screening.ends.Ends.{Ends}
 use Rattle.image_source.specs.Mirrors.{has_mirror}
 use Rattle.path_calc.specs.Lengths.{is_within}
-use Rattle.path_calc.specs.declared.segments.Seg.{Seg}
+use Rattle.path_calc.specs.declared.bundles.segments.Seg.{Seg}
 use Rattle.path_calc.specs.Surroundings.{ends_of}
 use Rattle.path_calc.specs.Trace.{trace_of}
 use Rattle.path_calc.specs.Bundles.{Bundle}

@@ -7,7 +7,7 @@ ghost use Rattle.scene_geom.specs.Plan.{InPlan};
 ghost use Rattle.part_grid.specs.Laws.{LiesBetween};
 ghost use Rattle.path_shape.specs.Outlines.{whole};
 ghost use Rattle.path_calc.specs.Segments.{FitsSegment};
-ghost use Rattle.path_calc.specs.declared.segments.Seg.TheVariants.{Straight};
+ghost use Rattle.path_calc.specs.declared.bundles.segments.Seg.TheVariants.{Straight};
 ghost use Rattle.touch_test.specs.Envelopes as form;
 ghost use Rattle.touch_test.specs.Envelopes.{HoldsPath, HoldsPaths, HoldsPoint, HoldsSegment, HoldsWay, IsWider, TellsInPlace, TellsOf};
 

@@ -6,7 +6,7 @@ ghost use Rattle.std.specs.Fmt.{decimal};
 ghost use Rattle.std.specs.List.{list_any};
 ghost use Rattle.scene_parts.specs.Limits.{most_columns};
 ghost use Rattle.scene_book.specs.Grid.{receivers_of};
-ghost use Rattle.touch_test.specs.Numbers.{read_on};
+ghost use Rattle.touch_test.specs.inner.Numbers.{read_on};
 
 use scene_parts::GridSpec;
 

@@ -10,8 +10,8 @@ use Rattle.atomic_table.proofs.Lists.{set_again}
 use Rattle.turn_lock.specs.declared.entry.Entry.{Entry}
 use Rattle.turn_lock.specs.declared.view.View.{View}
 use Rattle.turn_lock.specs.History.{StepRelation, Permission}
-use Rattle.turn_lock.specs.Rule.{IsOneWithin, one_if_same, tickets, uses, machines, parts_of, Fits, FitsSlot, IsKept}
-use Rattle.turn_lock.specs.Steps.{Looks}
+use Rattle.turn_lock.specs.inner.Rule.{IsOneWithin, one_if_same, tickets, uses, machines, parts_of, Fits, FitsSlot, IsKept}
+use Rattle.turn_lock.specs.inner.Steps.{Looks}
 use Rattle.turn_lock.proofs.Counts.{sum_same, two_below, each_set}
 use Rattle.turn_lock.proofs.Facts.{knows}
 

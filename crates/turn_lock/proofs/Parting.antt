@@ -18,9 +18,9 @@ use Rattle.turn_lock.specs.declared.view.View.{View}
 use Rattle.turn_lock.specs.declared.view.Phase.TheVariants.{Free, InTurn}
 use Rattle.turn_lock.specs.History.{Begins, entries_of, IsRun, StepRelation, Permission}
 use Rattle.turn_lock.specs.Standing.{all_parts, longer}
-use Rattle.turn_lock.specs.Rule.{IsOneWithin, one_if_same, tickets_in, machines_in, own_claim, claims, tickets, uses, machines, parts_of, Fits, FitsSlot, IsKept, first_view}
-use Rattle.turn_lock.specs.Steps.{with_name, with_part_less, unnamed, merged, shorter, spent, Numbers}
-use Rattle.turn_lock.specs.Places.{IsUnnamed}
+use Rattle.turn_lock.specs.inner.Rule.{IsOneWithin, one_if_same, tickets_in, machines_in, own_claim, claims, tickets, uses, machines, parts_of, Fits, FitsSlot, IsKept, first_view}
+use Rattle.turn_lock.specs.inner.Steps.{with_name, with_part_less, unnamed, merged, shorter, spent, Numbers}
+use Rattle.turn_lock.specs.inner.Places.{IsUnnamed}
 use Rattle.turn_lock.proofs.Histories.{begins_self, begins_nil, begins_longer, begins_length, nil_from_length, own_between, none_of, run_none}
 use Rattle.turn_lock.proofs.Counts.{sum_set, sum_same, two_below, one_there, each_set}
 use Rattle.turn_lock.proofs.Facts.{claims_named, knows, sees_all}

@@ -13,8 +13,8 @@ use Rattle.turn_lock.specs.declared.entry.Joined.{Joined}
 use Rattle.turn_lock.specs.declared.view.View.{View}
 use Rattle.turn_lock.specs.declared.view.Phase.TheVariants.{InTurn}
 use Rattle.turn_lock.specs.History.{Begins, entries_of, IsRun, StepRelation, Permission}
-use Rattle.turn_lock.specs.Rule.{IsOneWithin, one_if_same, tickets_in, machines_in, claims, tickets, uses, machines, parts_of, Fits, IsKept}
-use Rattle.turn_lock.specs.Steps.{with_entries, PassesOn}
+use Rattle.turn_lock.specs.inner.Rule.{IsOneWithin, one_if_same, tickets_in, machines_in, claims, tickets, uses, machines, parts_of, Fits, IsKept}
+use Rattle.turn_lock.specs.inner.Steps.{with_entries, PassesOn}
 use Rattle.turn_lock.proofs.Histories.{begins_self, begins_front, begins_trans, own_more, own_same, run_more}
 use Rattle.turn_lock.proofs.Counts.{sum_set, sum_same, one_below, two_below, each_set}
 use Rattle.turn_lock.proofs.Facts.{claims_named, knows}

@@ -14,8 +14,8 @@ use Rattle.turn_lock.specs.declared.view.View.{View}
 use Rattle.turn_lock.specs.declared.view.Phase.{Phase}
 use Rattle.turn_lock.specs.declared.view.Phase.TheVariants.{Free, Waiting, InTurn}
 use Rattle.turn_lock.specs.History.{IsRun, StepRelation, Permission}
-use Rattle.turn_lock.specs.Rule.{IsOneWithin, tickets_in, machines_in, claims, tickets, uses, machines, FitsSlot, IsKept}
-use Rattle.turn_lock.specs.Steps.{in_phase, in_turn, Draws, Serves}
+use Rattle.turn_lock.specs.inner.Rule.{IsOneWithin, tickets_in, machines_in, claims, tickets, uses, machines, FitsSlot, IsKept}
+use Rattle.turn_lock.specs.inner.Steps.{in_phase, in_turn, Draws, Serves}
 use Rattle.turn_lock.proofs.Histories.{begins_self, begins_nil}
 use Rattle.turn_lock.proofs.Counts.{sum_set, sum_same, one_there}
 use Rattle.turn_lock.proofs.Changes.{same_is_one, one_more, served_once, unchanged, changed}

@@ -1,7 +1,5 @@
 pub mod History
 pub mod Laws
 pub mod Standing
-pub mod Rule
-pub mod Steps
-pub mod Places
 pub mod Answering
+pub mod inner

@@ -10,7 +10,7 @@ pub struct Order<M> {
 }
 
 impl<M: Machine> TableRule<Option<M>, View<M::Call, M::Reply>, ()> for Order<M> {
-    ghost use Rattle.turn_lock.specs.Rule.{IsKept, first_view};
+    ghost use Rattle.turn_lock.specs.inner.Rule.{IsKept, first_view};
 
     ghost holds = { λ _. IsKept M.state M.start M.steps M.may };
 
@@ -21,7 +21,7 @@ impl<M: Machine> TableRule<Option<M>, View<M::Call, M::Reply>, ()> for Order<M> 
 pub struct Draw;
 
 impl<M, C, R> Play<Option<M>, View<C, R>> for Draw {
-    ghost use Rattle.turn_lock.specs.Steps.{Draws};
+    ghost use Rattle.turn_lock.specs.inner.Steps.{Draws};
 
     ghost then = { Draws };
 }
@@ -32,7 +32,7 @@ pub struct Serve<M> {
 }
 
 impl<M: Machine> Play<Option<M>, View<M::Call, M::Reply>> for Serve<M> {
-    ghost use Rattle.turn_lock.specs.Steps.{Serves};
+    ghost use Rattle.turn_lock.specs.inner.Steps.{Serves};
 
     ghost then = { Serves M.state M.start M.steps M.may };
 }
@@ -59,7 +59,7 @@ pub struct PassOn<M, K> {
 
 impl<M: Machine, K: Added<M::Call, M::Reply>> Play<Option<M>, View<M::Call, M::Reply>>
     for PassOn<M, K> {
-    ghost use Rattle.turn_lock.specs.Steps.{PassesOn};
+    ghost use Rattle.turn_lock.specs.inner.Steps.{PassesOn};
 
     ghost then = { PassesOn M.state M.start M.steps M.may K.added };
 }
@@ -68,7 +68,7 @@ impl<M: Machine, K: Added<M::Call, M::Reply>> Play<Option<M>, View<M::Call, M::R
 pub struct OnePart;
 
 impl<C, R> Split<View<C, R>> for OnePart {
-    ghost use Rattle.turn_lock.specs.Steps.{with_part_less, unnamed};
+    ghost use Rattle.turn_lock.specs.inner.Steps.{with_part_less, unnamed};
 
     ghost left = { with_part_less };
 
@@ -81,7 +81,7 @@ pub struct Number<M> {
 }
 
 impl<M: Machine> Play<Option<M>, View<M::Call, M::Reply>> for Number<M> {
-    ghost use Rattle.turn_lock.specs.Steps.{Numbers};
+    ghost use Rattle.turn_lock.specs.inner.Steps.{Numbers};
 
     ghost then = { Numbers M.state M.start M.steps M.may };
 }
@@ -90,7 +90,7 @@ impl<M: Machine> Play<Option<M>, View<M::Call, M::Reply>> for Number<M> {
 pub struct Merge;
 
 impl<C, R> Join<View<C, R>> for Merge {
-    ghost use Rattle.turn_lock.specs.Steps.{merged, spent};
+    ghost use Rattle.turn_lock.specs.inner.Steps.{merged, spent};
 
     ghost both = { merged };
 
@@ -103,7 +103,7 @@ pub struct Look<M> {
 }
 
 impl<M: Machine> Play<Option<M>, View<M::Call, M::Reply>> for Look<M> {
-    ghost use Rattle.turn_lock.specs.Steps.{Looks};
+    ghost use Rattle.turn_lock.specs.inner.Steps.{Looks};
 
     ghost then = { Looks M.state M.start M.steps M.may };
 }

@@ -3,8 +3,8 @@ ghost use Rattle.std.specs.Prelude.{◌≡◌, ℕ, ◌+◌, ◌<◌, ◌^◌, [
 ghost use Rattle.turn_lock.specs.Answering.{AnswersAs};
 ghost use Rattle.turn_lock.specs.History.{entry};
 ghost use Rattle.turn_lock.specs.Standing.{Standing, SeatIsSound, HasCalled};
-ghost use Rattle.turn_lock.specs.Steps.{HasTurn, Knows, with_entries};
-ghost use Rattle.turn_lock.specs.Places.{IsSamePlace, IsFree, IsWaiting, Waits, MayEnd};
+ghost use Rattle.turn_lock.specs.inner.Steps.{HasTurn, Knows, with_entries};
+ghost use Rattle.turn_lock.specs.inner.Places.{IsSamePlace, IsFree, IsWaiting, Waits, MayEnd};
 ghost use Rattle.turn_lock.specs.declared.view.Phase.TheVariants.{Free, Waiting};
 
 use crate::machine::Machine;

@@ -1,7 +1,7 @@
 //! The lock.
 ghost use Rattle.std.specs.Prelude.{◌≡◌, ℕ, ◌+◌, ◌-◌, ◌≤◌, length, sum_by, IfOk};
 ghost use Rattle.turn_lock.specs.History.{Begins, IsRun};
-ghost use Rattle.turn_lock.specs.Places.{IsSamePlace, IsUnnamed, HasDrawn};
+ghost use Rattle.turn_lock.specs.inner.Places.{IsSamePlace, IsUnnamed, HasDrawn};
 ghost use Rattle.turn_lock.specs.Standing.{Standing, SeatIsSound, IsNew, all_parts, first_standing, newcomer, taken_in};
 
 use crate::machine::Machine;

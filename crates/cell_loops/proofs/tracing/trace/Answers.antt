@@ -1,6 +1,6 @@
 use Rattle.std.proofs.Common.{◌≡◌, ◌∙◌, length, arith}
 use Rattle.cell_loops.specs.Boundary.{boundary_of}
-use Rattle.cell_loops.specs.Steps.{is_marked}
+use Rattle.cell_loops.specs.inner.Steps.{is_marked}
 use Rattle.cell_loops.proofs.Scans.{IsNext, Scans, next-at, next-on, next-bounds, next-inside, mark-read, scan-starts, scan-passes, scan-free, scan-adds, scan-ends, written-back}
 use Rattle.cell_loops.proofs.tracing.trace.Goals as goal
 

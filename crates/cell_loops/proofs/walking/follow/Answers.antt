@@ -4,7 +4,7 @@ use Rattle.cell_loops.proofs.Walks.{walk-starts, walk-bounds, walk-inside, walk-
 use Rattle.cell_loops.specs.Plane.{Plane}
 use Rattle.cell_loops.specs.declared.corners.Edge.{Edge}
 use Rattle.cell_loops.specs.Boundary.{bounds}
-use Rattle.cell_loops.specs.Steps.{IsOn}
+use Rattle.cell_loops.specs.inner.Steps.{IsOn}
 use Rattle.cell_loops.proofs.walking.follow.Goals as goal
 
 pub loop-points-init : goal.loop-points-init

@@ -1,7 +1,7 @@
 use Rattle.std.proofs.Common.{◌≡◌, ◌∙◌, ap, ap₂}
 use Rattle.std.proofs.lemmas.Result.{IfOk-weaker}
 use Rattle.clap.specs.Simple.{app_of, app_of_fields, with_rule}
-use Rattle.command_words.specs.Choices.{helpless}
+use Rattle.command_words.specs.inner.Choices.{helpless}
 use Rattle.command_words.proofs.matching.noisemap.Goals as goal
 
 pub returns : goal.returns

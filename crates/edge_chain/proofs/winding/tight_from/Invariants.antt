@@ -1,6 +1,6 @@
 -- The string from here on is what would be left of it.
 use Rattle.std.proofs.Common.{◌≡◌, ◌≤◌, ◌-◌, drop, length}
-use Rattle.edge_chain.specs.Winding.{slackened}
+use Rattle.edge_chain.specs.inner.Winding.{slackened}
 use Rattle.edge_chain.proofs.winding.tight_from.Given as goal
 
 abbrev pub invariant-loop-at : goal.invariant-loop-at

@@ -1,7 +1,7 @@
 use Rattle.std.proofs.Common.{◌≡◌, ◌∙◌, ap, Some, pos}
 use Rattle.std.specs.Option.{option_map_or, option_and_then}
 use Rattle.fix_interval.specs.Ten.{ten_low, ten_high}
-use Rattle.enclose_exp.specs.Exponent.{low_value, high_value}
+use Rattle.enclose_exp.specs.inner.Exponent.{low_value, high_value}
 use Rattle.enclose_exp.proofs.Exponents.{low_value-end, high_value-end}
 use Rattle.enclose_exp.proofs.TenInterval.{made-is, ten_of-interval, ten_of-low, ten_of-high}
 use Rattle.enclose_exp.proofs.power.ten.Goals as goal

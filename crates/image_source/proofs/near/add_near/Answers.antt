@@ -3,7 +3,7 @@ use Rattle.std.specs.List.{filter_map}
 use Rattle.std.proofs.lemmas.List.{take_all}
 use Rattle.scene_parts.specs.Sides.{sides_of}
 use Rattle.part_grid.proofs.Numbered.{obstacle-within}
-use Rattle.image_source.specs.Near.{is_near}
+use Rattle.image_source.specs.inner.Near.{is_near}
 use Rattle.image_source.proofs.Nearby.{near_sides, near_crossing, near-at, near-are-all, side-added}
 use Rattle.image_source.proofs.near.add_near.Goals as goal
 

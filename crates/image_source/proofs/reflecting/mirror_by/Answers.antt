@@ -7,7 +7,7 @@ use Rattle.scene_parts.specs.Views.{Obstacle}
 use Rattle.scene_parts.specs.Ranges.{IsObstacle}
 use Rattle.scene_parts.specs.Sides.{sides_of}
 use Rattle.scene_geom.specs.declared.reflection.Reflection.{Reflection}
-use Rattle.scene_parts.specs.declared.ends.Ends.{Ends}
+use Rattle.scene_parts.specs.declared.screening.ends.Ends.{Ends}
 use Rattle.image_source.specs.Mirrors.{strikes, stays_below}
 use Rattle.image_source.proofs.Walls.{short-wall, mirror-kept, none-unstruck, none-above}
 use Rattle.image_source.proofs.reflecting.mirror_by.Goals as goal

@@ -3,7 +3,7 @@ use Rattle.std.proofs.Common.{◌≡◌, ℕ, List, drop}
 use Rattle.std.specs.Prelude.{option_map}
 use Rattle.std.specs.Map.{lookup}
 use Rattle.scene_book.specs.Lists.{named}
-use Rattle.level_contours.specs.Filing.{is_key}
+use Rattle.level_contours.specs.inner.Filing.{is_key}
 use Rattle.level_contours.proofs.lookup.filed.Given as goal
 
 abbrev pub invariant-loop-place : goal.invariant-loop-place

@@ -1,7 +1,7 @@
 use Rattle.std.proofs.Common.{◌<◌, ◌+◌, ◌-◌, ◌∙◌, ap, sym, arith}
 use Rattle.std.specs.Prelude.{find}
 use Rattle.level_contours.specs.GridNames.{names_along, names_from}
-use Rattle.level_contours.specs.Filing.{is_absent}
+use Rattle.level_contours.specs.inner.Filing.{is_absent}
 use Rattle.level_contours.proofs.GridNameLemmas.{from-step, find-here, find-later}
 use Rattle.level_contours.proofs.missing.find_missing.Goals as goal
 

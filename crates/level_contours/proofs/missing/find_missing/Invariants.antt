@@ -2,7 +2,7 @@
 use Rattle.std.proofs.Common.{◌≡◌, ◌-◌}
 use Rattle.std.specs.Prelude.{find}
 use Rattle.level_contours.specs.GridNames.{names_from, names_of}
-use Rattle.level_contours.specs.Filing.{is_absent}
+use Rattle.level_contours.specs.inner.Filing.{is_absent}
 use Rattle.level_contours.proofs.missing.find_missing.Given as goal
 
 abbrev pub invariant-loop-row : goal.invariant-loop-row

@@ -3,7 +3,7 @@ use Rattle.std.specs.Prelude.{find}
 use Rattle.scene_book.specs.Grid.{name_in}
 use Rattle.command_lines.specs.Views.{Contour}
 use Rattle.level_contours.specs.GridNames.{names_along}
-use Rattle.level_contours.specs.Filing.{is_absent}
+use Rattle.level_contours.specs.inner.Filing.{is_absent}
 use Rattle.level_contours.proofs.GridNameLemmas.{along-step, find-later}
 use Rattle.level_contours.proofs.missing.missing_in_row.Goals as goal
 

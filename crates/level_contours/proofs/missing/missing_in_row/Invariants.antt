@@ -2,7 +2,7 @@
 use Rattle.std.proofs.Common.{◌≡◌, ◌-◌}
 use Rattle.std.specs.Prelude.{find}
 use Rattle.level_contours.specs.GridNames.{names_along}
-use Rattle.level_contours.specs.Filing.{is_absent}
+use Rattle.level_contours.specs.inner.Filing.{is_absent}
 use Rattle.level_contours.proofs.missing.missing_in_row.Given as goal
 
 abbrev pub invariant-loop-column : goal.invariant-loop-column

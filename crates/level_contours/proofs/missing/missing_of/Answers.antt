@@ -3,7 +3,7 @@ use Rattle.std.specs.Prelude.{Option, find, is_some, IfOk}
 use Rattle.scene_parts.specs.Views.{Receiver}
 use Rattle.scene_book.specs.Lists.{named}
 use Rattle.level_contours.specs.GridNames.{names_of, first_missing_of}
-use Rattle.level_contours.specs.Filing.{is_absent}
+use Rattle.level_contours.specs.inner.Filing.{is_absent}
 use Rattle.level_contours.proofs.Found.{find-agree}
 use Rattle.level_contours.proofs.missing.missing_of.Goals as goal
 

@@ -1,7 +1,7 @@
 -- The cells so far, and those of the rows behind, are all cells.
 use Rattle.std.proofs.Common.{◌≡◌, ◌-◌, ◌++◌, map}
 use Rattle.level_contours.specs.GridNames.{names_from, names_of}
-use Rattle.level_contours.specs.Filing.{cell_found}
+use Rattle.level_contours.specs.inner.Filing.{cell_found}
 use Rattle.level_contours.proofs.reading.all_cells.Given as goal
 
 abbrev pub invariant-loop-row : goal.invariant-loop-row

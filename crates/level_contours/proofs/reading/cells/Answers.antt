@@ -6,7 +6,7 @@ use Rattle.scene_book.specs.Lists.{named}
 use Rattle.level_contours.specs.Comparing.{cell_of}
 use Rattle.level_contours.specs.GridNames.{names_of}
 use Rattle.level_contours.specs.Looking.{known_total, total_of}
-use Rattle.level_contours.specs.Filing.{cell_found}
+use Rattle.level_contours.specs.inner.Filing.{cell_found}
 use Rattle.level_contours.proofs.Found.{map-agree}
 use Rattle.level_contours.proofs.reading.cells.Goals as goal
 

@@ -1,5 +1,5 @@
 use Rattle.std.proofs.Common.{◌<◌, arith}
-use Rattle.level_contours.specs.Filing.{cell_found}
+use Rattle.level_contours.specs.inner.Filing.{cell_found}
 use Rattle.level_contours.proofs.GridNameLemmas.{cell-added}
 use Rattle.level_contours.proofs.reading.push_row.Goals as goal
 

@@ -1,7 +1,7 @@
 -- The cells so far, and those behind, are all cells of the row.
 use Rattle.std.proofs.Common.{◌≡◌, ◌-◌, ◌++◌, map}
 use Rattle.level_contours.specs.GridNames.{names_along}
-use Rattle.level_contours.specs.Filing.{cell_found}
+use Rattle.level_contours.specs.inner.Filing.{cell_found}
 use Rattle.level_contours.proofs.reading.push_row.Given as goal
 
 abbrev pub invariant-loop-column : goal.invariant-loop-column

@@ -1,5 +1,5 @@
 use Rattle.std.proofs.Common.{sym}
-use Rattle.map_board.specs.Boards.{is_held_unsettled}
+use Rattle.map_board.specs.inner.Boards.{is_held_unsettled}
 use Rattle.map_board.proofs.Scanning.{found-one, past-one, none-left}
 use Rattle.map_board.proofs.rows.is_any_unsettled.Goals as goal
 

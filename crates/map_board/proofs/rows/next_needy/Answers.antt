@@ -3,7 +3,7 @@ use Rattle.std.specs.Prelude.{◌||◌}
 use Rattle.std.specs.List.{list_any}
 use Rattle.std.proofs.lemmas.List.{take_all}
 use Rattle.std.proofs.lemmas.List.Folds.{list_any_more}
-use Rattle.map_board.specs.Boards.{is_held_needy}
+use Rattle.map_board.specs.inner.Boards.{is_held_needy}
 use Rattle.map_board.proofs.Scanning.{here-at}
 use Rattle.map_board.proofs.rows.next_needy.Goals as goal
 

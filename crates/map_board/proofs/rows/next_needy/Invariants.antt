@@ -1,5 +1,5 @@
 -- None of the rows so far is needy.
-use Rattle.map_board.specs.Boards.{NoneNeedyBefore}
+use Rattle.map_board.specs.inner.Boards.{NoneNeedyBefore}
 use Rattle.map_board.proofs.rows.next_needy.Given as goal
 
 abbrev pub invariant-loop-place : goal.invariant-loop-place

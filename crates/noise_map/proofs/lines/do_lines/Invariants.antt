@@ -1,8 +1,8 @@
 -- The lines handed out so far are done, and no count of faults has risen. Each turn passes a byte of the input at least.
 use Rattle.std.proofs.Common.{◌≡◌, ◌≤◌, ◌-◌}
 use Rattle.map_io.specs.Reading.{bytes_read, input_limit}
-use Rattle.noise_map.specs.Progress.{Progress}
-use Rattle.noise_map.specs.Steps.{Knows}
+use Rattle.noise_map.specs.inner.Progress.{Progress}
+use Rattle.noise_map.specs.inner.Steps.{Knows}
 use Rattle.noise_map.proofs.lines.do_lines.Given as goal
 
 abbrev pub invariant-loop-status : goal.invariant-loop-status

@@ -3,8 +3,8 @@ use Rattle.std.proofs.Common.{◌≡◌, ◌+◌, ◌≤◌, ◌++◌, length, t
 use Rattle.map_io.specs.Lines.{lines}
 use Rattle.path_calc.specs.Levels.{IsLevel}
 use Rattle.noise_map.specs.Making.{making_of, made_by, site_lines}
-use Rattle.noise_map.specs.Progress.{Did}
-use Rattle.noise_map.specs.Steps.{Knows}
+use Rattle.noise_map.specs.inner.Progress.{Did}
+use Rattle.noise_map.specs.inner.Steps.{Knows}
 use Rattle.noise_map.proofs.make.do_site.Given as goal
 
 abbrev pub invariant-loop-line : goal.invariant-loop-line

@@ -1,7 +1,7 @@
 use Rattle.std.proofs.Common.{ℕ, List, subst, sym}
 use Rattle.std.specs.Prelude.{Option}
 use Rattle.std.proofs.lemmas.Bool.{false≢true}
-use Rattle.noise_map.specs.Progress.{HasEnded, AskedEnded}
+use Rattle.noise_map.specs.inner.Progress.{HasEnded, AskedEnded}
 use Rattle.noise_map.proofs.Told.{site_untold}
 use Rattle.noise_map.proofs.run.do_asked.Goals as goal
 

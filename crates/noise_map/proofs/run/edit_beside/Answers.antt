@@ -4,8 +4,8 @@ use denote.Param.{param}
 use denote.Param.Send.{arg_send, mut_send, param_send, sendable, shr_send}
 use Rattle.std.proofs.Common.{[], ◌∷◌}
 use Rattle.command_words.specs.contracts.line.CommandLine as CommandLine
-use Rattle.noise_map.specs.contracts.editor.Editor as Editor
-use Rattle.noise_map.specs.contracts.step.Shared as Shared
+use Rattle.noise_map.specs.contracts.run.editor.Editor as Editor
+use Rattle.noise_map.specs.contracts.lines.step.Shared as Shared
 use Rattle.noise_map.proofs.Crossing.{MapLock-sync, WorkerSeat-send, closure_crosses, editor_crosses, shared_by_threads}
 use Rattle.noise_map.proofs.Crews.{all-back}
 use Rattle.noise_map.proofs.run.edit_beside.Goals as goal

@@ -1,7 +1,7 @@
 use Rattle.std.proofs.Common.{◌≡◌, ◌∙◌, length, All, ap, arith, sym, subst}
-use Rattle.noise_map.specs.declared.status.Report.{Report}
+use Rattle.noise_map.specs.declared.run.status.Report.{Report}
 use Rattle.map_lock.specs.Seats.{BoardSeat}
-use Rattle.noise_map.specs.Crews.{IsBack, IsBeginner}
+use Rattle.noise_map.specs.inner.Crews.{IsBack, IsBeginner}
 use Rattle.noise_map.specs.Outcome.{RunOutcome}
 use Rattle.noise_map.proofs.Told.{none_asked}
 use Rattle.noise_map.proofs.Wholes.{seats-back, whole-asked}

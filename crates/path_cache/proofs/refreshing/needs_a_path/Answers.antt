@@ -1,5 +1,5 @@
 use Rattle.std.proofs.Common.{sym, ap, get_or, ◌∙◌, length, arith}
-use Rattle.path_cache.specs.OfOneSource.{needs_path}
+use Rattle.path_cache.specs.inner.OfOneSource.{needs_path}
 use Rattle.path_cache.proofs.Scanning.{found-one, past-one, none-left}
 use Rattle.path_cache.proofs.refreshing.needs_a_path.Goals as goal
 

@@ -1,7 +1,7 @@
 -- None of the sources so far needs a path.
 use Rattle.std.proofs.Common.{◌≡◌, drop}
 use Rattle.std.specs.List.{list_any}
-use Rattle.path_cache.specs.OfOneSource.{needs_path}
+use Rattle.path_cache.specs.inner.OfOneSource.{needs_path}
 use Rattle.path_cache.proofs.refreshing.needs_a_path.Given as goal
 
 abbrev pub invariant-loop-source : goal.invariant-loop-source

@@ -4,7 +4,7 @@ use Rattle.std.proofs.lemmas.Grind.{common_steps}
 use Rattle.std.proofs.lemmas.List.{take_all}
 use Rattle.path_calc.specs.Lengths.{is_within}
 use Rattle.path_cache.specs.Refreshed.{refreshed_bundle, is_wanted}
-use Rattle.path_cache.specs.OfOneSource.{refreshed_of_one, steps_of_one}
+use Rattle.path_cache.specs.inner.OfOneSource.{refreshed_of_one, steps_of_one}
 use Rattle.path_cache.proofs.WithinReach.{flat-within, count-within, count-so-far}
 use Rattle.path_cache.proofs.Ascending.{ascend-up}
 use Rattle.path_cache.proofs.refreshing.origins_of.Goals as goal

@@ -1,7 +1,7 @@
 -- The origins of the bundles of the sources so far are there, and their steps are counted.
 use Rattle.std.proofs.Common.{◌≡◌, ◌+◌, ◌≤◌, flat_map, take, length}
 use Rattle.std.specs.Prelude.{sum_by}
-use Rattle.path_cache.specs.OfOneSource.{refreshed_of_one, steps_of_one}
+use Rattle.path_cache.specs.inner.OfOneSource.{refreshed_of_one, steps_of_one}
 use Rattle.path_cache.specs.Origins.{Ascend, bundles_from}
 use Rattle.path_cache.proofs.refreshing.origins_of.Given as goal
 

@@ -1,7 +1,8 @@
 use Rattle.std.proofs.Common.{◌≡◌, ◌+◌, ◌<◌, ◌++◌, ◌∷◌, take, drop, length, sym, ap, ◌∙◌, append_assoc, arith}
 use Rattle.std.specs.Vec.Iter.{into_iter_items}
 use Rattle.std.proofs.lemmas.List.Concat.{flat_map-cons}
-use Rattle.path_cache.specs.Origins.{bundle_from, bundles_from, StandsAt}
+use Rattle.path_cache.specs.Origins.{bundle_from, bundles_from}
+use Rattle.path_cache.specs.inner.Origins.{StandsAt}
 use Rattle.path_cache.proofs.Ascending.{there-is, behind-it}
 use Rattle.path_cache.proofs.InPlace.{placed, as-many}
 use Rattle.path_cache.proofs.renewing.put_in_place.Goals as goal

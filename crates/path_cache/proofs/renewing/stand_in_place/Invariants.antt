@@ -2,7 +2,7 @@
 use Rattle.std.proofs.Common.{◌≡◌, ℕ, ◌<◌}
 use Rattle.std.specs.Prelude.{Some, slice_get}
 use Rattle.path_cache.specs.declared.origins.Origin.{Origin}
-use Rattle.path_cache.specs.Origins.{StandsAt}
+use Rattle.path_cache.specs.inner.Origins.{StandsAt}
 use Rattle.path_cache.proofs.renewing.stand_in_place.Given as goal
 
 abbrev pub invariant-loop-place : goal.invariant-loop-place

@@ -3,7 +3,7 @@ use Rattle.std.specs.Prelude.{Some}
 use Rattle.std.proofs.lemmas.List.{get_or_default}
 use Rattle.fix_interval.specs.Interval.{Interval}
 use Rattle.energy_sum.specs.Sums.{units_of}
-use Rattle.path_cache.specs.TakingOff.{IsPartOf}
+use Rattle.path_cache.specs.inner.TakingOff.{IsPartOf}
 use Rattle.path_cache.proofs.Summing.{so-far, from-then-on}
 use Rattle.path_cache.proofs.sums.take_each_off.Goals as goal
 

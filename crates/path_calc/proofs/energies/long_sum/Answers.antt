@@ -1,8 +1,8 @@
 use Rattle.std.proofs.Common.{◌∙◌, ◌≡◌, ◌<◌, ◌≤◌, ap, sym, subst, List, arith, ◌+◌, ◌*◌, ℕ, length, refl}
 use Rattle.fix_interval.specs.Values.{add_of}
 use Rattle.std.proofs.lemmas.List.{take_all}
-use Rattle.path_calc.specs.declared.hearing.Heard.{Heard}
-use Rattle.path_calc.specs.Ranges.{IsSumOf}
+use Rattle.path_calc.specs.declared.energies.hearing.Heard.{Heard}
+use Rattle.path_calc.specs.inner.Ranges.{IsSumOf}
 use Rattle.path_calc.proofs.Bounds.{small-energies}
 use Rattle.path_calc.proofs.Sums.{summed, no-sum, next-sum, sums-added}
 use Rattle.path_calc.proofs.energies.long_sum.Goals as goal

@@ -1,7 +1,7 @@
 -- The sum is that of the bands so far.
 use Rattle.std.proofs.Common.{◌≡◌, ◌*◌, take}
-use Rattle.path_calc.specs.declared.hearing.Heard.{Heard}
-use Rattle.path_calc.specs.Ranges.{IsSumOf}
+use Rattle.path_calc.specs.declared.energies.hearing.Heard.{Heard}
+use Rattle.path_calc.specs.inner.Ranges.{IsSumOf}
 use Rattle.path_calc.proofs.Sums.{summed}
 use Rattle.path_calc.proofs.energies.long_sum.Given as goal
 

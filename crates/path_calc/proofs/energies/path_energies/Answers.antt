@@ -4,10 +4,10 @@ use Rattle.std.proofs.lemmas.List.Elements.{All-map}
 use Rattle.fix_interval.specs.Interval.{Interval}
 use Rattle.fix_interval.specs.Tree.{Tree, Const}
 use Rattle.scene_geom.specs.Bands.{all_bands}
-use Rattle.path_calc.specs.declared.hearing.Heard.{Heard}
+use Rattle.path_calc.specs.declared.energies.hearing.Heard.{Heard}
 use Rattle.path_calc.specs.Surroundings.{surroundings_of}
 use Rattle.path_calc.specs.Energies.{long_energy, long_energy_in}
-use Rattle.path_calc.specs.Ranges.{IsSumOf}
+use Rattle.path_calc.specs.inner.Ranges.{IsSumOf}
 use Rattle.path_calc.proofs.Sums.{sum-of-intervals, sum-of-map}
 use Rattle.path_calc.proofs.Heard.{bands-heard, longs-heard}
 use Rattle.path_calc.proofs.energies.path_energies.Goals as goal

@@ -1,6 +1,6 @@
 use Rattle.std.proofs.Common.{sym, ap, ◌∙◌, List}
 use Rattle.path_calc.specs.declared.lateral.LateralScreening.{LateralScreening}
-use Rattle.path_calc.specs.Strings.{both_of, lateral_of}
+use Rattle.path_calc.specs.inner.Strings.{both_of, lateral_of}
 use Rattle.path_calc.proofs.Stretching.{nothing-in}
 use Rattle.path_calc.proofs.Uncrossed.{no-screening, no-segments}
 use Rattle.path_calc.proofs.lateral.lateral_screening.Goals as goal

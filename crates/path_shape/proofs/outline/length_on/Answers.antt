@@ -2,7 +2,7 @@ use Rattle.std.proofs.lemmas.Int.{ints}
 use Rattle.scene_geom.specs.declared.plan.Pt.{Pt}
 use Rattle.scene_geom.specs.Direction.{direct}
 use Rattle.std.proofs.Common.{rules, sym, subst, ◌≡◌}
-use Rattle.scene_geom.specs.declared.direction.Dir.{Dir}
+use Rattle.scene_geom.specs.declared.directions.direction.Dir.{Dir}
 use Rattle.scene_geom.specs.Fraction.{FitsEnd}
 use Rattle.scene_geom.specs.Direction.{FitsDirection}
 use Rattle.path_shape.specs.declared.legs.Legs.{Legs}

@@ -1,6 +1,6 @@
 use Rattle.std.proofs.Common.{◌≡◌, ◌++◌}
 use Rattle.std.specs.Map.{values_of}
-use Rattle.scene_book.specs.Filed.{AreFiled}
+use Rattle.scene_book.specs.inner.Filed.{AreFiled}
 use Rattle.scene_book.proofs.filing.filed.Given as goal
 
 abbrev pub invariant-loop-thing : goal.invariant-loop-thing

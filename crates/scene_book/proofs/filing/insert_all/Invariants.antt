@@ -1,6 +1,6 @@
 use Rattle.std.proofs.Common.{◌≡◌, ◌≤◌, length}
 use Rattle.indexmap.specs.IndexMap.{spare, insert_all, IsUnique}
-use Rattle.scene_book.specs.Filed.{same_key}
+use Rattle.scene_book.specs.inner.Filed.{same_key}
 use Rattle.scene_book.proofs.filing.insert_all.Given as goal
 
 abbrev pub invariant-loop-key : goal.invariant-loop-key

@@ -1,6 +1,6 @@
 use Rattle.std.proofs.Common.{◌≡◌, ◌≤◌, ◌<◌, ◌^◌, ℕ, arith, ◌∙◌}
 use Rattle.std.specs.Prelude.{ℤ, pos, ◌*ℤ◌, unsigned_abs}
-use Rattle.scene_geom.specs.Step.{vector}
+use Rattle.scene_geom.specs.inner.Step.{vector}
 use Rattle.scene_geom.specs.Vector.{minus, scaled}
 use Rattle.scene_geom.proofs.Whole.{kept, restored, widened}
 use Rattle.scene_geom.proofs.Walls.{dir-is}

@@ -4,7 +4,7 @@ use Rattle.fix_interval.specs.Interval.{Interval}
 use Rattle.fix_interval.specs.Tree.{Known, enc}
 use Rattle.term_barrier.specs.Limits.{IsScreening}
 use Rattle.term_barrier.specs.Screening.{screening}
-use Rattle.term_barrier.specs.Prepared.{best_argument, screened_by}
+use Rattle.term_barrier.specs.inner.Prepared.{best_argument, screened_by}
 use Rattle.term_barrier.proofs.Bounds.{screening-between}
 use Rattle.term_barrier.proofs.Screened.{screening-is}
 use Rattle.term_barrier.proofs.top.a_bar.Goals as goal

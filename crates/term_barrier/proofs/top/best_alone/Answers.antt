@@ -1,6 +1,6 @@
 use Rattle.std.proofs.Common.{ap}
 use Rattle.term_barrier.specs.Screening.{is_above}
-use Rattle.term_barrier.specs.Prepared.{greater_of, single_value}
+use Rattle.term_barrier.specs.inner.Prepared.{greater_of, single_value}
 use Rattle.term_barrier.proofs.Loops.{drop-item, kept-step, left-step}
 use Rattle.term_barrier.proofs.Marked.{single-known}
 use Rattle.term_barrier.proofs.top.best_alone.Goals.{then-edge, else-edge}

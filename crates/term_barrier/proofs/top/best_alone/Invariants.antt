@@ -2,7 +2,7 @@
 use Rattle.std.proofs.Common.{◌≡◌, map, drop}
 use Rattle.std.specs.Prelude.{None}
 use Rattle.term_barrier.specs.Screening.{edges_above}
-use Rattle.term_barrier.specs.Prepared.{greatest_from, single_value}
+use Rattle.term_barrier.specs.inner.Prepared.{greatest_from, single_value}
 use Rattle.term_barrier.proofs.top.best_alone.Given as goal
 
 abbrev pub invariant-loop-edge : goal.invariant-loop-edge

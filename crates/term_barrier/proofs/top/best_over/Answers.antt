@@ -2,7 +2,7 @@ use Rattle.std.proofs.Common.{refl}
 use Rattle.std.proofs.lemmas.List.Elements.{All-rest}
 use Rattle.term_barrier.specs.Edges.{FitsEdge}
 use Rattle.term_barrier.specs.Screening.{is_above}
-use Rattle.term_barrier.specs.Prepared.{both_value}
+use Rattle.term_barrier.specs.inner.Prepared.{both_value}
 use Rattle.term_barrier.proofs.Loops.{kept-pairs, left-pairs}
 use Rattle.term_barrier.proofs.top.best_over.Goals as goal
 

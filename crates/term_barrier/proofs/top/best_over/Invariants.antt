@@ -4,7 +4,7 @@ use Rattle.std.specs.List.{All}
 use Rattle.std.specs.Prelude.{None}
 use Rattle.term_barrier.specs.Edges.{FitsEdge}
 use Rattle.term_barrier.specs.Screening.{edges_above, pairs_of}
-use Rattle.term_barrier.specs.Prepared.{greatest_from, single_value, both_value}
+use Rattle.term_barrier.specs.inner.Prepared.{greatest_from, single_value, both_value}
 use Rattle.term_barrier.proofs.top.best_over.Given as goal
 
 abbrev pub invariant-loop-first : goal.invariant-loop-first

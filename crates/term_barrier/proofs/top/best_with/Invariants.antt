@@ -2,7 +2,7 @@
 use Rattle.std.proofs.Common.{◌≡◌, map, drop}
 use Rattle.std.specs.Prelude.{flat_map}
 use Rattle.term_barrier.specs.Screening.{edges_above, both_ways}
-use Rattle.term_barrier.specs.Prepared.{greatest_from, both_value}
+use Rattle.term_barrier.specs.inner.Prepared.{greatest_from, both_value}
 use Rattle.term_barrier.proofs.top.best_with.Given as goal
 
 abbrev pub invariant-loop-other : goal.invariant-loop-other

@@ -1,5 +1,5 @@
 use Rattle.std.proofs.Common.{ap}
-use Rattle.term_barrier.specs.Prepared.{greater_of, argument_value}
+use Rattle.term_barrier.specs.inner.Prepared.{greater_of, argument_value}
 use Rattle.term_barrier.proofs.Loops.{drop-item, every-step}
 use Rattle.term_barrier.proofs.Marked.{argument-known}
 use Rattle.term_barrier.proofs.top.greatest_argument.Goals as goal

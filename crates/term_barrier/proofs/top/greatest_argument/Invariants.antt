@@ -1,7 +1,7 @@
 -- The greatest so far and of the edges behind is that of all.
 use Rattle.std.proofs.Common.{◌≡◌, map, drop}
 use Rattle.std.specs.Prelude.{None}
-use Rattle.term_barrier.specs.Prepared.{greatest_from, argument_value}
+use Rattle.term_barrier.specs.inner.Prepared.{greatest_from, argument_value}
 use Rattle.term_barrier.proofs.top.greatest_argument.Given as goal
 
 abbrev pub invariant-loop-edge : goal.invariant-loop-edge

@@ -3,7 +3,7 @@ use Rattle.std.proofs.lemmas.List.{drop_all}
 use Rattle.fix_interval.specs.Tree.{enc}
 use Rattle.scene_parts.specs.Views.{Foliage}
 use Rattle.term_foliage.specs.Foliage.{lengths_in}
-use Rattle.term_foliage.specs.Distances.{with_length, with_lengths}
+use Rattle.term_foliage.specs.inner.Distances.{with_length, with_lengths}
 use Rattle.term_foliage.proofs.Counting.{drop-step, lengths-step, from-none}
 use Rattle.term_foliage.proofs.distance.length_in_all.Goals as goal
 

@@ -1,9 +1,9 @@
 use Rattle.std.proofs.Common.{◌≡◌, ◌∙◌, ◌≤◌, arith, refl, sym, subst, List, map}
 use Rattle.fix_interval.specs.Interval.{Interval}
 use Rattle.fix_interval.specs.Tree.{Known, enc}
-use Rattle.term_ground.specs.EndRegions.{known_attenuations}
+use Rattle.term_ground.specs.inner.EndRegions.{known_attenuations}
 use Rattle.term_ground.specs.Ground.{ground}
-use Rattle.term_ground.specs.declared.region.Region.TheVariants.{Source, Receiver}
+use Rattle.term_ground.specs.declared.legs.region.Region.TheVariants.{Source, Receiver}
 use Rattle.term_ground.specs.Limits.{HasHeights, AreLimited}
 use Rattle.term_ground.proofs.Shares.{by-shares}
 use Rattle.term_ground.proofs.TermBounds.{ground-between, share-small}

@@ -1,6 +1,6 @@
 use Rattle.std.proofs.Common.{refl}
 use Rattle.path_shape.proofs.Lengths.{path-found}
-use Rattle.term_ground.specs.EndRegions.{hard}
+use Rattle.term_ground.specs.inner.EndRegions.{hard}
 use Rattle.term_ground.proofs.TermBounds.{hard-end}
 use Rattle.term_ground.proofs.attenuation.between_hard_ends.Goals as goal
 

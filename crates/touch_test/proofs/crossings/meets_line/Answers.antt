@@ -1,5 +1,5 @@
 use Rattle.std.proofs.Common.{ap, ◌∙◌}
-use Rattle.scene_geom.specs.declared.direction.Dir.{Dir}
+use Rattle.scene_geom.specs.declared.directions.direction.Dir.{Dir}
 use Rattle.scene_geom.specs.Outline.{meets_of}
 use Rattle.path_shape.specs.Outlines.{whole}
 use Rattle.touch_test.proofs.crossings.meets_line.Goals as goal

@@ -1,5 +1,5 @@
 use Rattle.std.proofs.Common.{◌≡◌, sym, ap, ◌∙◌}
-use Rattle.path_calc.specs.declared.segments.Seg.TheVariants.{Straight}
+use Rattle.path_calc.specs.declared.bundles.segments.Seg.TheVariants.{Straight}
 use Rattle.touch_test.proofs.Far.{same-points}
 use Rattle.touch_test.proofs.envelopes.is_straight.Goals as goal
 

@@ -1,7 +1,7 @@
 -- What is read so far, and what the digits behind add, is what all digits say.
 use Rattle.std.proofs.Common.{◌≡◌, ◌≤◌, drop}
 use Rattle.std.specs.Str.{all_ascii_digits}
-use Rattle.touch_test.specs.Numbers.{read_on}
+use Rattle.touch_test.specs.inner.Numbers.{read_on}
 use Rattle.touch_test.proofs.grids.value.Given as goal
 
 abbrev pub invariant-loop-byte : goal.invariant-loop-byte

@@ -1,10 +1,10 @@
 use Rattle.std.proofs.Common.{sym, ap, ◌∙◌, List}
 use Rattle.scene_geom.specs.declared.plan.Pt.{Pt}
 use Rattle.scene_parts.specs.Views.{Zone, Foliage}
-use Rattle.scene_parts.specs.declared.ends.Ends.{Ends}
+use Rattle.scene_parts.specs.declared.screening.ends.Ends.{Ends}
 use Rattle.scene_parts.specs.declared.parts.Part.{Part}
 use Rattle.path_calc.specs.Bundles.{Bundle}
-use Rattle.path_calc.specs.declared.segments.Seg.{Seg}
+use Rattle.path_calc.specs.declared.bundles.segments.Seg.{Seg}
 use Rattle.touch_test.specs.Touches.{bundled, outline_touches, part_touches}
 use Rattle.touch_test.proofs.parts.part_touches.Goals as goal
 

@@ -4,7 +4,7 @@ use Rattle.path_calc.specs.Bundles.{Bundle}
 use Rattle.path_cache.specs.Refreshed.{refreshed}
 use Rattle.path_cache.specs.Renewals.{Gives}
 use Rattle.path_cache.specs.Standing.{AreOfEach}
-use Rattle.map_board.specs.Held.{no_marks}
+use Rattle.map_board.specs.inner.Held.{no_marks}
 use Rattle.map_board.specs.Views.{Job}
 use Rattle.map_board.proofs.jobs.Job.answered_by.Goals as goal
 

@@ -12,7 +12,7 @@ use Rattle.path_cache.proofs.Receivers.{refreshed-receivers, count_wanted-receiv
 use Rattle.path_cache.proofs.Standing.{refreshed-stands}
 use Rattle.map_board.specs.declared.jobs.Calculation.{Calculation}
 use Rattle.map_board.specs.declared.scenes.PreparedScene.{PreparedScene}
-use Rattle.map_board.specs.Calculated.{IsCalculated}
+use Rattle.map_board.specs.inner.Calculated.{IsCalculated}
 use Rattle.map_board.specs.Views.{Job}
 use Rattle.map_board.proofs.jobs.Job.calculate.Goals as goal
 use Rattle.map_board.proofs.jobs.Job.calculate.Given.{Over}

@@ -6,7 +6,7 @@ use Rattle.scene_parts.specs.Views.{Receiver}
 use Rattle.scene_book.specs.Book.{Book}
 use Rattle.path_cache.specs.Standing.{AreOfEach}
 use Rattle.map_board.specs.declared.scenes.PreparedScene.{PreparedScene}
-use Rattle.map_board.specs.Held.{AreWithin}
+use Rattle.map_board.specs.inner.Held.{AreWithin}
 use Rattle.map_board.proofs.jobs.Job.of.Goals as goal
 use Rattle.map_board.proofs.jobs.Job.of.Goals.{After-ok}
 

@@ -6,10 +6,10 @@ use Rattle.scene_book.specs.Limits.{most_receivers}
 use Rattle.scene_book.specs.Applying.{apply_of}
 use Rattle.scene_book.specs.declared.edits.Edit.{Edit}
 use Rattle.map_board.specs.Journal.{newest_scene}
-use Rattle.map_board.specs.Namings.{noted}
-use Rattle.map_board.specs.Boards.{IsOutSince, EachHolds, IsBoard}
-use Rattle.map_board.specs.Standing.{NamesStand}
-use Rattle.map_board.specs.Changes.{most_more}
+use Rattle.map_board.specs.inner.Namings.{noted}
+use Rattle.map_board.specs.inner.Boards.{IsOutSince, EachHolds, IsBoard}
+use Rattle.map_board.specs.inner.Standing.{NamesStand}
+use Rattle.map_board.specs.inner.Changes.{most_more}
 use Rattle.map_board.proofs.Ordered.{names-after}
 use Rattle.map_board.proofs.Places.{each-lengths}
 use Rattle.map_board.proofs.Receivers.{accepted-fine}

@@ -1,9 +1,9 @@
 use Rattle.std.proofs.Common.{◌∙◌, ap, subst}
 use Rattle.map_board.specs.Views.{Job}
-use Rattle.map_board.specs.Held.{IsJob}
-use Rattle.map_board.specs.Log.{entries_after}
+use Rattle.map_board.specs.inner.Held.{IsJob}
+use Rattle.map_board.specs.inner.Log.{entries_after}
 use Rattle.map_board.specs.Rows.{with_row, row_named}
-use Rattle.map_board.specs.Back.{row_with}
+use Rattle.map_board.specs.inner.Back.{row_with}
 use Rattle.map_board.proofs.Landings.{out-by-name, row-by-name, job-suits}
 use Rattle.map_board.proofs.state.Board.free.Goals as goal
 

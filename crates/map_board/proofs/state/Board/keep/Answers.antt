@@ -1,8 +1,8 @@
 use Rattle.std.proofs.Common.{◌≤◌, ◌∙◌, ap, subst, length}
 use Rattle.map_board.specs.Views.{Answer}
-use Rattle.map_board.specs.Log.{entries_after}
+use Rattle.map_board.specs.inner.Log.{entries_after}
 use Rattle.map_board.specs.Rows.{with_row, row_named}
-use Rattle.map_board.specs.Back.{row_with}
+use Rattle.map_board.specs.inner.Back.{row_with}
 use Rattle.map_board.proofs.Landings.{out-by-name, row-by-name, answer-suits}
 use Rattle.map_board.proofs.state.Board.keep.Goals as goal
 

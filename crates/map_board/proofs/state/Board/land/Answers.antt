@@ -2,8 +2,9 @@ use Rattle.std.proofs.Common.{◌≡◌, ◌∙◌, sym, subst, ap, Some, List}
 use Rattle.std.specs.Prelude.{slice_get}
 use Rattle.map_board.specs.declared.rows.HeldRow.{HeldRow}
 use Rattle.map_board.specs.Rows.{State, with_row}
-use Rattle.map_board.specs.Back.{row_with, SuitsAt}
-use Rattle.map_board.specs.Boards.{rows_of, IsBoard}
+use Rattle.map_board.specs.inner.Back.{row_with, SuitsAt}
+use Rattle.map_board.specs.Boards.{rows_of}
+use Rattle.map_board.specs.inner.Boards.{IsBoard}
 use Rattle.map_board.proofs.Landings.{seen, at, place-below, board-with, rows-with}
 use Rattle.map_board.proofs.state.Board.land.Goals as goal
 use Rattle.map_board.proofs.state.Board.land.Goals.{After-self}

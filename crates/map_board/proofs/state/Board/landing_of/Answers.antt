@@ -2,7 +2,7 @@ use Rattle.std.proofs.Common.{◌≡◌, ◌-◌, ◌∙◌, ap, sym, subst, ari
 use Rattle.std.specs.Prelude.{slice_get}
 use Rattle.std.proofs.lemmas.Option.{slice_get_within, get_or_from_slice_get}
 use Rattle.scene_parts.specs.Views.{Receiver}
-use Rattle.map_board.specs.declared.log.LogEntry.{LogEntry}
+use Rattle.map_board.specs.declared.edits.log.LogEntry.{LogEntry}
 use Rattle.map_board.specs.Rows.{Row, State, row_named, version_out}
 use Rattle.map_board.proofs.Keeping.{IsOut, row-out}
 use Rattle.map_board.proofs.Landings.{row-there, receiver-there, IsReached, reached}

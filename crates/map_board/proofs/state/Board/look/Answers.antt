@@ -1,6 +1,6 @@
 use Rattle.std.proofs.Common.{◌≡◌, ◌∙◌, ap, sym, refl, length, map}
 use Rattle.map_board.specs.Rows.{State}
-use Rattle.map_board.specs.Boards.{held_looks}
+use Rattle.map_board.specs.inner.Boards.{held_looks}
 use Rattle.map_board.specs.Machine.{look_row}
 use Rattle.map_board.proofs.Places.{each-lengths}
 use Rattle.map_board.proofs.SeenRows.{looks-are}

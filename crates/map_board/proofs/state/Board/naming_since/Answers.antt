@@ -1,5 +1,5 @@
 use Rattle.std.proofs.Common.{◌∙◌, ap}
-use Rattle.map_board.specs.FirstNaming.{first_noted}
+use Rattle.map_board.specs.inner.FirstNaming.{first_noted}
 use Rattle.map_board.specs.Journal.{first_naming}
 use Rattle.map_board.specs.Rows.{State}
 use Rattle.map_board.proofs.Noting.{noted-first}

@@ -2,7 +2,8 @@ use Rattle.std.proofs.Common.{ap, sym, ◌∙◌}
 use Rattle.std.specs.Prelude.{not}
 use Rattle.std.specs.List.{list_any}
 use Rattle.map_board.specs.Rows.{State}
-use Rattle.map_board.specs.Boards.{is_unsettled, is_held_unsettled}
+use Rattle.map_board.specs.Boards.{is_unsettled}
+use Rattle.map_board.specs.inner.Boards.{is_held_unsettled}
 use Rattle.map_board.proofs.Places.{any-unsettled}
 use Rattle.map_board.proofs.state.Board.settled.Goals as goal
 

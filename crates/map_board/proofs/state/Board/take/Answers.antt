@@ -4,7 +4,8 @@ use Rattle.std.specs.declared.alloc.Global.{Global}
 use Rattle.map_board.specs.declared.rows.HeldRow.{HeldRow}
 use Rattle.map_board.specs.Rows.{State}
 use Rattle.map_board.specs.Machine.{TakesJob}
-use Rattle.map_board.specs.Boards.{is_held_out, rows_of, counts_of, EachHolds, IsNeedyAt}
+use Rattle.map_board.specs.Boards.{rows_of, counts_of}
+use Rattle.map_board.specs.inner.Boards.{is_held_out, EachHolds, IsNeedyAt}
 use Rattle.map_board.proofs.Places.{each-lengths}
 use Rattle.map_board.proofs.Taking.{needy-seen, idle-seen}
 use Rattle.map_board.proofs.state.Board.take.Goals as goal

@@ -2,9 +2,10 @@ use Rattle.std.proofs.Common.{◌≡◌, ap, sym, ◌∙◌, subst, arith, set, 
 use Rattle.std.proofs.lemmas.Option.{slice_get_within}
 use Rattle.map_board.specs.declared.rows.HeldRow.{HeldRow}
 use Rattle.map_board.specs.Rows.{State, one_more}
-use Rattle.map_board.specs.Held.{IsJobOf}
+use Rattle.map_board.specs.inner.Held.{IsJobOf}
 use Rattle.map_board.specs.Machine.{TakesJob}
-use Rattle.map_board.specs.Boards.{IsBoard, rows_of, counts_of, row_out}
+use Rattle.map_board.specs.Boards.{rows_of, counts_of}
+use Rattle.map_board.specs.inner.Boards.{IsBoard, row_out}
 use Rattle.map_board.proofs.Places.{each-lengths, held-needy}
 use Rattle.map_board.proofs.Taking.{Ready, ready-seen, has-cache, cache-is, place-within, can-refresh, are-within, of-each, board-out, takes-job}
 use Rattle.map_board.proofs.state.Board.take_at.Goals as goal

@@ -2,7 +2,7 @@
 use Rattle.std.proofs.Common.{◌≡◌, ◌≤◌, ◌-◌}
 use Rattle.std.specs.Prelude.{Contains}
 use Rattle.map_io.specs.Reading.{bytes_read, input_limit}
-use Rattle.map_io.specs.Steps.{Gathers}
+use Rattle.map_io.specs.inner.Steps.{Gathers}
 use Rattle.map_io.proofs.reader.LineReader.next_line.Given as goal
 
 abbrev pub invariant-loop-self : goal.invariant-loop-self

@@ -2,7 +2,7 @@
 use Rattle.std.proofs.Common.{◌≡◌, ◌∙◌, ◌==◌, ◌++◌, ◌+◌, ◌≤◌, length, ℕ, List, Some, None, true, false, take, sym, ap, subst}
 use Rattle.std.specs.Prelude.{slice_range}
 use Rattle.std.specs.List.{position}
-use Rattle.map_io.specs.Steps.{Scans}
+use Rattle.map_io.specs.inner.Steps.{Scans}
 use Rattle.map_io.specs.Reading.{Reading}
 use Rattle.map_io.proofs.Scanning.{scan_found, scan_all, found_below, found_ordered, found_within, all_ordered, all_within}
 use Rattle.map_io.proofs.reader.LineReader.scan.Goals as goal

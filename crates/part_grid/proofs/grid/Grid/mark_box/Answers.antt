@@ -1,7 +1,7 @@
 use Rattle.std.proofs.Common.{◌≤◌, false, length, get_or, map, refl, arith, ap, sym, ◌∙◌, subst}
 use Rattle.std.specs.List.{list_any}
 use Rattle.std.proofs.lemmas.List.{length-replicate}
-use Rattle.part_grid.specs.declared.span.Span.{Span}
+use Rattle.part_grid.specs.declared.cells.span.Span.{Span}
 use Rattle.part_grid.specs.declared.owned.Owned.{Owned}
 use Rattle.part_grid.specs.Span.{common, lines}
 use Rattle.part_grid.specs.Cells.{covers, columns_between, boxes_meet}

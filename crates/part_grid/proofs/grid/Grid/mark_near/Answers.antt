@@ -1,6 +1,6 @@
 use Rattle.std.proofs.Common.{◌≤◌, false, length, get_or, map, arith, ap, sym, ◌∙◌, subst}
 use Rattle.std.proofs.lemmas.List.{length-replicate}
-use Rattle.part_grid.specs.declared.span.Span.{Span}
+use Rattle.part_grid.specs.declared.cells.span.Span.{Span}
 use Rattle.part_grid.specs.declared.owned.Owned.{Owned}
 use Rattle.part_grid.specs.Span.{common}
 use Rattle.part_grid.specs.Cells.{covers, columns_between, walk_rows, cells_meet_of}

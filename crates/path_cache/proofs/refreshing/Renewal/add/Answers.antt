@@ -1,6 +1,7 @@
 use Rattle.std.proofs.Common.{◌≡◌, ◌++◌, rules, ap, ◌∙◌, length, subst, sym}
-use Rattle.path_cache.specs.OfOneSource.{refreshed_of_one}
-use Rattle.path_cache.specs.Origins.{Ascend, bundles_from, bundle_from, place_after}
+use Rattle.path_cache.specs.inner.OfOneSource.{refreshed_of_one}
+use Rattle.path_cache.specs.Origins.{Ascend, bundles_from, bundle_from}
+use Rattle.path_cache.specs.inner.Origins.{place_after}
 use Rattle.path_cache.proofs.Ascending.{from-more, ascend-more}
 use Rattle.path_cache.proofs.refreshing.Renewal.add.Goals as goal
 

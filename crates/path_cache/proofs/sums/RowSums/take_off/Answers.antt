@@ -7,7 +7,7 @@ use Rattle.path_calc.specs.Bundles.{Bundle}
 use Rattle.path_calc.specs.Seen.{bundle_seen}
 use Rattle.path_cache.specs.declared.sums.RowSums.{RowSums}
 use Rattle.path_cache.specs.Sums.{Fits, sum_at, energy_at}
-use Rattle.path_cache.specs.TakingOff.{IsPartOf, ArePartOf}
+use Rattle.path_cache.specs.inner.TakingOff.{IsPartOf, ArePartOf}
 use Rattle.path_cache.proofs.Summing.{fits-less}
 use Rattle.path_cache.proofs.sums.RowSums.take_off.Goals as goal
 

@@ -2,7 +2,7 @@
 use Rattle.std.proofs.Common.{List, ◌++◌, drop}
 use Rattle.path_calc.specs.Bundles.{Bundle}
 use Rattle.path_cache.specs.Sums.{Fits}
-use Rattle.path_cache.specs.TakingOff.{FitFrom}
+use Rattle.path_cache.specs.inner.TakingOff.{FitFrom}
 use Rattle.path_cache.proofs.sums.RowSums.take_off_between.Given as goal
 
 abbrev pub invariant-loop-place : goal.invariant-loop-place

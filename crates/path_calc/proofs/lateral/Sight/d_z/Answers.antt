@@ -1,10 +1,10 @@
 use Rattle.std.proofs.Common.{ap, ◌∙◌, ◌++◌, List}
 use Rattle.std.proofs.lemmas.List.Elements.{All-same}
 use Rattle.scene_geom.specs.declared.band.Band.TheVariants.{Hz63, Hz125, Hz250, Hz500, Hz1000, Hz2000, Hz4000, Hz8000}
-use Rattle.path_calc.specs.declared.segments.Seg.{Seg}
-use Rattle.path_calc.specs.Tracing.{segments_in_band}
-use Rattle.path_calc.specs.Ranges.{IsLateralScreening}
-use Rattle.path_calc.specs.Strings.{d_z_over}
+use Rattle.path_calc.specs.declared.bundles.segments.Seg.{Seg}
+use Rattle.path_calc.specs.inner.Tracing.{segments_in_band}
+use Rattle.path_calc.specs.inner.Ranges.{IsLateralScreening}
+use Rattle.path_calc.specs.inner.Strings.{d_z_over}
 use Rattle.path_calc.proofs.Pushed.{all-eight, eight-both}
 use Rattle.path_calc.proofs.Tracing.{numbers-placed, none-before, after-is, eight-added}
 use Rattle.path_calc.proofs.lateral.Sight.d_z.Goals as goal

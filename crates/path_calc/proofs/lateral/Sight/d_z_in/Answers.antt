@@ -1,7 +1,7 @@
 use Rattle.std.proofs.Common.{◌∙◌, ◌++◌, ap, List}
-use Rattle.scene_parts.specs.declared.crossing.Crossing.{Crossing}
-use Rattle.path_calc.specs.Strings.{both_of, numbers_in}
-use Rattle.path_calc.specs.declared.segments.Seg.{Seg}
+use Rattle.scene_parts.specs.declared.screening.crossing.Crossing.{Crossing}
+use Rattle.path_calc.specs.inner.Strings.{both_of, numbers_in}
+use Rattle.path_calc.specs.declared.bundles.segments.Seg.{Seg}
 use Rattle.path_calc.proofs.Stretching.{both-are}
 use Rattle.path_calc.proofs.Tracing.{strings-added}
 use Rattle.path_calc.proofs.lateral.Sight.d_z_in.Goals as goal

@@ -1,5 +1,5 @@
 -- So many edits have been added.
-use Rattle.site_maker.specs.Making.{Adds}
+use Rattle.site_maker.specs.inner.Making.{Adds}
 use Rattle.site_maker.specs.Site.{edit, each_below}
 use Rattle.site_maker.proofs.maker.Maker.edits.Given as goal
 

@@ -1,5 +1,5 @@
 -- The parts of the numbers below this one have been added.
-use Rattle.site_maker.specs.Making.{Adds}
+use Rattle.site_maker.specs.inner.Making.{Adds}
 use Rattle.site_maker.specs.Parts.{part}
 use Rattle.site_maker.specs.Site.{each_below}
 use Rattle.site_maker.proofs.maker.Maker.parts.Given as goal

@@ -1,7 +1,7 @@
 use Rattle.std.proofs.Common.{◌≡◌, ◌∙◌, ap, sym, refl, rules}
 use Rattle.fix_interval.specs.Interval.{IsInterval}
 use Rattle.term_barrier.specs.Diffraction.{double_limit}
-use Rattle.term_barrier.specs.Reaching.{pair_number}
+use Rattle.term_barrier.specs.inner.Reaching.{pair_number}
 use Rattle.term_barrier.proofs.OneLogarithm.{screens}
 use Rattle.term_barrier.proofs.Passing.{argument-decides}
 use Rattle.term_barrier.proofs.pair.Pair.argument.Goals as goal

@@ -1,6 +1,6 @@
 use Rattle.std.proofs.Common.{rules}
 use Rattle.fix_interval.specs.Interval.{IsInterval}
-use Rattle.term_barrier.specs.Reaching.{IsReach}
+use Rattle.term_barrier.specs.inner.Reaching.{IsReach}
 use Rattle.term_barrier.proofs.Passing.{passes}
 use Rattle.term_barrier.proofs.pair.Pair.is_passed.Goals as goal
 

@@ -1,12 +1,12 @@
 use Rattle.std.proofs.Common.{◌≡◌, refl, ap, ◌∙◌}
 use Rattle.fix_interval.specs.Interval.{Interval}
 use Rattle.fix_interval.specs.Tree.{Known, Add, Sub, Mul, enc}
-use Rattle.scene_parts.specs.declared.edge.Edge.{Edge}
+use Rattle.scene_parts.specs.declared.screening.edge.Edge.{Edge}
 use Rattle.path_shape.specs.declared.path.Path.{Path}
 use Rattle.term_barrier.specs.Diffraction.{path_difference, k_met}
 use Rattle.term_barrier.specs.Edges.{across, beside, place, rest, source_to_edge, edge_to_receiver, edge_to_edge, pair_difference, pair_k}
-use Rattle.term_barrier.specs.Prepared.{bend_of}
-use Rattle.term_barrier.specs.Reaching.{apart_of}
+use Rattle.term_barrier.specs.inner.Prepared.{bend_of}
+use Rattle.term_barrier.specs.inner.Reaching.{apart_of}
 use Rattle.term_barrier.proofs.Slants.{slant-is, slant-between}
 use Rattle.term_barrier.proofs.Pairs.{convexity-from, pair-is, pair-never}
 use Rattle.term_barrier.proofs.pair.Pair.of.Goals as goal

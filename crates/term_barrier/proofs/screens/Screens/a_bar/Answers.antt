@@ -4,7 +4,7 @@ use Rattle.fix_interval.specs.Interval.{Interval}
 use Rattle.fix_interval.specs.Tree.{Known, enc}
 use Rattle.term_barrier.specs.Limits.{IsScreening}
 use Rattle.term_barrier.specs.Screening.{marked, screening}
-use Rattle.term_barrier.specs.Prepared.{greatest_from, known_argument, screened_by}
+use Rattle.term_barrier.specs.inner.Prepared.{greatest_from, known_argument, screened_by}
 use Rattle.term_barrier.proofs.Bounds.{screening-between}
 use Rattle.term_barrier.proofs.Marked.{screened-known}
 use Rattle.term_barrier.proofs.screens.Screens.a_bar.Goals as goal

@@ -3,9 +3,9 @@ use Rattle.std.specs.Prelude.{Option, Some, None}
 use Rattle.fix_interval.specs.Interval.{Interval}
 use Rattle.scene_geom.specs.declared.band.Band.{Band}
 use Rattle.scene_geom.specs.Bands.{all_bands}
-use Rattle.term_barrier.specs.declared.apart.Apart.{Apart}
+use Rattle.term_barrier.specs.declared.pair.apart.Apart.{Apart}
 use Rattle.term_barrier.specs.Lateral.{in_band}
-use Rattle.term_barrier.specs.Reaching.{round_value}
+use Rattle.term_barrier.specs.inner.Reaching.{round_value}
 use Rattle.term_barrier.proofs.Cornering.{in-bands}
 use Rattle.term_barrier.proofs.sides.RoundSides.d_z.Goals as goal
 

@@ -8,7 +8,7 @@ use Rattle.scene_geom.specs.declared.plan.Pt.{Pt}
 use Rattle.scene_geom.specs.declared.band.Band.{Band}
 use Rattle.path_shape.specs.Shape.{plan_length}
 use Rattle.term_barrier.specs.Diffraction.{path_difference}
-use Rattle.term_barrier.specs.Reaching.{round_value}
+use Rattle.term_barrier.specs.inner.Reaching.{round_value}
 use Rattle.term_barrier.specs.Lateral.{between_corners, last_corner, height_square, lateral_difference, side_attenuation}
 use Rattle.term_barrier.specs.Limits.{most_corners, most_top, IsDistance}
 use Rattle.term_barrier.proofs.Cornering.{lateral-known, one-corner, more-corners, in-bands, all-bands}

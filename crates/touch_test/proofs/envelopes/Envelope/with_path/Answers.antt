@@ -5,7 +5,7 @@ use Rattle.scene_geom.specs.declared.plan.Pt.{Pt}
 use Rattle.scene_geom.specs.Direction.{direct}
 use Rattle.path_shape.specs.Outlines.{whole}
 use Rattle.path_calc.specs.Bundles.{Bundle}
-use Rattle.path_calc.specs.declared.segments.Seg.{Seg}
+use Rattle.path_calc.specs.declared.bundles.segments.Seg.{Seg}
 use Rattle.touch_test.specs.Envelopes.{HoldsSegment, HoldsWay}
 use Rattle.touch_test.proofs.Telling.{wider-boxes-tell}
 use Rattle.touch_test.proofs.Widening.{grown, line-wider, whole-list, wider-both, wider-segment}

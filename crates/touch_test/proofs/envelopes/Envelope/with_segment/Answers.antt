@@ -1,7 +1,7 @@
 use Rattle.std.proofs.Common.{subst, sym}
-use Rattle.scene_geom.specs.declared.fraction.Frac.{Frac}
+use Rattle.scene_geom.specs.declared.fractions.fraction.Frac.{Frac}
 use Rattle.scene_geom.specs.declared.reflection.Reflection.{Reflection}
-use Rattle.path_calc.specs.declared.segments.Seg.{Seg}
+use Rattle.path_calc.specs.declared.bundles.segments.Seg.{Seg}
 use Rattle.touch_test.specs.Envelopes.{HoldsSegment, HoldsWay}
 use Rattle.scene_geom.specs.Fraction.{rest_of}
 use Rattle.touch_test.proofs.Widening.{wider-both, wider-way}

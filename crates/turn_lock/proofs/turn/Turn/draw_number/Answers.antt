@@ -1,5 +1,5 @@
 use Rattle.std.proofs.Common.{rules, sym, subst}
-use Rattle.turn_lock.specs.Places.{IsUnnamed}
+use Rattle.turn_lock.specs.inner.Places.{IsUnnamed}
 use Rattle.turn_lock.proofs.Parting.{numbers}
 use Rattle.turn_lock.proofs.turn.Turn.draw_number.Goals as goal
 

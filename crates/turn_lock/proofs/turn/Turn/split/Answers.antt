@@ -1,7 +1,7 @@
 use Rattle.std.proofs.Common.{rules, ◌≤◌, sym, ap, ◌∙◌, subst}
 use Rattle.std.specs.Prelude.{unwrap_or}
 use Rattle.turn_lock.specs.Standing.{IsNew}
-use Rattle.turn_lock.specs.Steps.{Knows}
+use Rattle.turn_lock.specs.inner.Steps.{Knows}
 use Rattle.turn_lock.proofs.Parting.{splits}
 use Rattle.turn_lock.proofs.Facts.{sound, sound_seen, new_above, knows_less}
 use Rattle.turn_lock.proofs.turn.Turn.split.Goals as goal

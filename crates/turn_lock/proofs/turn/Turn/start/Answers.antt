@@ -1,5 +1,5 @@
 use Rattle.std.proofs.Common.{rules, ◌≡◌, [], ◌∷◌, Some, sym, ap, subst}
-use Rattle.turn_lock.specs.Steps.{Knows}
+use Rattle.turn_lock.specs.inner.Steps.{Knows}
 use Rattle.turn_lock.proofs.Parting.{starts}
 use Rattle.turn_lock.proofs.Facts.{first_knows, sound}
 use Rattle.turn_lock.proofs.turn.Turn.start.Goals as goal

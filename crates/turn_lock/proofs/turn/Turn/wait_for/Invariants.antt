@@ -1,5 +1,5 @@
 use Rattle.std.proofs.Common.{◌≡◌}
-use Rattle.turn_lock.specs.Places.{IsSamePlace}
+use Rattle.turn_lock.specs.inner.Places.{IsSamePlace}
 use Rattle.turn_lock.proofs.turn.Turn.wait_for.Given as goal
 
 abbrev pub invariant-loop : goal.invariant-loop

@@ -1,7 +1,0 @@
-use Rattle.std.proofs.Common.{rules}
-use Rattle.command_lines.specs.Checking.{version_of}
-use Rattle.command_lines.proofs.checking.version.Goals as goal
-
-pub returns : goal.returns
-unfolding version_of
-returns c = search rules

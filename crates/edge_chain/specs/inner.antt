@@ -1,0 +1,3 @@
+-- What stands between the code and the definitions.
+pub mod Bearing
+pub mod Winding

@@ -1,0 +1,10 @@
+use Rattle.std.proofs.Common.{◌≡◌, ◌+◌, ◌*◌}
+use Rattle.fix_interval.specs.Roots.{one_factor, product, times_low}
+use Rattle.fix_interval.specs.Ten.{ten_factor_low}
+use Rattle.fix_interval.proofs.powers_of_ten.fraction_powers.fraction_down.Given as goal
+
+abbrev pub invariant-loop-block : goal.invariant-loop-block
+invariant-loop-block l = l.product ≡ product times_low ten_factor_low one_factor l.fraction (8 + 6 * l.block)
+
+abbrev pub invariant-loop-digit : goal.invariant-loop-digit
+invariant-loop-digit l = l.product ≡ product times_low ten_factor_low one_factor l.fraction (8 + (6 * l.block + l.digit))

@@ -1,6 +1,0 @@
-use Rattle.std.proofs.Common.{arith}
-use Rattle.std.proofs.lemmas.Grind.{common_steps}
-use Rattle.map_board.proofs.renewing.may_name.Goals as goal
-
-pub returns-in-Grid : goal.returns-in-Grid
-returns-in-Grid c = grind (arith, common_steps)

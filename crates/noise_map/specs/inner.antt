@@ -1,0 +1,6 @@
+-- What stands between the code and the definitions.
+pub mod Crews
+pub mod FirstLine
+pub mod Progress
+pub mod Rows
+pub mod Steps

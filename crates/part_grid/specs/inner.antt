@@ -1,0 +1,4 @@
+-- What stands between the code and the definitions.
+pub mod Index
+pub mod Marks
+pub mod Register

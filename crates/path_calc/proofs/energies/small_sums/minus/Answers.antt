@@ -1,0 +1,15 @@
+use Rattle.std.proofs.Common.{◌∙◌}
+use Rattle.fix_interval.specs.Values.{neg_of}
+use Rattle.fix_interval.proofs.Intervals.{IsInterval-add_of, IsInterval-neg_of}
+use Rattle.path_calc.proofs.SmallEnds.{minus-found}
+use Rattle.path_calc.proofs.energies.small_sums.minus.Goals as goal
+
+pub of_ends-requires : goal.of_ends-requires
+of_ends-requires c =
+    rw (minus-found c.args.a c.args.b c.ends-low.result.0 c.ends-low.result.1 c.ends-other_low.result.0 c.ends-other_low.result.1 c.ends-low.ensures.low c.ends-low.ensures.high c.ends-other_low.ensures.low c.ends-other_low.ensures.high c.ends-low.ensures.small_low c.ends-low.ensures.small_high c.ends-other_low.ensures.small_low c.ends-other_low.ensures.small_high)
+    (IsInterval-add_of c.args.a (neg_of c.args.b) c.ends-low.ensures.interval (IsInterval-neg_of c.args.b c.ends-other_low.ensures.interval))
+
+pub returns : goal.returns
+returns c =
+    c.of_ends.ensures
+    ∙ minus-found c.args.a c.args.b c.ends-low.result.0 c.ends-low.result.1 c.ends-other_low.result.0 c.ends-other_low.result.1 c.ends-low.ensures.low c.ends-low.ensures.high c.ends-other_low.ensures.low c.ends-other_low.ensures.high c.ends-low.ensures.small_low c.ends-low.ensures.small_high c.ends-other_low.ensures.small_low c.ends-other_low.ensures.small_high

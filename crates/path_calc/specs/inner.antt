@@ -1,0 +1,8 @@
+-- What stands between the code and the definitions.
+pub mod Prepared
+pub mod Hearing
+pub mod Losses
+pub mod Propagations
+pub mod Ranges
+pub mod Strings
+pub mod Tracing

@@ -1,0 +1,100 @@
+//! The calculation of a bundle.
+ghost use Rattle.std.specs.Prelude.{◌≡◌, ◌+◌, map, IfOk};
+ghost use Rattle.scene_parts.specs.Sides.{sides_of};
+ghost use Rattle.part_grid.specs.Numbered.{numbered};
+ghost use Rattle.path_calc.specs.Bundles.{bundle_of};
+ghost use Rattle.path_calc.specs.Prepared.{prepared_of};
+
+use crate::bundles::Bundle;
+use crate::bundles::segments::Segs;
+use crate::bundles::steps::Steps;
+use crate::energies::path_energies;
+use crate::indexed::IndexedScene;
+use crate::prepared::{PreparedReceiver, PreparedSource};
+use part_grid::{Found, Grid};
+use scene_book::Scene;
+use scene_parts::{Name, NoMemory, PointSource, Receiver};
+use std::alloc::Global;
+use std::sync::ledger::Ledger;
+
+/// All that a receiver has from a source of a scene. One step is counted, also where there is no memory for the name or
+/// for what screens the path.
+pub fn bundle<L: Ledger>(
+    alloc: Global,
+    scene: &Scene,
+    source: &PointSource,
+    receiver: &Receiver,
+    steps: &mut Steps<L>,
+) -> Result<Bundle, NoMemory>
+    ensures value { IfOk result (λ bundle. bundle ≡ bundle_of scene.now source.now receiver.now) }
+    ensures step { steps.new ≡ steps.old + 1 }
+{
+    prepared_bundle(alloc, &IndexedScene::plain(scene), source, receiver, steps)
+}
+
+/// The same, by an index of all sides of the obstacles of the scene.
+pub fn bundle_near<L: Ledger>(
+    alloc: Global,
+    grid: &Grid,
+    scene: &Scene,
+    source: &PointSource,
+    receiver: &Receiver,
+    steps: &mut Steps<L>,
+) -> Result<Bundle, NoMemory>
+    requires stands { grid.now ≡ numbered (map sides_of scene.now.obstacles) }
+    ensures value { IfOk result (λ bundle. bundle ≡ bundle_of scene.now source.now receiver.now) }
+    ensures step { steps.new ≡ steps.old + 1 }
+{
+    let scene = IndexedScene::by(scene, grid);
+    prepared_bundle(alloc, &scene, source, receiver, steps)
+}
+
+/// The same, of a source and a receiver that aren't prepared yet.
+fn prepared_bundle<L: Ledger>(
+    alloc: Global,
+    scene: &IndexedScene<'_>,
+    source: &PointSource,
+    receiver: &Receiver,
+    steps: &mut Steps<L>,
+) -> Result<Bundle, NoMemory>
+    ensures value { IfOk result (λ bundle. bundle ≡ bundle_of scene.now source.now receiver.now) }
+    ensures step { steps.new ≡ steps.old + 1 }
+{
+    let from = PreparedSource::of(source);
+    let to = PreparedReceiver::of(receiver);
+    let mut found = Found::new(alloc);
+    bundle_between(
+        alloc, scene, source, &from, receiver, &to, &mut found, steps,
+    )
+}
+
+/// The same, of a source and a receiver that are prepared: once, and not for each of their paths. The buffers are lent to
+/// the search by the index.
+pub fn bundle_between<L: Ledger>(
+    alloc: Global,
+    scene: &IndexedScene<'_>,
+    source: &PointSource,
+    from: &PreparedSource,
+    receiver: &Receiver,
+    to: &PreparedReceiver,
+    found: &mut Found,
+    steps: &mut Steps<L>,
+) -> Result<Bundle, NoMemory>
+    requires source { from.now ≡ prepared_of source.now }
+    requires receiver { to.now ≡ receiver.now.h }
+    ensures value { IfOk result (λ bundle. bundle ≡ bundle_of scene.now source.now receiver.now) }
+    ensures step { steps.new ≡ steps.old + 1 }
+{
+    steps.tick();
+    let name = Name::from_vec(source.name.items().to_vec(alloc)?);
+    let mut segs = Segs::new(alloc);
+    let energies = path_energies(alloc, scene, source, from, receiver, to, found, &mut segs)?;
+    Ok(Bundle {
+        source: name,
+        at: source.at,
+        h: source.h,
+        segs,
+        energy: energies.bands,
+        long: energies.long,
+    })
+}

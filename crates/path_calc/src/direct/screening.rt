@@ -1,0 +1,146 @@
+//! By how much a path is screened over the top: the direct one, or the legs of a reflection.
+ghost use Rattle.std.specs.Prelude.{◌≡◌, map, IfOk, OnOk, All};
+ghost use Rattle.scene_parts.specs.Crossings.{is_crossing_in};
+ghost use Rattle.term_barrier.specs.Edges.{FitsEdge};
+ghost use Rattle.term_barrier.specs.Limits.{IsGroundEffect, IsScreening};
+ghost use Rattle.path_calc.specs.inner.Hearing.{edges_among, bar_over, bars_over, where_asked, is_asked};
+
+use fix_interval::{Iv, exact};
+use path_shape::Path;
+use scene_geom::Band;
+use scene_parts::{Crossing, Edge, NoMemory};
+use std::alloc::Global;
+use term_barrier::Screens;
+
+/// A_bar of a path in each band that is asked for (ISO 9613-2, 7.4), of the crossings of its line of sight, where its length
+/// and A_gr in each band are known: 0 dB where nothing crosses it, and in the bands that nobody asks for. What the bands share
+/// of the edges is calculated once.
+pub(crate) fn over_top(
+    alloc: Global,
+    crossings: &[Crossing],
+    path: &Path,
+    distance: Iv,
+    ground: &[Iv; 8],
+    asked: &[bool; 8],
+) -> Result<[Iv; 8], NoMemory>
+    requires edges { All (λ crossing. FitsEdge crossing.edge) crossings.now }
+    requires ground { All IsGroundEffect ground.now }
+    ensures value { IfOk result (λ bars. bars ≡ bars_over path.now
+        (λ band. edges_among band crossings.now) distance ground.now (is_asked asked.now)) }
+    ensures bounds { IfOk result (All IsScreening) }
+{
+    if crossings.is_empty() {
+        return Ok([exact(0); 8]);
+    }
+    let edges = edges(alloc, crossings)?;
+    let screens = Screens::of(alloc, path, edges.as_slice(), distance)?;
+    bars(alloc, crossings, &screens, ground, asked)
+}
+
+/// A_bar in each band that is asked for, of the crossings that count there. The bands share the memory of the marks.
+fn bars(
+    alloc: Global,
+    crossings: &[Crossing],
+    screens: &Screens,
+    ground: &[Iv; 8],
+    asked: &[bool; 8],
+) -> Result<[Iv; 8], NoMemory>
+    requires edges { screens.now.edges ≡ map (λ crossing. crossing.edge) crossings.now }
+    requires ground { All IsGroundEffect ground.now }
+    ensures value { IfOk result (λ bars. bars ≡ bars_over screens.now.path
+        (λ band. edges_among band crossings.now) screens.now.d ground.now (is_asked asked.now)) }
+    ensures bounds { IfOk result (All IsScreening) }
+{
+    let marks = &mut Vec::with_capacity(alloc, crossings.len())?;
+    bars_in_turn(marks, crossings, screens, ground, asked)
+}
+
+/// A_bar in each band that is asked for, of the crossings that count there, where the memory of the marks is lent to one
+/// band after the other.
+fn bars_in_turn(
+    marks: &mut Vec<bool>,
+    crossings: &[Crossing],
+    screens: &Screens,
+    ground: &[Iv; 8],
+    asked: &[bool; 8],
+) -> Result<[Iv; 8], NoMemory>
+    requires edges { screens.now.edges ≡ map (λ crossing. crossing.edge) crossings.now }
+    requires ground { All IsGroundEffect ground.now }
+    ensures value { IfOk result (λ bars. bars ≡ bars_over screens.now.path
+        (λ band. edges_among band crossings.now) screens.now.d ground.now (is_asked asked.now)) }
+    ensures bounds { IfOk result (All IsScreening) }
+{
+    let at_63 = bar_asked(marks, crossings, screens, ground, asked, Band::Hz63)?;
+    let at_125 = bar_asked(marks, crossings, screens, ground, asked, Band::Hz125)?;
+    let at_250 = bar_asked(marks, crossings, screens, ground, asked, Band::Hz250)?;
+    let at_500 = bar_asked(marks, crossings, screens, ground, asked, Band::Hz500)?;
+    let at_1000 = bar_asked(marks, crossings, screens, ground, asked, Band::Hz1000)?;
+    let at_2000 = bar_asked(marks, crossings, screens, ground, asked, Band::Hz2000)?;
+    let at_4000 = bar_asked(marks, crossings, screens, ground, asked, Band::Hz4000)?;
+    let at_8000 = bar_asked(marks, crossings, screens, ground, asked, Band::Hz8000)?;
+    Ok([
+        at_63, at_125, at_250, at_500, at_1000, at_2000, at_4000, at_8000,
+    ])
+}
+
+/// A_bar in a band, of the crossings that count there, where the band is asked for.
+fn bar_asked(
+    marks: &mut Vec<bool>,
+    crossings: &[Crossing],
+    screens: &Screens,
+    ground: &[Iv; 8],
+    asked: &[bool; 8],
+    band: Band,
+) -> Result<Iv, NoMemory>
+    requires edges { screens.now.edges ≡ map (λ crossing. crossing.edge) crossings.now }
+    requires ground { All IsGroundEffect ground.now }
+    ensures value { IfOk result (λ bar. bar ≡ where_asked (is_asked asked.now band)
+        (bar_over screens.now.path (edges_among band crossings.now) screens.now.d ground.now band)) }
+    ensures bounds { IfOk result IsScreening }
+{
+    if asked[band.place()] {
+        bar(marks, crossings, screens, ground, band)
+    } else {
+        Ok(exact(0))
+    }
+}
+
+/// A_bar in a band, of the crossings that count there.
+fn bar(
+    marks: &mut Vec<bool>,
+    crossings: &[Crossing],
+    screens: &Screens,
+    ground: &[Iv; 8],
+    band: Band,
+) -> Result<Iv, NoMemory>
+    requires edges { screens.now.edges ≡ map (λ crossing. crossing.edge) crossings.now }
+    requires ground { All IsGroundEffect ground.now }
+    ensures value { IfOk result (λ bar. bar ≡ bar_over screens.now.path
+        (edges_among band crossings.now) screens.now.d ground.now band) }
+    ensures bounds { IfOk result IsScreening }
+{
+    mark(marks, crossings, band)?;
+    Ok(screens.a_bar(marks.as_slice(), ground[band.place()], band))
+}
+
+/// The edges of some crossings.
+fn edges(alloc: Global, crossings: &[Crossing]) -> Result<Vec<Edge>, NoMemory>
+    ensures { IfOk result (λ edges. edges.items ≡ map (λ crossing. crossing.edge) crossings.now) }
+{
+    let mut edges = Vec::with_capacity(alloc, crossings.len())?;
+    for crossing in crossings {
+        edges.push(crossing.edge)?;
+    }
+    Ok(edges)
+}
+
+/// Marks each of some crossings in the place of all marks: whether it counts in a band.
+fn mark(marks: &mut Vec<bool>, crossings: &[Crossing], band: Band) -> Result<(), NoMemory>
+    ensures { OnOk result (marks.new.items ≡ map (is_crossing_in band) crossings.now) }
+{
+    marks.clear();
+    for crossing in crossings {
+        marks.push(crossing.counts_in(band))?;
+    }
+    Ok(())
+}

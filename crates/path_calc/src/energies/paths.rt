@@ -1,0 +1,113 @@
+//! All paths from a source to a receiver: the direct one, those round the sides and those by way of walls.
+ghost use Rattle.std.specs.Prelude.{◌≡◌, ◌++◌, map, IfOk, OnOk};
+ghost use Rattle.path_calc.specs.inner.Hearing.{ArePaths, lateral_at};
+ghost use Rattle.path_calc.specs.Prepared.{prepared_of};
+ghost use Rattle.path_calc.specs.inner.Ranges.{AreInRange, IsLateralScreening};
+ghost use Rattle.path_calc.specs.inner.Strings.{both_of};
+ghost use Rattle.path_calc.specs.Trace.{trace_of};
+
+use crate::bundles::segments::{Seg, Segs};
+use crate::direct::lengths::{direct_square, distance};
+use crate::direct::propagation::{Between, Propagation};
+use crate::indexed::IndexedScene;
+use crate::lateral::{LateralScreening, lateral_screening};
+use crate::prepared::{PreparedReceiver, PreparedSource};
+use crate::reflected::Reflected;
+use part_grid::Found;
+use path_shape::Path;
+use scene_geom::Band;
+use scene_parts::{Ends, NoMemory, PointSource, Receiver};
+use std::alloc::Global;
+
+/// What the bands share of all paths from a source to a receiver: of the direct one, which leads over the top of what
+/// screens it, D_z in dB in each band round the left and the right, where sound goes there (an empty list where nothing
+/// screens), and of those by way of walls.
+#[derive(Drop)]
+pub(crate) struct Paths {
+    pub(crate) direct: Propagation,
+    pub(crate) lateral: Vec<LateralScreening>,
+    pub(crate) reflected: Vec<Reflected>,
+}
+
+/// The paths from a source to a receiver, whose trace is added to a trace. One search finds the edges of all bands on a
+/// path. The buffers are lent to the searches.
+pub(crate) fn paths_between(
+    alloc: Global,
+    scene: &IndexedScene<'_>,
+    source: &PointSource,
+    from: &PreparedSource,
+    receiver: &Receiver,
+    to: &PreparedReceiver,
+    found: &mut Found,
+    trace: &mut Segs,
+) -> Result<Paths, NoMemory>
+    requires source { from.now ≡ prepared_of source.now }
+    requires receiver { to.now ≡ receiver.now.h }
+    ensures value { IfOk result (λ paths. ArePaths paths scene.now source.now receiver.now) }
+    ensures range { IfOk result AreInRange }
+    ensures trace { OnOk result (trace.new ≡ trace.old ++ trace_of scene.now source.now receiver.now) }
+{
+    let ends = Ends {
+        s: source.at,
+        hs: source.h,
+        r: receiver.at,
+        hr: receiver.h,
+    };
+    let between = Between {
+        alloc,
+        scene,
+        ends,
+        from,
+        to,
+    };
+    let path = Path::direct(source.at, source.h, receiver.at, receiver.h);
+    let distance = distance(source.at, source.h, receiver.at, receiver.h);
+    let crossings = scene.crossings(alloc, ends, found)?;
+    let square = direct_square(source.at, receiver.at);
+    let powered = from.powered();
+    let direct = between.along(&path, square, distance, crossings.as_slice(), &powered)?;
+    trace.push(Seg::Straight(source.at, receiver.at))?;
+    let lateral = lateral_screening(
+        alloc,
+        scene,
+        ends,
+        crossings.as_slice(),
+        distance,
+        found,
+        trace,
+    )?;
+    let reflected = between.reflected(found)?;
+    add_walls(trace, reflected.as_slice())?;
+    Ok(Paths {
+        direct,
+        lateral,
+        reflected,
+    })
+}
+
+/// Adds the legs of paths by way of walls to a trace.
+fn add_walls(trace: &mut Segs, reflected: &[Reflected]) -> Result<(), NoMemory>
+    ensures { OnOk result (trace.new ≡ trace.old ++ map (λ path. path.wall) reflected.now) }
+{
+    for path in reflected {
+        trace.push(path.wall())?;
+    }
+    Ok(())
+}
+
+impl Paths {
+    /// The attenuation by screening round the sides in a band.
+    pub(crate) fn lateral_in(&self, band: Band) -> LateralScreening
+        requires { AreInRange self.now }
+        ensures value { both_of result ≡ lateral_at self.now band }
+        ensures bounds { IsLateralScreening result }
+    {
+        match self.lateral.get(band.place()) {
+            Some(lateral) => *lateral,
+            None => LateralScreening {
+                left: None,
+                right: None,
+            },
+        }
+    }
+}

@@ -1,0 +1,237 @@
+//! Paths by way of reflecting walls (ISO 9613-2, 7.5).
+ghost use Rattle.std.specs.Prelude.{◌≡◌, ◌≤◌, ◌<◌, ◌++◌, length, map, slice_get, Some, IfOk, OnOk};
+ghost use Rattle.std.specs.Option.{option_to_list};
+ghost use Rattle.scene_geom.specs.Reflection.{CanReflect};
+ghost use Rattle.scene_parts.specs.Ranges.{IsHeight};
+ghost use Rattle.scene_parts.specs.Sides.{sides_of};
+ghost use Rattle.scene_geom.specs.Reflection.{unfolded};
+ghost use Rattle.scene_book.specs.Limits.{most_sides};
+ghost use Rattle.fix_interval.specs.Tree.{enc};
+ghost use Rattle.image_source.specs.Mirrors.{winding as winding_of};
+ghost use Rattle.path_calc.specs.Contributions.{reflection_level as level_form};
+ghost use Rattle.std.specs.List.{list_any};
+ghost use Rattle.scene_geom.specs.Bands.{all_bands};
+ghost use Rattle.image_source.specs.LegCuts.{leg_crossings_of};
+ghost use Rattle.term_barrier.specs.Limits.{IsDistance};
+ghost use Rattle.path_calc.specs.ReflectedPaths.{path_along, along_legs, reflected_in, reflected_by, reflected_paths};
+ghost use Rattle.path_calc.specs.inner.Hearing.{reflected_of, propagation_along, is_asked, may_be_heard, truth_in, crossings_on};
+ghost use Rattle.path_calc.specs.inner.Propagations.{IsPropagation, IsReflectionLevel};
+
+use crate::bundles::segments::Seg;
+use crate::direct::lengths::reflected_distance;
+use crate::direct::propagation::{Between, Propagation};
+use crate::prepared::PreparedSource;
+use crate::reflected::{Echo, Reflected, Sound};
+use enclose_log::lg;
+use fix_interval::{Iv, Truth, exact, mul, ratio};
+use image_source::{Leg, Mirror, big_enough_in_bands, mirror_by, winding};
+use part_grid::Found;
+use path_shape::Path;
+use scene_geom::{Band, Side};
+use scene_parts::{Crossing, Ends, NoMemory, Obstacle, side_of, sides};
+use std::alloc::Global;
+
+impl<'a> Between<'a> {
+    /// All paths by way of walls, in the order of obstacles and sides. Obstacles that don't reflect are passed over. The
+    /// buffers are lent to the searches of what stands near their legs.
+    pub(crate) fn reflected(&self, near: &mut Found) -> Result<Vec<Reflected>, NoMemory>
+        requires source { self.now.from.now.h ≡ self.now.ends.hs }
+        requires receiver { self.now.to.now ≡ self.now.ends.hr }
+        requires source_height { IsHeight self.now.ends.hs }
+        requires receiver_height { IsHeight self.now.ends.hr }
+        ensures value { IfOk result (λ found. let book = self.now.scene.now in found.items
+            ≡ map (reflected_of book.globals self.now.from.now self.now.ends)
+            (reflected_paths book self.now.ends)) }
+        ensures few { IfOk result (λ found. length found.items ≤ most_sides) }
+    {
+        let mut found = Vec::new(self.alloc);
+        for obstacle in self.scene.obstacles() {
+            self.add_reflected(&mut found, obstacle, near)?;
+        }
+        Ok(found)
+    }
+
+    /// Adds the paths by way of the sides of an obstacle, of which there are none where it doesn't reflect.
+    fn add_reflected(
+        &self,
+        found: &mut Vec<Reflected>,
+        obstacle: &Obstacle,
+        near: &mut Found,
+    ) -> Result<(), NoMemory>
+        requires source { self.now.from.now.h ≡ self.now.ends.hs }
+        requires receiver { self.now.to.now ≡ self.now.ends.hr }
+        requires source_height { IsHeight self.now.ends.hs }
+        requires receiver_height { IsHeight self.now.ends.hr }
+        ensures { OnOk result (let book = self.now.scene.now in found.new.items
+            ≡ found.old.items ++ map (reflected_of book.globals self.now.from.now self.now.ends)
+            (reflected_by book self.now.ends obstacle.now)) }
+    {
+        if obstacle.rho == 0 {
+            return Ok(());
+        }
+        let winding = winding(obstacle);
+        for i in 0..sides(obstacle) {
+            self.add_side(found, obstacle, winding, i, side_of(obstacle, i), near)?;
+        }
+        Ok(())
+    }
+
+    /// Adds the path by way of a side of an obstacle, where the side reflects. Its number is `i`, and it is known how the
+    /// corners of the obstacle go round.
+    fn add_side(
+        &self,
+        found: &mut Vec<Reflected>,
+        obstacle: &Obstacle,
+        winding: i128,
+        i: u32,
+        side: Side,
+        near: &mut Found,
+    ) -> Result<(), NoMemory>
+        requires source { self.now.from.now.h ≡ self.now.ends.hs }
+        requires receiver { self.now.to.now ≡ self.now.ends.hr }
+        requires source_height { IsHeight self.now.ends.hs }
+        requires receiver_height { IsHeight self.now.ends.hr }
+        requires reflects { 0 < obstacle.now.rho }
+        requires winding { winding ≡ winding_of obstacle.now }
+        requires number { i < length (sides_of obstacle.now) }
+        requires side { slice_get (sides_of obstacle.now) i ≡ Some side }
+        ensures { OnOk result (let book = self.now.scene.now in found.new.items
+            ≡ found.old.items ++ map (reflected_of book.globals self.now.from.now self.now.ends)
+            (option_to_list (reflected_in book self.now.ends obstacle.now side))) }
+    {
+        let Ends { s, hs, r, hr } = self.ends;
+        match mirror_by(obstacle, winding, i, s, hs, r, hr) {
+            None => Ok(()),
+            Some(mirror) => {
+                found.push(self.by_way_of(obstacle, side, &mirror, near)?)?;
+                Ok(())
+            }
+        }
+    }
+
+    /// The path by way of a side of an obstacle. In which bands the wall is large enough is asked first: many walls are too
+    /// small in all of them, and along those nothing is calculated. Most sides reflect none, so that the loop over them
+    /// keeps no room for one.
+    #[inline(never)]
+    fn by_way_of(
+        &self,
+        obstacle: &Obstacle,
+        side: Side,
+        mirror: &Mirror,
+        near: &mut Found,
+    ) -> Result<Reflected, NoMemory>
+        requires source { self.now.from.now.h ≡ self.now.ends.hs }
+        requires receiver { self.now.to.now ≡ self.now.ends.hr }
+        requires source_height { IsHeight self.now.ends.hs }
+        requires receiver_height { IsHeight self.now.ends.hr }
+        requires reflects { 0 < obstacle.now.rho }
+        requires wall { CanReflect side self.now.ends.s self.now.ends.r }
+        requires mirror { mirror.now ≡ unfolded side self.now.ends.s self.now.ends.r }
+        ensures value { IfOk result (λ found. let book = self.now.scene.now in found
+            ≡ reflected_of book.globals self.now.from.now self.now.ends
+            (along_legs book self.now.ends obstacle.now side mirror.now)) }
+    {
+        let ends = self.ends;
+        let wall = Seg::Legs(side, ends.s, ends.r);
+        let distance = reflected_distance(mirror.plan2, ends.hs, ends.hr);
+        let counts = big_enough_in_bands(side, obstacle.h, mirror, distance);
+        let asked = heard_in_bands(self.from, &counts);
+        if !is_any(&asked) {
+            return Ok(Reflected::of(wall, Echo::Silent));
+        }
+        let path = self.along_legs(side, mirror, distance, &asked, near)?;
+        let level = reflection_level(obstacle.rho);
+        let sound = Sound {
+            path,
+            level,
+            counts,
+        };
+        Ok(Reflected::of(wall, Echo::Audible(sound)))
+    }
+
+    /// The quantities of the path by way of a side of an obstacle, over a distance in metres, where these bands are asked for.
+    fn along_legs(
+        &self,
+        side: Side,
+        mirror: &Mirror,
+        distance: Iv,
+        asked: &[bool; 8],
+        near: &mut Found,
+    ) -> Result<Propagation, NoMemory>
+        requires source { self.now.from.now.h ≡ self.now.ends.hs }
+        requires receiver { self.now.to.now ≡ self.now.ends.hr }
+        requires source_height { IsHeight self.now.ends.hs }
+        requires receiver_height { IsHeight self.now.ends.hr }
+        requires wall { CanReflect side self.now.ends.s self.now.ends.r }
+        requires mirror { mirror.now ≡ unfolded side self.now.ends.s self.now.ends.r }
+        requires distance { IsDistance distance }
+        ensures value { IfOk result (λ found. let book = self.now.scene.now in found
+            ≡ propagation_along book (path_along self.now.ends mirror.now) mirror.now.square distance
+            (crossings_on (leg_crossings_of mirror.now self.now.ends book.obstacles)) (is_asked asked.now)) }
+        ensures range { IfOk result IsPropagation }
+    {
+        let ends = self.ends;
+        let path = Path::reflected(side, ends.s, ends.hs, ends.r, ends.hr);
+        let legs = self.scene.leg_crossings(self.alloc, mirror, ends, near)?;
+        let crossings = crossings_on_legs(self.alloc, legs.as_slice())?;
+        self.along(&path, mirror.plan2, distance, crossings.as_slice(), asked)
+    }
+}
+
+/// For each band whether something may be heard there of a source by way of a wall, where it is known in which bands the wall
+/// is large enough.
+fn heard_in_bands(source: &PreparedSource, counts: &[Truth; 8]) -> [bool; 8]
+    ensures { result ≡ map (may_be_heard source.now (truth_in counts.now)) all_bands }
+{
+    [
+        is_heard_in(source, counts, Band::Hz63),
+        is_heard_in(source, counts, Band::Hz125),
+        is_heard_in(source, counts, Band::Hz250),
+        is_heard_in(source, counts, Band::Hz500),
+        is_heard_in(source, counts, Band::Hz1000),
+        is_heard_in(source, counts, Band::Hz2000),
+        is_heard_in(source, counts, Band::Hz4000),
+        is_heard_in(source, counts, Band::Hz8000),
+    ]
+}
+
+/// Whether something may be heard in a band: there is power, and the wall isn't known to be too small.
+fn is_heard_in(source: &PreparedSource, counts: &[Truth; 8], band: Band) -> bool
+    ensures { result ≡ may_be_heard source.now (truth_in counts.now) band }
+{
+    source.has_power(band) && !matches!(counts[band.place()], Truth::Never)
+}
+
+/// Whether any band is asked for.
+fn is_any(asked: &[bool; 8]) -> bool
+    ensures { result ≡ list_any (λ band. band) asked.now }
+{
+    for band in asked {
+        if *band {
+            return true;
+        }
+    }
+    false
+}
+
+/// The crossings of both legs, whatever leg each is of.
+fn crossings_on_legs(alloc: Global, legs: &[(Leg, Crossing)]) -> Result<Vec<Crossing>, NoMemory>
+    ensures { IfOk result (λ crossings. crossings.items ≡ crossings_on legs.now) }
+{
+    let mut crossings = Vec::with_capacity(alloc, legs.len())?;
+    for (_, crossing) in legs {
+        crossings.push(*crossing)?;
+    }
+    Ok(crossings)
+}
+
+/// 10 lg rho, of what a wall reflects per mille, in dB.
+#[tactic(auto, unfolding(crate::specs::Contributions::reflection_level))]
+fn reflection_level(rho: u16) -> Iv
+    requires reflects { 0 < rho }
+    requires no_more { rho ≤ 1000 }
+    ensures value { result ≡ enc (level_form rho) }
+    ensures bounds { 200 < rho → IsReflectionLevel result }
+{
+    mul(exact(10), lg(ratio(rho.into(), 1000)))
+}

@@ -1,0 +1,3 @@
+-- What stands between the code and the definitions.
+pub mod ClearWinding
+pub mod Step

@@ -1,0 +1,3 @@
+-- What stands between the code and the definitions.
+pub mod Prepared
+pub mod Reaching

@@ -1,0 +1,59 @@
+-- What stands under the logarithm of two edges, as the code keeps it,
+-- and how far it reaches at most.
+use Rattle.std.specs.Prelude.{Option, Some, None, ℕ, ◌+◌, ◌-◌, ◌*◌, ◌/◌, ◌^◌, pos, unsigned_abs, ◌+ℤ◌, ◌*ℤ◌, ◌≤ℤ◌, unwrap_or, IsSomeAnd}
+use Rattle.std.specs.Int.{int_max, div_ceil}
+use Rattle.fix_interval.specs.Interval.{Interval, open_low, open_high}
+use Rattle.fix_interval.specs.Tree.{Known, Add, Mul, Div, enc}
+use Rattle.scene_geom.specs.Bands.{frequency_of}
+use Rattle.scene_geom.specs.declared.band.Band.{Band}
+use Rattle.term_barrier.specs.declared.pair.apart.Apart.{Apart}
+use Rattle.term_barrier.specs.Diffraction.{whole, c_2, sound_speed, c_2_by_wavelength, five_wavelengths_squared, at_one_edge, three_and, attenuation, single_limit, double_limit}
+
+-- what C_3 takes of the distance e between two edges, and C_3 and (C_2 / λ) C_3 z from it
+abbrev pub apart_of : Interval → Apart
+apart_of e = record {
+  square = enc (Mul (Known e) (Known e));
+  third = enc (Div (Mul (Known e) (Known e)) (whole 3));
+}
+
+abbrev pub known_c_3 : Band → Apart → Interval
+known_c_3 band apart =
+    enc
+    (Div
+    (Add (Known apart.square) (five_wavelengths_squared band))
+    (Add (Known apart.third) (five_wavelengths_squared band)))
+
+abbrev pub two_edges : Band → Apart → Interval → Interval
+two_edges band apart z = enc (Mul (Mul (c_2_by_wavelength band) (Known (known_c_3 band apart))) (Known z))
+
+-- D_z round the corners of a chain of which z is known, and what C_3 takes of e where it has several
+abbrev pub round_value : Option Apart → Interval → Band → Interval
+round_value None z band = enc (attenuation single_limit (Known (enc (three_and (at_one_edge band (Known z))))))
+round_value (Some apart) z band =
+    enc (attenuation double_limit (Known (enc (three_and (Known (two_edges band apart z))))))
+
+-- what stands under the logarithm of two edges, where sound bends over both
+abbrev pub pair_number : Band → Apart → Interval → Interval → Interval
+pair_number band apart z k = enc (three_and (Mul (Known (two_edges band apart z)) (Known k)))
+
+-- three times C_2 / λ, which is rounded up, in units
+unfoldable pub growth_of : Band → ℕ
+growth_of band = 3 * div_ceil (c_2 * frequency_of band * 2 ^ 32) sound_speed
+
+-- what the number is at most, in units: 3 and so much for each unit that z K_met reaches, and 2 units by rounding
+abbrev pub most_number : ℕ → ℕ → ℕ
+most_number growth reach = 3 * 2 ^ 32 + 2 + growth * reach / 2 ^ 32
+
+-- the greatest product of z, which counts as at least 0, and K_met, in units, rounded up
+abbrev pub reach_of : Interval → Interval → ℕ
+reach_of z k =
+    unsigned_abs (int_max (unwrap_or z.hi open_high) (pos 0)) * unsigned_abs (unwrap_or k.hi open_high) / 2 ^ 32 + 1
+
+-- the ends of a square and of its third are so near that C_3 is at most 3 in every band
+abbrev pub IsNear : Interval → Interval → Type 0
+IsNear square third = unwrap_or square.hi open_high ≤ℤ ((pos 3 *ℤ unwrap_or third.lo open_low) +ℤ pos (2 ^ 28 - 1))
+
+-- so many units bound the number of two edges in every band
+abbrev pub IsReach : Apart → Interval → Interval → ℕ → Type 0
+IsReach apart z k reach =
+    (band : Band) → IsSomeAnd (pair_number band apart z k).hi (λ high. high ≤ℤ pos (most_number (growth_of band) reach))

@@ -1,0 +1,86 @@
+//! Pairs of edges over both of which sound may bend.
+
+ghost use Rattle.std.specs.Prelude.{◌≡◌, ◌<◌, ◌+◌, ◌∷◌, [], length, drop, flat_map, All, IfOk, OnOk};
+ghost use Rattle.term_barrier.specs.Screening.{pairs_of, both_ways};
+ghost use Rattle.term_barrier.specs.inner.Prepared.{bend_of, edges_in, risen, Adds, IsSingle};
+
+use crate::pair::Pair;
+use crate::pair::joined::Joined;
+use crate::single::Single;
+use crate::single::bend::Bend;
+use fix_interval::Iv;
+use path_shape::Path;
+use scene_parts::NoMemory;
+use std::alloc::Global;
+
+/// The ordered pairs of edges that rise above the line of sight, but those over which sound never bends: such a pair is at
+/// 0 dB in every band.
+pub(crate) fn prepare_pairs(
+    alloc: Global,
+    path: &Path,
+    singles: &[Single],
+    d: Iv,
+) -> Result<Vec<Joined>, NoMemory>
+    requires { All (IsSingle path.now d) singles.now }
+    ensures { IfOk result (λ pairs. Adds path.now d [] pairs.items
+        (pairs_of (risen 0 (edges_in singles.now)))) }
+{
+    let mut pairs = Vec::new(alloc);
+    for i in 0..singles.len() {
+        let first = &singles[i].bend;
+        if first.edge.above {
+            add_pairs(&mut pairs, path, i, first, singles, d)?;
+        }
+    }
+    Ok(pairs)
+}
+
+/// Adds the pairs of an edge, numbered `i`, and each one behind it in the list, in either order.
+fn add_pairs(
+    pairs: &mut Vec<Joined>,
+    path: &Path,
+    i: usize,
+    first: &Bend,
+    singles: &[Single],
+    d: Iv,
+) -> Result<(), NoMemory>
+    requires index { i < length singles.now }
+    requires first { first.now ≡ bend_of path.now first.now.edge }
+    requires singles { All (IsSingle path.now d) singles.now }
+    ensures { OnOk result (Adds path.now d pairs.old.items pairs.new.items
+        (flat_map (both_ways (i, first.now.edge)) (risen (i + 1) (edges_in (drop (i + 1) singles.now))))) }
+{
+    for j in i + 1..singles.len() {
+        let second = &singles[j].bend;
+        if second.edge.above {
+            add_pair(pairs, path, i, first, j, second, d)?;
+            add_pair(pairs, path, j, second, i, first, d)?;
+        }
+    }
+    Ok(())
+}
+
+/// Adds two edges, numbered `i` and `j`, where sound may bend over both.
+fn add_pair(
+    pairs: &mut Vec<Joined>,
+    path: &Path,
+    i: usize,
+    first: &Bend,
+    j: usize,
+    second: &Bend,
+    d: Iv,
+) -> Result<(), NoMemory>
+    requires first { first.now ≡ bend_of path.now first.now.edge }
+    requires second { second.now ≡ bend_of path.now second.now.edge }
+    ensures { OnOk result (Adds path.now d pairs.old.items pairs.new.items
+        (((i, first.now.edge), (j, second.now.edge)) ∷ [])) }
+{
+    if let Some(pair) = Pair::of(path, first, second, d) {
+        pairs.push(Joined {
+            first: i,
+            second: j,
+            pair,
+        })?;
+    }
+    Ok(())
+}

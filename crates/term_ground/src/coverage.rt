@@ -1,0 +1,5 @@
+//! How much of each region lies in zones of ground, and the ground factors that come of it.
+
+pub(crate) mod covering;
+pub(crate) mod lengths;
+pub(crate) mod share;

@@ -1,0 +1,108 @@
+//! How much of each region of a path lies in a zone of ground.
+
+ghost use Rattle.std.specs.Prelude.{◌≡◌, [], ◌∷◌};
+ghost use Rattle.scene_geom.specs.Direction.{FitsDirection};
+ghost use Rattle.path_shape.specs.declared.path.Path.{Path};
+ghost use Rattle.path_shape.specs.inner.Stretches.{walked};
+ghost use Rattle.term_ground.specs.inner.Walks.{lengths_along, advanced};
+ghost use Rattle.term_ground.specs.inner.Walks.{IsRoute, lengths_on_leg, lengths_on_path, joined_lengths};
+ghost use Rattle.term_ground.specs.inner.Walks.{sums_of};
+ghost use Rattle.term_ground.specs.inner.Walks as walks;
+
+use crate::legs::leg::{Leg, Route};
+use crate::legs::stretch::{Regional, Stretches};
+use fix_interval::{add, exact, neg};
+use path_shape::{fold_passages, place, turns_right};
+use scene_geom::{Dir, Passage, Pt, meets};
+
+/// How much of each region of a path an outline holds. None where the outline meets no leg.
+pub(crate) fn lengths_on(outline: &[Pt], route: &Route) -> Option<Regional>
+    ensures { (path : Path) → IsRoute route.now path → result ≡ lengths_on_path outline.now path }
+{
+    let first = on_leg(outline, &route.first);
+    match &route.second {
+        None => first,
+        Some(leg) => joined(first, on_leg(outline, leg)),
+    }
+}
+
+/// How much of each region an outline holds on a leg. None where the outline doesn't meet the leg.
+fn on_leg(outline: &[Pt], leg: &Leg) -> Option<Regional>
+    ensures { result ≡ lengths_on_leg outline.now leg.now }
+{
+    if meets(outline, leg.start, leg.dir, leg.end) {
+        Some(lengths_inside(outline, leg.start, leg.dir, &leg.stretches))
+    } else {
+        None
+    }
+}
+
+/// The lengths on both legs, of which one that isn't met adds nothing.
+fn joined(first: Option<Regional>, second: Option<Regional>) -> Option<Regional>
+    ensures { result ≡ joined_lengths first second }
+{
+    match (first, second) {
+        (None, None) => None,
+        (first, second) => Some(sums(first.unwrap_or(nothing()), second.unwrap_or(nothing()))),
+    }
+}
+
+fn sums(first: Regional, second: Regional) -> Regional
+    ensures { result ≡ sums_of first second }
+{
+    Regional {
+        source: add(first.source, second.source),
+        middle: add(first.middle, second.middle),
+        receiver: add(first.receiver, second.receiver),
+    }
+}
+
+/// No length of any region.
+fn nothing() -> Regional
+    ensures { result ≡ walks.nothing }
+{
+    let zero = exact(0);
+    Regional {
+        source: zero,
+        middle: zero,
+        receiver: zero,
+    }
+}
+
+/// How much of each region an outline holds, on a line from a point along a direction.
+fn lengths_inside(outline: &[Pt], from: Pt, dir: Dir, stretches: &Stretches) -> Regional
+    requires { FitsDirection dir }
+    ensures { result ≡ lengths_along outline.now from dir stretches.now }
+{
+    let lengths = fold_passages(
+        outline,
+        from,
+        dir,
+        nothing(),
+        |lengths: Regional, passage: Passage| -> Regional
+            ensures { result ≡ advanced (walked (passage ∷ [])) lengths stretches.entry.now }
+        { with_passage(lengths, passage, stretches) },
+    );
+    if turns_right(outline) {
+        Regional {
+            source: neg(lengths.source),
+            middle: neg(lengths.middle),
+            receiver: neg(lengths.receiver),
+        }
+    } else {
+        lengths
+    }
+}
+
+/// The lengths with what a passage adds or takes off.
+fn with_passage(lengths: Regional, passage: Passage, stretches: &Stretches) -> Regional
+    ensures { result ≡ advanced (walked (passage ∷ [])) lengths stretches.now }
+{
+    let at = place(passage.place);
+    let to_left = passage.to_left;
+    Regional {
+        source: stretches.source.counted(lengths.source, at, to_left),
+        middle: stretches.middle.counted(lengths.middle, at, to_left),
+        receiver: stretches.receiver.counted(lengths.receiver, at, to_left),
+    }
+}

@@ -1,0 +1,119 @@
+//! The ground factors of the regions of a path.
+
+ghost use Rattle.std.specs.Prelude.{◌≡◌, [], ◌∷◌};
+ghost use Rattle.fix_interval.specs.Tree.{Known, Pick, Max, Min, Add, enc};
+ghost use Rattle.path_shape.specs.Shape.{IsPath};
+ghost use Rattle.path_shape.specs.declared.path.Path.{Path};
+ghost use Rattle.path_shape.specs.Forms.{zero_form, one_form};
+ghost use Rattle.term_ground.specs.Lengths as form;
+ghost use Rattle.term_ground.specs.Regions.{share_of, known_share};
+ghost use Rattle.term_ground.specs.Regions as regions;
+ghost use Rattle.term_ground.specs.declared.legs.region.Region.TheVariants.{Source, Middle, Receiver};
+ghost use Rattle.term_ground.specs.inner.Walks.{IsRoute, with_zones, same, term_of};
+
+use crate::coverage::covering::lengths_on;
+use crate::coverage::lengths::factor;
+use crate::legs::leg::Route;
+use crate::legs::region::Region;
+use crate::legs::route::route_of;
+use crate::legs::stretch::{Regional, Stretches, middle_from};
+use fix_interval::{Iv, add, div, exact, less, max, min, mul, pick, sub};
+use path_shape::{Path, Stretch};
+use scene_parts::Zone;
+
+/// The ground factor G of a region of a path (ISO 9613-2, 7.3.1), from 0 to 1: the part of it that is porous, where a
+/// zone is porous by its own factor and the ground outside of zones by `g0` hundredths.
+pub fn region_share(zones: &[Zone], g0: u8, path: &Path, region: Region) -> Iv
+    requires { IsPath path.now }
+    ensures { result ≡ enc (share_of region zones.now g0 path.now (Known path.now.dp)) }
+{
+    let all = shares(zones, g0, path);
+    match region {
+        Region::Source => all.source,
+        Region::Middle => all.middle,
+        Region::Receiver => all.receiver,
+    }
+}
+
+/// The ground factors of the three regions.
+pub(crate) fn shares(zones: &[Zone], g0: u8, path: &Path) -> Regional
+    requires { IsPath path.now }
+    ensures source { result.source ≡ known_share Source zones.now g0 path.now }
+    ensures middle { result.middle ≡ known_share Middle zones.now g0 path.now }
+    ensures receiver { result.receiver ≡ known_share Receiver zones.now g0 path.now }
+{
+    let outside = factor(g0);
+    if zones.is_empty() && g0 <= 100 {
+        return alike(outside);
+    }
+    let sums = sums(zones, outside, path);
+    let zero = exact(0);
+    Regional {
+        source: share(sums.source, outside, zero, path.dp),
+        middle: share(sums.middle, outside, middle_from(path), path.dp),
+        receiver: share(sums.receiver, outside, zero, path.dp),
+    }
+}
+
+/// The same quantity for each region.
+fn alike(quantity: Iv) -> Regional
+    ensures { result ≡ same quantity }
+{
+    Regional {
+        source: quantity,
+        middle: quantity,
+        receiver: quantity,
+    }
+}
+
+/// A sum kept within 0 and 1, where the plan length is greater than a limit, and else the ground factor outside of zones.
+fn share(sum: Iv, outside: Iv, limit: Iv, dp: Iv) -> Iv
+    ensures { result
+        ≡ enc (Pick (Known dp) (Known limit) (Max zero_form (Min one_form (Known sum))) (Known outside)) }
+{
+    pick(less(limit, dp), max(exact(0), min(exact(1), sum)), outside)
+}
+
+/// The ground factor outside of zones and what each zone that meets the path adds to it in each region.
+fn sums(zones: &[Zone], outside: Iv, path: &Path) -> Regional
+    requires { IsPath path.now }
+    ensures { result ≡ with_zones zones.now outside path.now (same outside) }
+{
+    let mut total = alike(outside);
+    let route = route_of(path);
+    for zone in zones {
+        total = with_zone(total, zone, outside, &route);
+    }
+    total
+}
+
+/// The sums with what a zone adds to them, which is nothing where it doesn't meet the path.
+fn with_zone(total: Regional, zone: &Zone, outside: Iv, route: &Route) -> Regional
+    ensures { (path : Path) → IsRoute route.now path
+        → result ≡ with_zones (zone.now ∷ []) outside path total }
+{
+    let Some(lengths) = lengths_on(zone.points.items(), route) else {
+        return total;
+    };
+    let difference = sub(factor(zone.g), outside);
+    let Stretches {
+        source,
+        middle,
+        receiver,
+    } = route.stretches;
+    Regional {
+        source: with_term(total.source, difference, lengths.source, source),
+        middle: with_term(total.middle, difference, lengths.middle, middle),
+        receiver: with_term(total.receiver, difference, lengths.receiver, receiver),
+    }
+}
+
+/// A sum with the term of a zone: the difference that it makes over a length, as a part of the whole stretch.
+fn with_term(sum: Iv, difference: Iv, length: Iv, stretch: Stretch) -> Iv
+    ensures { result ≡ enc (Add (Known sum) (term_of difference length stretch)) }
+{
+    add(
+        sum,
+        div(mul(difference, length), sub(stretch.to, stretch.from)),
+    )
+}
