@@ -156,8 +156,37 @@ fn put_on_both<R: Threads + Sync>(
     Some((stale, same))
 }
 
-// The same on settled boards of so many sources, and receivers in so many columns and rows. What may fail borrows the boards,
-// since each way out of a function that owns one is proved for itself.
+// Fills both boards alike, with so many sources, and receivers in so many columns and rows.
+fn fill_both(
+    alloc: Global,
+    one: &mut Board,
+    other: &mut Board,
+    sources: u8,
+    columns: i64,
+    rows: i64,
+) -> Option<()> {
+    fill(alloc, one, sources, columns, rows)?;
+    fill(alloc, other, sources, columns, rows)
+}
+
+// The same on a board that is lent and one that is made for it, both filled so. What may fail borrows the boards, and each
+// function owns one at most, since each way out of a function that owns one is proved for itself.
+fn put_beside<R: Threads + Sync>(
+    rt: &R,
+    alloc: Global,
+    one: &mut Board,
+    sources: u8,
+    columns: i64,
+    rows: i64,
+) -> Option<(u32, bool)> {
+    let mut other = Board::new(alloc).ok()?;
+    match fill_both(alloc, one, &mut other, sources, columns, rows) {
+        Some(()) => put_on_both(rt, alloc, one, &mut other),
+        None => None,
+    }
+}
+
+// The same on two boards that are made for it.
 fn put_twice<R: Threads + Sync>(
     rt: &R,
     alloc: Global,
@@ -166,14 +195,7 @@ fn put_twice<R: Threads + Sync>(
     rows: i64,
 ) -> Option<(u32, bool)> {
     let mut one = Board::new(alloc).ok()?;
-    let mut other = Board::new(alloc).ok()?;
-    match (
-        fill(alloc, &mut one, sources, columns, rows),
-        fill(alloc, &mut other, sources, columns, rows),
-    ) {
-        (Some(()), Some(())) => put_on_both(rt, alloc, &mut one, &mut other),
-        _ => None,
-    }
+    put_beside(rt, alloc, &mut one, sources, columns, rows)
 }
 
 #[test]
