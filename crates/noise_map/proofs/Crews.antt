@@ -13,7 +13,7 @@ use Rattle.turn_lock.specs.Standing.{all_parts, first_standing, newcomer, taken_
 use Rattle.turn_lock.proofs.Histories.{begins_self, begins_trans}
 use Rattle.receiver_workers.specs.declared.ended.Ended.{Ended}
 use Rattle.receiver_workers.specs.declared.ended.Ended.TheVariants as ends
-use Rattle.receiver_workers.specs.inner.Working.{HasWorked, Worked}
+use Rattle.receiver_workers.specs.Working.{HasWorked, Worked}
 use Rattle.receiver_workers.specs.declared.calls.Taken.TheVariants as taken
 use Rattle.receiver_workers.specs.declared.calls.SeatCall.{SeatCall}
 use Rattle.receiver_workers.specs.declared.calls.SeatCall.TheVariants as worker_calls

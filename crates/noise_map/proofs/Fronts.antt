@@ -8,7 +8,8 @@ use Rattle.std.specs.Prelude.{Result, Ok, Err}
 use Rattle.map_io.specs.Putting.{TakesPart}
 use Rattle.noise_map.specs.declared.lines.stopped.Stopped.{Stopped}
 use Rattle.noise_map.specs.declared.lines.stopped.Stopped.TheVariants.{WriteFault, NoMemory}
-use Rattle.noise_map.specs.Taking.{joined, IsBegun, TakesFront, Takes}
+use Rattle.noise_map.specs.Taking.{joined, IsBegun, TakesFront}
+use Rattle.noise_map.specs.inner.Writing.{Takes}
 
 pub joined-append : (a b : List (List ℕ)) → joined (a ++ b) ≡ joined a ++ joined b
 joined-append a b = flat_map-append (λ row. row) a b

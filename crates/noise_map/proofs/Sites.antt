@@ -34,7 +34,8 @@ use Rattle.noise_map.specs.inner.Steps.{HasMet}
 use Rattle.noise_map.proofs.Ways.{looks_in-append, looks_in-one}
 use Rattle.noise_map.proofs.KeptVersions.{all-each}
 use Rattle.noise_map.proofs.Meeting.{no-looks}
-use Rattle.noise_map.specs.Making.{no_level, widened, total_in, span_in, Made, made_showing, made_with, making_of, span_with, span_of_rows, made_with_answer, made_after, made_by, nothing_made, site_lines, site_made, site_row, MakesRow}
+use Rattle.noise_map.specs.Making.{no_level, widened, total_in, span_in, Made, made_showing, made_with, making_of, made_after, made_by, nothing_made, site_lines, site_made, site_row, MakesRow}
+use Rattle.noise_map.specs.inner.Adding.{span_with, span_of_rows, made_with_answer}
 use Rattle.noise_map.specs.declared.run.status.Status.{Status}
 use Rattle.noise_map.specs.inner.Progress.{status_at_end, Did, HasEnded, SiteEnded}
 use Rattle.noise_map.specs.declared.run.status.Status.TheVariants as status

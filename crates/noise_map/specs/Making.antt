@@ -1,5 +1,5 @@
 -- What the lines of a generated site come to, and the one row that tells it.
-use Rattle.std.specs.Prelude.{◌≡◌, ℕ, ◌+◌, ◌<◌, ◌≤◌, pos, List, [], ◌∷◌, map, take, fold, length, Option, Some, None, unwrap_or, Result, Ok, Err}
+use Rattle.std.specs.Prelude.{◌≡◌, ℕ, ◌+◌, ◌<◌, ◌≤◌, pos, List, [], ◌∷◌, map, take, fold, length, Option, Some, None, unwrap_or}
 use Rattle.std.specs.Io.KnownBytes.{Appends}
 use Rattle.fix_interval.specs.Interval.{Interval}
 use Rattle.fix_interval.specs.Values.{hull_of}
@@ -8,23 +8,16 @@ use Rattle.scene_book.specs.Book.{Book}
 use Rattle.path_calc.specs.Show.{show_of}
 use Rattle.map_io.specs.Lines.{lines}
 use Rattle.map_board.specs.Journal.{newest_scene}
-use Rattle.map_board.specs.declared.answers.Shown.{Shown}
-use Rattle.map_board.specs.declared.answers.Shown.TheVariants.{Current}
-use Rattle.map_board.specs.declared.looks.LookRow.{LookRow}
 use Rattle.map_lock.specs.Seats.{BoardSeat}
 use Rattle.map_text.specs.Rows.{made_row}
 use Rattle.site_maker.specs.Site.{site_text}
 use Rattle.noise_map.specs.declared.make.making.Making.{Making}
-use Rattle.noise_map.specs.declared.lines.answer.Answer.{Answer}
-use Rattle.noise_map.specs.declared.lines.answer.Answer.TheVariants.{Nothing, Refused, Settled, Looked, Contoured}
 use Rattle.noise_map.specs.declared.lines.stopped.Stopped.TheVariants as stops
 use Rattle.noise_map.specs.declared.run.status.Status.{Status}
 use Rattle.noise_map.specs.declared.run.status.Status.TheVariants as status
-use Rattle.noise_map.specs.declared.run.editor.Editor.{Editor}
 use Rattle.noise_map.specs.Demands.{demand_of}
 use Rattle.noise_map.specs.Effects.{Display, silent, refused, settled, known, contoured, Past, no_past, Effect, effect_of, past_with}
 use Rattle.noise_map.specs.Histories.{HasHistory}
-use Rattle.noise_map.specs.inner.Steps.{past_of, HasMet, HasFollowed, HasFailed}
 use Rattle.noise_map.specs.Taking.{TakesFront}
 
 -- ---- the levels of a settle
@@ -89,32 +82,6 @@ making_of made = record {
   receivers = made.receivers;
   span = made.span;
 }
-
--- the levels so far and those of one more row that is current
-abbrev pub span_with : Option Interval → Shown → Option Interval
-span_with span (Current levels) = widened span levels.total
-span_with span shown = span
-
--- those of all rows that are current, and 0 dB where there is none
-unfoldable pub span_of_rows : List LookRow → Interval
-span_of_rows rows = unwrap_or (fold (λ span (row : LookRow). span_with span row.shown) None rows) no_level
-
--- what one more answer adds
-abbrev pub made_with_answer : Making → Answer → Making
-made_with_answer making Nothing = making
-made_with_answer making (Refused fault) = record making { refused = making.refused + 1 }
-made_with_answer making (Settled look) = record making { receivers = length look.rows; span = span_of_rows look.rows }
-made_with_answer making (Looked look) = making
-made_with_answer making (Contoured contour look) = making
-
--- a line was done at the board and its answer added, or it lacked memory
-abbrev pub AddsLine : {X E : Type 0} → Result X E → Editor → Making → List ℕ → Editor → Making → Type 0
-AddsLine (Ok done) before making line after next =
-    let effect = effect_of (past_of before) (demand_of line) in
-    (answer : Answer) × HasMet before.seat effect answer after.seat × HasFollowed before effect after
-    × (next ≡ made_with_answer making answer)
-AddsLine (Err want) before making line after next =
-    HasFailed before.seat (effect_of (past_of before) (demand_of line)) after.seat
 
 -- The row that tells it: the last version, the number of the site, how many lines were refused, and of the last settle
 -- how many receivers there are and their levels

@@ -1,7 +1,6 @@
 -- What a line that was done, or was broken off, has left in the sink and at the board.
-use Rattle.std.specs.Prelude.{◌≡◌, ◌<◌, ℕ, List, [], ◌∷◌, ◌++◌, length, flat_map, Option, Result, Ok, Err, OnOk, IsErrOf}
+use Rattle.std.specs.Prelude.{◌≡◌, ◌<◌, ℕ, List, [], ◌∷◌, ◌++◌, length, flat_map, Option}
 use Rattle.std.specs.Io.KnownBytes.{Appends}
-use Rattle.map_io.specs.Causes.{Rose}
 use Rattle.noise_map.specs.declared.lines.stopped.Stopped.{Stopped}
 use Rattle.noise_map.specs.declared.lines.stopped.Stopped.TheVariants.{WriteFault, NoMemory}
 
@@ -24,14 +23,3 @@ pub record TakesFront (stopped : Stopped) (before after : Option (List ℕ)) (ro
   pub parts : rows ≡ front ++ rest
   pub begun : IsBegun stopped part rest
   pub taken : Appends before after (joined front ++ part)
-
--- all rows were taken, or a front of them
-abbrev pub Takes : {X : Type 0} → Result X Stopped → Option (List ℕ) → Option (List ℕ) → List (List ℕ) → Type 0
-Takes (Ok x) before after rows = Appends before after (joined rows)
-Takes (Err stopped) before after rows = TakesFront stopped before after rows
-
--- The count of the sink's faults rose where a write fault is the answer, and is else as before.
-pub record CausedByWriteFault {X : Type 0} (result : Result X Stopped) (before after : ℕ) : Type 0 where
-  pub done : OnOk result (after ≡ before)
-  pub memory : IsErrOf result NoMemory → after ≡ before
-  pub fault : IsErrOf result WriteFault → Rose before after

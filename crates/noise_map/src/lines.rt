@@ -4,7 +4,7 @@ ghost use Rattle.map_lock.specs.Settling.{HasNotFinished};
 ghost use Rattle.noise_map.specs.Demands.{demand_of};
 ghost use Rattle.noise_map.specs.Texts.{rows_of};
 ghost use Rattle.noise_map.specs.inner.Rows.{ShowsFew};
-ghost use Rattle.noise_map.specs.Taking.{Takes, CausedByWriteFault};
+ghost use Rattle.noise_map.specs.inner.Writing.{Takes, CausedByWriteFault};
 ghost use Rattle.noise_map.specs.inner.Steps.{Knows, MeetsUnlessMemory};
 ghost use Rattle.noise_map.specs.inner.Progress.{ending_of, status_of, IsLineOf, IsTextOf, HasWritten, HasEnded, Ended};
 ghost use Rattle.noise_map.specs.Outcome.{TellsFault};

@@ -4,7 +4,7 @@ ghost use Rattle.std.specs.Option.{option_map};
 ghost use Rattle.path_calc.specs.Levels.{IsLevel};
 ghost use Rattle.map_lock.specs.Settling.{HasNotFinished};
 ghost use Rattle.noise_map.specs.inner.FirstLine.{IsFirstLine};
-ghost use Rattle.noise_map.specs.Making.{AddsLine};
+ghost use Rattle.noise_map.specs.inner.Adding.{AddsLine};
 ghost use Rattle.noise_map.specs.Outcome.{TellsFault};
 ghost use Rattle.noise_map.specs.inner.Steps.{Knows};
 ghost use Rattle.noise_map.specs.inner.Progress.{HasEnded, SiteEnded};

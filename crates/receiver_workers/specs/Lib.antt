@@ -1,2 +1,2 @@
 pub mod Owing
-pub mod inner
+pub mod Working

@@ -1,5 +1,5 @@
 //! One worker.
-ghost use Rattle.receiver_workers.specs.inner.Working.{HasWorked};
+ghost use Rattle.receiver_workers.specs.Working.{HasWorked};
 
 use crate::calls::Taken;
 use crate::desk::Desk;

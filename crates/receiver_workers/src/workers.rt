@@ -2,7 +2,7 @@
 ghost use Rattle.std.specs.Prelude.{◌≡◌, ℕ, ◌+◌, ◌^◌, ◌<◌, length, All};
 ghost use Rattle.std.specs.List.{AllZip};
 ghost use Rattle.std.specs.Thread.{IsSend, IsSync};
-ghost use Rattle.receiver_workers.specs.inner.Working.{Worked};
+ghost use Rattle.receiver_workers.specs.Working.{Worked};
 
 use crate::desk::Desk;
 use crate::worker::work;

@@ -12,8 +12,8 @@ use Rattle.term_barrier.specs.declared.single.Single.{Single}
 use Rattle.term_barrier.specs.declared.pair.joined.Joined.{Joined}
 use Rattle.term_barrier.specs.Diffraction.{at_one_edge, attenuation, ten_lg, double_limit}
 use Rattle.term_barrier.specs.Edges.{single_argument}
-use Rattle.term_barrier.specs.Screening.{Passing, is_above, edges_above, marked, pairs_of, screening}
-use Rattle.term_barrier.specs.inner.Prepared.{single_of, known_argument, known_single, single_is_above, single_value, argument_value, both_value, joint_value, risen, rising_from, edges_in, is_marked, joined_value, numbered_value, are_marked, marked_values, Numbered, IsSingle, IsRaised, IsDecided, ArePrepared, greatest_from, best_alone, best_marked, best_over, best_argument, screened_by}
+use Rattle.term_barrier.specs.Screening.{Passing, is_above, edges_above, marked, pairs_of, screening, edges_in}
+use Rattle.term_barrier.specs.inner.Prepared.{single_of, known_argument, known_single, single_is_above, single_value, argument_value, both_value, joint_value, risen, rising_from, is_marked, joined_value, numbered_value, are_marked, marked_values, Numbered, IsSingle, IsRaised, IsDecided, ArePrepared, greatest_from, best_alone, best_marked, best_over, best_argument, screened_by}
 use Rattle.term_barrier.proofs.Screened.{screening-is}
 use Rattle.term_barrier.proofs.Lists.{map-map, map-same, filter-map, both, each, filter-pairs, map-pairs, marked-map, marked-none, marked-step}
 

@@ -33,8 +33,8 @@ pub struct Screens {
 }
 
 impl Model for Screens {
-    ghost use Rattle.term_barrier.specs.Screening.{Passing};
-    ghost use Rattle.term_barrier.specs.inner.Prepared.{ArePrepared, edges_in};
+    ghost use Rattle.term_barrier.specs.Screening.{Passing, edges_in};
+    ghost use Rattle.term_barrier.specs.inner.Prepared.{ArePrepared};
 
     ghost Value = { Passing };
 

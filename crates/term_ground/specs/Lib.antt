@@ -3,6 +3,7 @@ pub mod Ground
 pub mod Laws
 pub mod Lengths
 pub mod Limits
+pub mod Quantities
 pub mod Regions
 pub mod Zones
 pub mod inner

@@ -1,4 +1,3 @@
 -- What stands between the code and the definitions.
-pub mod Amounts
 pub mod EndRegions
 pub mod Walks

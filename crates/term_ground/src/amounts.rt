@@ -7,7 +7,7 @@ ghost use Rattle.std.specs.Int.{div_ceil};
 ghost use Rattle.fix_interval.specs.Bounds.{AreBetween};
 ghost use Rattle.fix_interval.specs.Tree.{Known, Add, enc};
 ghost use Rattle.fix_interval.specs.Values.{add_of, mul_of};
-ghost use Rattle.term_ground.specs.inner.Amounts.{interval_of};
+ghost use Rattle.term_ground.specs.Quantities.{interval_of};
 ghost use Rattle.term_ground.specs.Ground.{minus_one_and_a_half};
 
 use crate::amounts::amount::Amount;

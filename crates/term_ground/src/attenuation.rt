@@ -4,7 +4,7 @@ ghost use Rattle.std.specs.Prelude.{◌≡◌, ◌<◌, ◌≤◌, ◌^◌, pos,
 ghost use Rattle.fix_interval.specs.Tree.{Known, Add, Const, Mul, enc};
 ghost use Rattle.fix_interval.specs.Bounds.{AreBetween};
 ghost use Rattle.path_shape.specs.Shape.{IsPath};
-ghost use Rattle.term_ground.specs.inner.Amounts.{interval_of};
+ghost use Rattle.term_ground.specs.Quantities.{interval_of};
 ghost use Rattle.term_ground.specs.Ground.{ground, end_region_below_2khz};
 ghost use Rattle.term_ground.specs.Limits.{HasHeights, AreLimited};
 ghost use Rattle.term_ground.specs.inner.EndRegions.{IsEndRegion, no_factor};

@@ -6,7 +6,7 @@ ghost use Rattle.path_shape.specs.Shape.{IsPath};
 ghost use Rattle.term_ground.specs.Ground.{decay_at_125, far_decay_at_125, decay_at_250};
 ghost use Rattle.term_ground.specs.Ground.{decay_at_500, decay_at_1000, near_growth, far_growth};
 ghost use Rattle.term_ground.specs.Ground as form;
-ghost use Rattle.term_ground.specs.inner.Amounts.{IsFactor};
+ghost use Rattle.term_ground.specs.Quantities.{IsFactor};
 
 use crate::amounts::amount::Amount;
 use enclose_exp::exp_neg;

@@ -13,9 +13,9 @@ use Rattle.turn_lock.specs.declared.entry.Entry.{Entry}
 use Rattle.turn_lock.specs.declared.entry.Joined.{Joined}
 use Rattle.turn_lock.specs.declared.view.View.{View}
 use Rattle.turn_lock.specs.History.{Begins, entries_of, IsRun, Lawful, StepRelation, Permission}
-use Rattle.turn_lock.specs.Standing.{Standing, numbers_of, SeatIsSound, IsNew, all_parts}
+use Rattle.turn_lock.specs.Standing.{Standing, numbers_of, SeatIsSound, IsNew, all_parts, standing}
 use Rattle.turn_lock.specs.inner.Rule.{own_claim, claims, uses, parts_of, IsKept, first_view}
-use Rattle.turn_lock.specs.inner.Steps.{standing, names, Knows, with_part_less, HasTurn}
+use Rattle.turn_lock.specs.inner.Steps.{names, Knows, with_part_less, HasTurn}
 use Rattle.turn_lock.specs.inner.Places.{MayEnd}
 use Rattle.turn_lock.proofs.Histories.{begins_none, legal_front, run_none, begins_nil, none_behind}
 use Rattle.turn_lock.proofs.Counts.{one_below, two_below, one_there, differ_from_counts}

@@ -1,8 +1,9 @@
 -- What callers see of a seat, and how each call changes it.
-use Rattle.std.specs.Prelude.{◌≡◌, ◌≢◌, ℕ, ◌+◌, ◌^◌, ◌<◌, ◌≤◌, List, [], ◌∷◌, ◌++◌, map, length, All, AllPairs, Contains, if◌then◌else◌, nat_lt}
+use Rattle.std.specs.Prelude.{◌≡◌, ◌≢◌, ℕ, ◌+◌, ◌^◌, ◌<◌, ◌≤◌, List, [], ◌∷◌, ◌++◌, map, length, All, AllPairs, Contains, unwrap_or, if◌then◌else◌, nat_lt}
 use Rattle.atomic_table.specs.Seated.{TableId}
 use Rattle.turn_lock.specs.declared.entry.Entry.{Entry}
 use Rattle.turn_lock.specs.declared.entry.Joined.{Joined}
+use Rattle.turn_lock.specs.declared.view.View.{View}
 use Rattle.turn_lock.specs.History.{IsLegal, entries_of, entry, StepRelation, Permission}
 
 -- a seat: whose it is, its number, the history that it has seen, its own entries, its parts of the right to know the
@@ -14,6 +15,17 @@ pub record Standing (C R : Type 0) : Type 0 where
   pub mine : List (Entry C R)
   pub parts : ℕ
   pub joined : List (Joined C R)
+
+-- how a seat at this table is seen, of which the proofs know so much
+abbrev pub standing : {C R : Type 0} → TableId → View C R → Standing C R
+standing table known = record {
+  table = table;
+  number = unwrap_or known.name 0;
+  seen = known.seen;
+  mine = known.mine;
+  parts = known.parts;
+  joined = known.joined;
+}
 
 -- all parts together
 abbrev pub all_parts : ℕ

@@ -21,8 +21,7 @@ pub struct Seat<M: Machine> {
 
 impl<M: Machine> Model for Seat<M> {
     ghost use Rattle.std.specs.Prelude.{◌≡◌, []};
-    ghost use Rattle.turn_lock.specs.Standing.{Standing};
-    ghost use Rattle.turn_lock.specs.inner.Steps.{standing};
+    ghost use Rattle.turn_lock.specs.Standing.{Standing, standing};
     ghost use Rattle.turn_lock.specs.inner.Places.{IsSeated};
 
     ghost Value = { Standing M.Call M.Reply };

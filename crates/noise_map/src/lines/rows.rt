@@ -4,7 +4,7 @@ ghost use Rattle.scene_book.specs.Limits.{most_receivers};
 ghost use Rattle.map_text.specs.Rows.{head_row, refused_row, counts_row};
 ghost use Rattle.map_text.specs.Looks.{receiver_rows};
 ghost use Rattle.noise_map.specs.Texts.{look_rows, counts_rows, contour_rows_in};
-ghost use Rattle.noise_map.specs.Taking.{Takes, CausedByWriteFault};
+ghost use Rattle.noise_map.specs.inner.Writing.{Takes, CausedByWriteFault};
 ghost use Rattle.noise_map.specs.inner.Rows.{IsSameSink};
 
 use crate::lines::stopped::Stopped;

@@ -2,7 +2,8 @@
 ghost use Rattle.std.specs.Prelude.{◌≡◌, ◌-◌, ◌<◌, ◌≤◌, ◌^◌, IfOk, IfSome, length, map};
 ghost use Rattle.scene_book.specs.Limits.{most_receivers};
 ghost use Rattle.path_calc.specs.Levels.{IsLevel};
-ghost use Rattle.noise_map.specs.Making.{widened, span_of_rows, made_with_answer, making_of, nothing_made, row_of_making};
+ghost use Rattle.noise_map.specs.Making.{widened, making_of, nothing_made, row_of_making};
+ghost use Rattle.noise_map.specs.inner.Adding.{span_of_rows, made_with_answer};
 ghost use Rattle.noise_map.specs.inner.Rows.{ShowsFew};
 
 use crate::lines::answer::Answer;

@@ -17,7 +17,7 @@ use Rattle.term_barrier.specs.declared.pair.joined.Joined.{Joined}
 use Rattle.term_barrier.specs.Diffraction.{whole, at_one_edge, three_and, attenuation, single_limit, double_limit}
 use Rattle.term_barrier.specs.Edges.{FitsEdge, across, beside, place, rest, rise, distance_to, source_to_edge, single_difference, single_k, single_argument, where_convex, pair_attenuation}
 use Rattle.term_barrier.specs.inner.Reaching.{two_edges}
-use Rattle.term_barrier.specs.Screening.{is_above, edges_above, marked, pairs_of, less_ground, grazing}
+use Rattle.term_barrier.specs.Screening.{edges_in, is_above, edges_above, marked, pairs_of, less_ground, grazing}
 
 -- ---- edges
 
@@ -170,10 +170,6 @@ rises edge = is_above edge.1
 -- the edges that rise above the line of sight, with their numbers among all
 abbrev pub risen : ℕ → List Edge → List (ℕ × Edge)
 risen n edges = filter rises (numbered n edges)
-
--- the edges of what was prepared
-abbrev pub edges_in : List Single → List Edge
-edges_in singles = map (λ single. single.bend.edge) singles
 
 -- a number is marked by true
 abbrev pub is_marked : List Bool → ℕ → Bool

@@ -1,8 +1,8 @@
 //! Pairs of edges over both of which sound may bend.
 
 ghost use Rattle.std.specs.Prelude.{◌≡◌, ◌<◌, ◌+◌, ◌∷◌, [], length, drop, flat_map, All, IfOk, OnOk};
-ghost use Rattle.term_barrier.specs.Screening.{pairs_of, both_ways};
-ghost use Rattle.term_barrier.specs.inner.Prepared.{bend_of, edges_in, risen, Adds, IsSingle};
+ghost use Rattle.term_barrier.specs.Screening.{pairs_of, both_ways, edges_in};
+ghost use Rattle.term_barrier.specs.inner.Prepared.{bend_of, risen, Adds, IsSingle};
 
 use crate::pair::Pair;
 use crate::pair::joined::Joined;

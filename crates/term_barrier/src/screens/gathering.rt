@@ -4,8 +4,8 @@ ghost use Rattle.std.specs.Prelude.{◌≡◌, ◌<◌, ◌+◌, Some, None, len
 ghost use Rattle.fix_interval.specs.Tree.{Known, enc};
 ghost use Rattle.term_barrier.specs.Diffraction.{attenuation, single_limit, double_limit};
 ghost use Rattle.term_barrier.specs.Edges.{FitsEdge};
-ghost use Rattle.term_barrier.specs.Screening.{marked, pairs_of, both_ways};
-ghost use Rattle.term_barrier.specs.inner.Prepared.{edges_in, joint_value, known_argument, rising_from, ArePrepared, IsSingle};
+ghost use Rattle.term_barrier.specs.Screening.{marked, pairs_of, both_ways, edges_in};
+ghost use Rattle.term_barrier.specs.inner.Prepared.{joint_value, known_argument, rising_from, ArePrepared, IsSingle};
 ghost use Rattle.term_barrier.specs.inner.Prepared.{greatest_from, joined_value, marked_values, best_marked, Decides, IsDecided};
 ghost use Rattle.term_barrier.specs.inner.Prepared as prepared;
 

@@ -1,27 +1,15 @@
 -- The kinds of step: what each does to the view of the seat that makes it, and what the seat is told.
-use Rattle.std.specs.Prelude.{◌≡◌, ◌≢◌, ℕ, ◌+◌, ◌-◌, ◌<◌, ◌≤◌, List, [], ◌∷◌, ◌++◌, map, length, All, AllPairs, Contains, Option, Some, None, unwrap_or, if◌then◌else◌, nat_lt, max}
+use Rattle.std.specs.Prelude.{◌≡◌, ◌≢◌, ℕ, ◌+◌, ◌-◌, ◌<◌, ◌≤◌, List, [], ◌∷◌, ◌++◌, map, length, All, AllPairs, Contains, Option, Some, None, if◌then◌else◌, nat_lt, max}
 use Rattle.atomic_table.specs.Table.{Me, Step, rest}
-use Rattle.atomic_table.specs.Seated.{TableId}
 use Rattle.turn_lock.specs.declared.entry.Entry.{Entry}
 use Rattle.turn_lock.specs.declared.view.View.{View}
 use Rattle.turn_lock.specs.declared.view.Phase.{Phase}
 use Rattle.turn_lock.specs.declared.view.Phase.TheVariants.{Free, Waiting, InTurn}
 use Rattle.turn_lock.specs.History.{Begins, entries_of, IsRun, IsLegal, StepRelation, Permission}
-use Rattle.turn_lock.specs.Standing.{Standing, all_parts, longer}
+use Rattle.turn_lock.specs.Standing.{all_parts, longer}
 use Rattle.turn_lock.specs.inner.Rule.{claims}
 
 module _ {C R : Type 0} where
-  -- what callers see of a view
-  abbrev pub standing : TableId → View C R → Standing C R
-  standing table v = record {
-    table = table;
-    number = unwrap_or v.name 0;
-    seen = v.seen;
-    mine = v.mine;
-    parts = v.parts;
-    joined = v.joined;
-  }
-
   abbrev pub in_phase : Phase → View C R → View C R
   in_phase phase v = record v { phase = phase }
 

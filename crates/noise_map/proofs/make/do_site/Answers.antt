@@ -11,7 +11,8 @@ use Rattle.noise_map.specs.Demands.{demand_of}
 use Rattle.noise_map.specs.Effects.{Past, effect_of}
 use Rattle.noise_map.specs.inner.Steps.{past_of}
 use Rattle.noise_map.specs.inner.FirstLine.{IsFirstLine}
-use Rattle.noise_map.specs.Making.{making_of, made_by, made_after, made_with, made_with_answer, site_made, site_lines, site_row, row_of_making}
+use Rattle.noise_map.specs.Making.{making_of, made_by, made_after, made_with, site_made, site_lines, site_row, row_of_making}
+use Rattle.noise_map.specs.inner.Adding.{made_with_answer}
 use Rattle.noise_map.specs.inner.Progress.{Did, HasEnded, SiteEnded}
 use Rattle.noise_map.proofs.Doing.{comes_to, did-more, failed-way}
 use Rattle.noise_map.proofs.Ending.{did-at-start}

@@ -2,7 +2,7 @@ use Rattle.std.proofs.Common.{rules, ap, sym, ◌∙◌}
 use Rattle.fix_interval.specs.Interval.{Interval}
 use Rattle.fix_interval.specs.Tree.{enc}
 use Rattle.fix_interval.specs.Values.{add_of, sub_of, mul_of}
-use Rattle.term_ground.specs.inner.Amounts.{interval_of}
+use Rattle.term_ground.specs.Quantities.{interval_of}
 use Rattle.term_ground.specs.Ground.{minus_one_and_a_half}
 use Rattle.path_shape.specs.Forms.{one_form}
 use Rattle.term_ground.proofs.Factors.{porous-part}

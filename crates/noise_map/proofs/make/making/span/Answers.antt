@@ -3,7 +3,8 @@ use Rattle.std.specs.Prelude.{Option, None, fold, unwrap_or}
 use Rattle.std.proofs.lemmas.List.{take_all}
 use Rattle.fix_interval.specs.Interval.{Interval}
 use Rattle.map_board.specs.declared.looks.LookRow.{LookRow}
-use Rattle.noise_map.specs.Making.{no_level, span_with, span_of_rows}
+use Rattle.noise_map.specs.Making.{no_level}
+use Rattle.noise_map.specs.inner.Adding.{span_with, span_of_rows}
 use Rattle.noise_map.proofs.Sites.{nothing-level, nothing-is_level, known-level}
 use Rattle.noise_map.proofs.make.making.span.Goals as goal
 

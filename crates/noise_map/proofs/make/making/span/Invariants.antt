@@ -3,7 +3,7 @@ use Rattle.std.proofs.Common.{◌≡◌, take}
 use Rattle.std.specs.Prelude.{fold, None, IfSome}
 use Rattle.path_calc.specs.Levels.{IsLevel}
 use Rattle.map_board.specs.declared.looks.LookRow.{LookRow}
-use Rattle.noise_map.specs.Making.{span_with}
+use Rattle.noise_map.specs.inner.Adding.{span_with}
 use Rattle.noise_map.proofs.make.making.span.Given as goal
 
 abbrev pub invariant-loop-row : goal.invariant-loop-row
