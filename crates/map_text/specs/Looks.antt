@@ -12,19 +12,31 @@ use Rattle.map_text.specs.Rows.{current_row, stale_row, new_row, band_row}
 abbrev pub row_of_band : ℕ → List ℕ → Levels → Band → List ℕ
 row_of_band version name levels band = band_row version name band (level_in band levels)
 
--- those of all eight bands, where they are asked for
-abbrev pub band_rows : Bool → ℕ → List ℕ → Levels → List (List ℕ)
-band_rows false version name levels = []
-band_rows true version name levels = map (row_of_band version name levels) all_bands
+-- those of all eight bands
+abbrev pub band_rows : ℕ → List ℕ → Levels → List (List ℕ)
+band_rows version name levels = map (row_of_band version name levels) all_bands
 
--- the row of what is shown of a receiver at a version, and behind it those of the bands of its levels, if it has any
-abbrev pub shown_rows : Bool → ℕ → List ℕ → Shown → List (List ℕ)
-shown_rows bands version name (Current levels) =
-    current_row version name levels.total ∷ band_rows bands version name levels
-shown_rows bands version name (Stale kept by levels) =
-    stale_row kept name by levels.total ∷ band_rows bands kept name levels
-shown_rows bands version name (New since) = new_row since name ∷ []
+-- the row of what is shown of a receiver in a look at a version
+abbrev pub shown_row : ℕ → List ℕ → Shown → List ℕ
+shown_row version name (Current levels) = current_row version name levels.total
+shown_row version name (Stale kept by levels) = stale_row kept name by levels.total
+shown_row version name (New since) = new_row since name
 
--- the rows of a receiver in a look at a version
+-- the rows of the bands of the levels that are shown, if any are, at the version that gave them
+abbrev pub shown_bands : ℕ → List ℕ → Shown → List (List ℕ)
+shown_bands version name (Current levels) = band_rows version name levels
+shown_bands version name (Stale kept by levels) = band_rows kept name levels
+shown_bands version name (New since) = []
+
+-- those, where they are asked for
+abbrev pub bands_asked : Bool → ℕ → List ℕ → Shown → List (List ℕ)
+bands_asked false version name shown = []
+bands_asked true version name shown = shown_bands version name shown
+
+-- the row of a receiver in a look at a version
+abbrev pub receiver_row : ℕ → LookRow → List ℕ
+receiver_row version row = shown_row version row.name row.shown
+
+-- and behind it those of its bands, where they are asked for
 abbrev pub receiver_rows : Bool → ℕ → LookRow → List (List ℕ)
-receiver_rows bands version row = shown_rows bands version row.name row.shown
+receiver_rows bands version row = receiver_row version row ∷ bands_asked bands version row.name row.shown

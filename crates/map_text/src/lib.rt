@@ -15,7 +15,7 @@ pub use csv_rows::{RowText, RowTexts, RowWriter};
 pub use heads::{Head, head_text};
 pub use laws::printed_is_around;
 pub use levels::made_text;
-pub use looks::row_text;
+pub use looks::{receiver_text, row_text};
 pub use refusals::Refusal;
 pub use refused::refused_text;
 pub use scene_parts::NoMemory;

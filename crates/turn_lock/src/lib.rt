@@ -5,6 +5,7 @@
 //! all calls, and in it each of its own calls once. The history exists in the proofs alone.
 #![tactic(auto)]
 
+mod calling;
 mod entry;
 mod laws;
 mod machine;

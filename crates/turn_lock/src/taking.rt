@@ -1,19 +1,15 @@
-//! Turns: a ticket is drawn and waited for, the machine answers one call, and the turn is passed on.
+//! The queue of turns: a ticket is drawn and waited for, and the turn is passed on.
 ghost use Rattle.std.specs.Prelude.{◌≡◌, ℕ, ◌+◌, ◌<◌, ◌^◌, [], ◌∷◌, Some, None, unwrap_or};
-ghost use Rattle.turn_lock.specs.Answering.{AnswersAs};
 ghost use Rattle.turn_lock.specs.History.{entry};
-ghost use Rattle.turn_lock.specs.Standing.{Standing, SeatIsSound, HasCalled};
 ghost use Rattle.turn_lock.specs.inner.Steps.{HasTurn, Knows, with_entries};
 ghost use Rattle.turn_lock.specs.inner.Places.{IsSamePlace, IsFree, IsWaiting, Waits, MayEnd};
 ghost use Rattle.turn_lock.specs.declared.view.Phase.TheVariants.{Free, Waiting};
 
 use crate::machine::Machine;
 use crate::plays::{Added, Draw, PassOn, Serve};
-use crate::seat::{Place, Seat};
+use crate::seat::Place;
 use crate::turn::{SERVED, TICKETS, Turn};
-use std::alloc::Global;
 use std::hint;
-use std::marker::Brand;
 use std::snapshot::Snapshot;
 use std::sync::Wait;
 
@@ -21,56 +17,12 @@ use std::sync::Wait;
 const TRIES: u32 = 1000;
 
 impl<M: Machine> Turn<M> {
-    /// One call, in the seat's turn, for which it may wait. The history grows by this one entry: the seat has then
-    /// seen the history up to it, and it is the last of the seat's own.
-    pub fn turn<R: Wait>(
-        &self,
-        rt: &R,
-        alloc: Global,
-        seat: &mut Seat<M>,
-        call: M::Call,
-    ) -> M::Reply
-        requires own { seat.old.table ≡ self.now }
-        requires allowed { M.may seat.old.number seat.old.mine call }
-        ensures called { HasCalled seat.old call result seat.new }
-        ensures sound_before { SeatIsSound M.start M.steps M.may seat.old }
-        ensures sound { SeatIsSound M.start M.steps M.may seat.new }
-    {
-        self.turn_by(
-            rt,
-            seat,
-            call,
-            |machine: &mut M, call: M::Call| machine.step(alloc, call),
-        )
-    }
-
-    /// One call that the closure answers in place of the machine's step, as `turn` says. From every state in which
-    /// the call can be answered it may be called, and what it answers and leaves is a step for this call.
-    pub fn turn_by<R: Wait, F: FnOnce(&mut M, M::Call) -> M::Reply>(
-        &self,
-        rt: &R,
-        seat: &mut Seat<M>,
-        call: M::Call,
-        f: F,
-    ) -> M::Reply
-        requires own { seat.old.table ≡ self.now }
-        requires allowed { M.may seat.old.number seat.old.mine call }
-        requires answers { AnswersAs F.FnOnce M.state M.can M.steps f call }
-        ensures called { HasCalled seat.old call result seat.new }
-        ensures sound_before { SeatIsSound M.start M.steps M.may seat.old }
-        ensures sound { SeatIsSound M.start M.steps M.may seat.new }
-    {
-        let place = &mut seat.place;
-        let said = Snapshot::of(&call);
-        let (ticket, mut machine) = self.take_turn(rt, place);
-        let reply = f(&mut machine, call);
-        let replied = Snapshot::of(&reply);
-        self.end_turn::<Brand>(place, ticket, machine, said, replied);
-        reply
-    }
-
     // Waits for the seat's turn, and takes the machine out of the slot.
-    fn take_turn<R: Wait>(&self, rt: &R, place: &mut Place<M, M::Call, M::Reply>) -> (u64, M)
+    pub(crate) fn take_turn<R: Wait>(
+        &self,
+        rt: &R,
+        place: &mut Place<M, M::Call, M::Reply>,
+    ) -> (u64, M)
         requires own { place.old.table_id ≡ self.now }
         requires free { IsFree place.old.me }
         ensures same { IsSamePlace place.old place.new }
@@ -134,7 +86,7 @@ impl<M: Machine> Turn<M> {
 
     // Puts the machine back, adds the entry to the history, and passes the turn on. Where a later ticket is drawn, its
     // seat may sleep.
-    fn end_turn<K: Added<M::Call, M::Reply>>(
+    pub(crate) fn end_turn<K: Added<M::Call, M::Reply>>(
         &self,
         place: &mut Place<M, M::Call, M::Reply>,
         ticket: u64,

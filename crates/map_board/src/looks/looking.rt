@@ -32,7 +32,7 @@ fn look_at_each(
     requires { length rows.now ≡ length receivers.now }
     ensures { IfOk result (λ looks. looks.items ≡ held_looks receivers.now rows.now) }
 {
-    let mut looks = Vec::new(alloc);
+    let mut looks = Vec::with_capacity(alloc, rows.len())?;
     for (place, row) in rows.iter().enumerate() {
         looks.push(look_at(&receivers[place], row)?)?;
     }

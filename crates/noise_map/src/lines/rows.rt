@@ -13,7 +13,8 @@ use level_contours::{Family, cells, loops, row_texts};
 use map_board::{LookAll, LookRow};
 use map_io::{Sink, put_all};
 use map_text::{
-    Head, Refusal, RowText, RowTexts, RowWriter, counts_text, head_text, refused_text, row_text,
+    Head, Refusal, RowText, RowTexts, RowWriter, counts_text, head_text, receiver_text, refused_text,
+    row_text,
 };
 use scene_parts::NoMemory;
 
@@ -107,15 +108,20 @@ impl<'a, K: Sink> Rows<'a, K> {
         Ok(())
     }
 
-    /// Writes the row of a receiver, and those of its bands where they are asked for.
+    /// Writes the row of a receiver, and those of its bands where they are asked for. The row alone needs no list.
     fn receiver(&mut self, version: u64, row: &LookRow) -> Result<(), Stopped>
         ensures taken { Takes result (K.taken self.old.out.now) (K.taken self.new.out.now)
             (receiver_rows self.old.bands version row.now) }
         ensures cause { CausedByWriteFault result (K.faults self.old.out.now) (K.faults self.new.out.now) }
         ensures same { IsSameSink self.old self.new }
     {
-        let texts = row_text(self.writer, version, row, self.bands)?;
-        self.put_each(texts.items())
+        if self.bands {
+            let texts = row_text(self.writer, version, row, true)?;
+            self.put_each(texts.items())
+        } else {
+            let text = receiver_text(self.writer, version, row)?;
+            self.put(text.as_slice())
+        }
     }
 
     fn put_each(&mut self, texts: &[RowText]) -> Result<(), Stopped>
