@@ -1,7 +1,9 @@
 //! The board as a machine.
 ghost use Rattle.map_board.specs.Machine.{Step, Can};
+ghost use Rattle.map_board.specs.declared.calls.BoardCall.TheVariants as calls;
 
 use map_board::{Board, BoardCall, BoardReply};
+use scene_book::Edit;
 use std::alloc::Global;
 use std::thread::Threads;
 use turn_lock::Machine;
@@ -37,7 +39,7 @@ impl Machine for SharedBoard {
     fn step(&mut self, alloc: Global, call: BoardCall) -> BoardReply {
         let board = &mut self.board;
         match call {
-            BoardCall::Edit(edit) => BoardReply::Edited(board.edit(alloc, edit)),
+            BoardCall::Edit(edit) => edited(board, alloc, edit),
             BoardCall::Take => BoardReply::Took(board.take()),
             BoardCall::Finish => {
                 board.finish();
@@ -48,11 +50,25 @@ impl Machine for SharedBoard {
                 board.give_back(job);
                 BoardReply::Done
             }
-            BoardCall::Look => BoardReply::Looked(board.look(alloc)),
+            BoardCall::Look => looked(board, alloc),
         }
     }
 
     ghost lawful = { board-is-lawful };
+}
+
+/// Answers an edit.
+fn edited(board: &mut Board, alloc: Global, edit: Edit) -> BoardReply
+    ensures { Step board.old (calls.Edit edit) result board.new }
+{
+    BoardReply::Edited(board.edit(alloc, edit))
+}
+
+/// Answers a look.
+fn looked(board: &Board, alloc: Global) -> BoardReply
+    ensures { Step board.now calls.Look result board.now }
+{
+    BoardReply::Looked(board.look(alloc))
 }
 
 /// Answers a call as the machine's step does. Threads share the search for what an edit touches.

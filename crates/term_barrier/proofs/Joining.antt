@@ -8,7 +8,8 @@ use Rattle.path_shape.specs.declared.path.Path.{Path}
 use Rattle.term_barrier.specs.declared.single.Single.{Single}
 use Rattle.term_barrier.specs.declared.pair.Pair.{Pair}
 use Rattle.term_barrier.specs.declared.pair.joined.Joined.{Joined}
-use Rattle.term_barrier.specs.inner.Prepared.{Adds, IsPair, IsNoPair, StandFor, edges_in, risen, joined_value, numbered_value}
+use Rattle.term_barrier.specs.Screening.{edges_in}
+use Rattle.term_barrier.specs.inner.Prepared.{Adds, IsPair, IsNoPair, StandFor, risen, joined_value, numbered_value}
 use Rattle.term_barrier.proofs.Raising.{stand-same, stand-append, stand-without}
 
 abbrev pub Edges : Type 0

@@ -96,10 +96,18 @@ impl Strings {
         let numbers = numbers_in(alloc, crossings, band)?;
         if !are_same(numbers.as_slice(), self.numbers.as_slice()) {
             *self = Strings::round(alloc, scene, ends, numbers, found)?;
-            self.left.add_to(trace, ends)?;
-            self.right.add_to(trace, ends)?;
+            self.add_to(trace, ends)?;
         }
         Ok(())
+    }
+
+    /// Adds the segments of both strings to a trace, those on the left hand first.
+    fn add_to(&self, trace: &mut Segs, ends: Ends) -> Result<(), NoMemory>
+        ensures { OnOk result (trace.new ≡ trace.old ++ (string_segments ends self.now.left.corners.items
+            ++ string_segments ends self.now.right.corners.items)) }
+    {
+        self.left.add_to(trace, ends)?;
+        self.right.add_to(trace, ends)
     }
 
     /// D_z in dB along both strings in a band, over a distance `d` of source and receiver in metres.

@@ -3,8 +3,8 @@ use Rattle.std.specs.Prelude.{flat_map}
 use Rattle.std.proofs.lemmas.List.{drop_all, drop_more}
 use Rattle.scene_parts.specs.declared.screening.edge.Edge.{Edge}
 use Rattle.term_barrier.specs.declared.single.Single.{Single}
-use Rattle.term_barrier.specs.Screening.{both_ways}
-use Rattle.term_barrier.specs.inner.Prepared.{edges_in, risen}
+use Rattle.term_barrier.specs.Screening.{both_ways, edges_in}
+use Rattle.term_barrier.specs.inner.Prepared.{risen}
 use Rattle.term_barrier.proofs.Joining.{remains-none, remains-step, remains-same, risen-kept, risen-left}
 use Rattle.term_barrier.proofs.pair.pairing.add_pairs.Goals.{then-second+in_ok-add_pair+in_ok-add_pair-2, else-second}
 use Rattle.term_barrier.proofs.pair.pairing.add_pairs.Goals as goal

@@ -1,8 +1,8 @@
 -- What was added and the pairs behind are all that is to be added.
 use Rattle.std.proofs.Common.{◌+◌, drop}
 use Rattle.std.specs.Prelude.{flat_map}
-use Rattle.term_barrier.specs.Screening.{both_ways}
-use Rattle.term_barrier.specs.inner.Prepared.{edges_in, risen}
+use Rattle.term_barrier.specs.Screening.{both_ways, edges_in}
+use Rattle.term_barrier.specs.inner.Prepared.{risen}
 use Rattle.term_barrier.proofs.Joining.{Remains}
 use Rattle.term_barrier.proofs.pair.pairing.add_pairs.Given as goal
 

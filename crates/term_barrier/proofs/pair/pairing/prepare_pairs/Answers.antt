@@ -1,7 +1,7 @@
 use Rattle.std.proofs.Common.{ap, ◌+◌, [], drop, get_or}
 use Rattle.std.specs.Prelude.{flat_map}
-use Rattle.term_barrier.specs.Screening.{pairs_of, both_ways}
-use Rattle.term_barrier.specs.inner.Prepared.{edges_in, risen}
+use Rattle.term_barrier.specs.Screening.{pairs_of, both_ways, edges_in}
+use Rattle.term_barrier.specs.inner.Prepared.{risen}
 use Rattle.std.proofs.lemmas.List.{drop_more}
 use Rattle.term_barrier.proofs.Joining.{remains-step, remains-same, risen-kept, risen-left}
 use Rattle.term_barrier.proofs.pair.pairing.prepare_pairs.Goals.{then-first+in_ok-add_pairs, else-first}

@@ -1,7 +1,7 @@
 -- What was added and the pairs behind are all pairs.
 use Rattle.std.proofs.Common.{[], drop}
-use Rattle.term_barrier.specs.Screening.{pairs_of}
-use Rattle.term_barrier.specs.inner.Prepared.{edges_in, risen}
+use Rattle.term_barrier.specs.Screening.{pairs_of, edges_in}
+use Rattle.term_barrier.specs.inner.Prepared.{risen}
 use Rattle.term_barrier.proofs.Joining.{Remains}
 use Rattle.term_barrier.proofs.pair.pairing.prepare_pairs.Given as goal
 

@@ -4,7 +4,8 @@ use Rattle.std.proofs.lemmas.List.Elements.{All-push, All-same, All-get_or}
 use Rattle.scene_parts.specs.declared.screening.edge.Edge.{Edge}
 use Rattle.term_barrier.specs.declared.single.Single.{Single}
 use Rattle.term_barrier.specs.Edges.{FitsEdge}
-use Rattle.term_barrier.specs.inner.Prepared.{IsSingle, edges_in}
+use Rattle.term_barrier.specs.Screening.{edges_in}
+use Rattle.term_barrier.specs.inner.Prepared.{IsSingle}
 use Rattle.term_barrier.proofs.screens.gathering.prepare.Goals as goal
 
 -- one more

@@ -1,7 +1,8 @@
 -- The edges so far.
 use Rattle.std.proofs.Common.{◌≡◌, take}
 use Rattle.std.specs.List.{All}
-use Rattle.term_barrier.specs.inner.Prepared.{IsSingle, edges_in}
+use Rattle.term_barrier.specs.Screening.{edges_in}
+use Rattle.term_barrier.specs.inner.Prepared.{IsSingle}
 use Rattle.term_barrier.proofs.screens.gathering.prepare.Given as goal
 
 abbrev pub invariant-loop-edge : goal.invariant-loop-edge
