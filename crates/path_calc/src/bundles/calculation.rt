@@ -86,6 +86,23 @@ pub fn bundle_between<L: Ledger>(
     ensures step { steps.new ≡ steps.old + 1 }
 {
     steps.tick();
+    calculated(alloc, scene, source, from, receiver, to, found)
+}
+
+/// What that path comes to, whose step is counted.
+fn calculated(
+    alloc: Global,
+    scene: &IndexedScene<'_>,
+    source: &PointSource,
+    from: &PreparedSource,
+    receiver: &Receiver,
+    to: &PreparedReceiver,
+    found: &mut Found,
+) -> Result<Bundle, NoMemory>
+    requires source { from.now ≡ prepared_of source.now }
+    requires receiver { to.now ≡ receiver.now.h }
+    ensures { IfOk result (λ bundle. bundle ≡ bundle_of scene.now source.now receiver.now) }
+{
     let name = Name::from_vec(source.name.items().to_vec(alloc)?);
     let mut segs = Segs::new(alloc);
     let energies = path_energies(alloc, scene, source, from, receiver, to, found, &mut segs)?;
