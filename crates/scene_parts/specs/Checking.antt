@@ -22,7 +22,6 @@ use Rattle.scene_parts.specs.declared.checks.raw.RawPart.TheVariants as raw
 use Rattle.scene_parts.specs.declared.checks.checked.Checked.{Checked}
 use Rattle.scene_parts.specs.declared.checks.checked.Checked.TheVariants as checked
 use Rattle.scene_parts.specs.Limits.{most_corners, most_columns, widest_step, plan_end, farthest_reach, greatest_height, least_density}
-use Rattle.scene_parts.specs.Views.{Source, Obstacle, Zone, Foliage, Receiver, Grid, Setting}
 use Rattle.scene_parts.specs.Sides.{sides_in, squared_length, is_short, floor_root}
 use Rattle.scene_parts.specs.Ranges.{is_flat, is_mirror, least_corners, last_place}
 use Rattle.scene_parts.specs.Answers.{◌>>=◌, ◌>>◌, each, optional}
@@ -126,99 +125,62 @@ check_sides_from i (side ∷ sides) =
 abbrev pub check_reflection : ℕ → Result (Unit {0}) PartFault
 check_reflection rho = if is_mirror rho then Ok tt else Err (WeakMirror rho)
 
--- The words
+-- what a barrier and a building have in common
+abbrev pub check_surface : Shape → List Pt → ℕ → Result (Unit {0}) PartFault
+check_surface shape corners rho = do
+  check_outline shape corners
+  check_sides_from 0 (sides_in shape corners)
+  check_reflection rho
 
-unfoldable pub source_of : List ℕ → List ℕ → ℤ → ℤ → ℤ → List (Option ℤ) → ℤ → Result Source PartFault
-source_of name word x y h lw dc = do
+-- the first fault of a line's part in the order of its tests, or the part, the grid or the setting
+unfoldable pub check_of : RawPart → Result Checked PartFault
+check_of (raw.Source name word x y h lw dc) = do
   at ← plan_point fields.X fields.Y x y
   height ← height_of h
   powers ← each power_of lw
   correction ← directivity_of dc
   kind ← kind_of word
-  Ok (record { name = name; kind = kind; at = at; h = height; lw = powers; dc = correction })
-
--- what a barrier and a building have in common
-unfoldable pub obstacle_of : List ℕ → Shape → List Pt → ℕ → ℕ → Result Obstacle PartFault
-obstacle_of name shape corners height reflected = do
-  check_outline shape corners
-  check_sides_from 0 (sides_in shape corners)
-  check_reflection reflected
-  Ok (record { name = name; shape = shape; points = corners; h = height; rho = reflected })
-
-unfoldable pub barrier_of : List ℕ → List RawPt → ℤ → ℤ → ℤ → Result Obstacle PartFault
-barrier_of name points h density rho = do
+  Ok (checked.Part (parts.Source (record { name = name; kind = kind; at = at; h = height; lw = powers; dc = correction })))
+check_of (raw.Barrier name points h density rho) = do
   corners ← corners_of points
   height ← height_of h
   weight ← in_range fields.Density 0 100000 density
   reflected ← in_range fields.Rho 0 1000 rho
   check_density weight
-  obstacle_of name Barrier corners height reflected
-
-unfoldable pub building_of : List ℕ → List RawPt → ℤ → ℤ → Result Obstacle PartFault
-building_of name points h rho = do
+  check_surface Barrier corners reflected
+  Ok (checked.Part (parts.Obstacle (record { name = name; shape = Barrier; points = corners; h = height; rho = reflected })))
+check_of (raw.Building name points h rho) = do
   corners ← corners_of points
   height ← height_of h
   reflected ← in_range fields.Rho 0 1000 rho
-  obstacle_of name Building corners height reflected
-
-unfoldable pub zone_of : List ℕ → List RawPt → ℤ → Result Zone PartFault
-zone_of name points g = do
+  check_surface Building corners reflected
+  Ok (checked.Part (parts.Obstacle (record { name = name; shape = Building; points = corners; h = height; rho = reflected })))
+check_of (raw.Zone name points g) = do
   corners ← corners_of points
   factor ← in_range fields.G 0 100 g
   check_outline Building corners
-  Ok (record { name = name; points = corners; g = factor })
-
-unfoldable pub foliage_of : List ℕ → List RawPt → ℤ → Result Foliage PartFault
-foliage_of name points h = do
+  Ok (checked.Part (parts.Zone (record { name = name; points = corners; g = factor })))
+check_of (raw.Foliage name points h) = do
   corners ← corners_of points
   height ← height_of h
   check_outline Building corners
-  Ok (record { name = name; points = corners; h = height })
-
-unfoldable pub receiver_of : List ℕ → ℤ → ℤ → ℤ → Result Receiver PartFault
-receiver_of name x y h = do
+  Ok (checked.Part (parts.Foliage (record { name = name; points = corners; h = height })))
+check_of (raw.Receiver name x y h) = do
   at ← plan_point fields.X fields.Y x y
   height ← height_of h
-  Ok (record { name = name; at = at; h = height })
-
--- a grid from its first receiver and the distance to the next on
-unfoldable pub grid_at : List ℕ → Pt → ℕ → ℤ → ℤ → ℤ → Result Grid PartFault
-grid_at name at step columns rows h = do
-  across ← reaching fields.Columns at.x step columns
-  up ← reaching fields.Rows at.y step rows
-  height ← height_of h
-  Ok (record { name = name; at = at; step = step; columns = across; rows = up; h = height })
-
-unfoldable pub grid_of : List ℕ → ℤ → ℤ → ℤ → ℤ → ℤ → ℤ → Result Grid PartFault
-grid_of name x y step columns rows h = do
+  Ok (checked.Part (parts.Receiver (record { name = name; at = at; h = height })))
+check_of (raw.Grid name x y step columns rows h) = do
   at ← plan_point fields.X fields.Y x y
   apart ← in_range fields.Step 1 widest_step step
-  grid_at name at apart columns rows h
-
+  across ← reaching fields.Columns at.x apart columns
+  up ← reaching fields.Rows at.y apart rows
+  height ← height_of h
+  Ok (checked.Grid (record { name = name; at = at; step = apart; columns = across; rows = up; h = height }))
 -- of the words that of the air is looked at first
-unfoldable pub setting_of :
-    Option ℤ → Option ℤ → Option (List ℕ) → Option ℤ → Option (List ℕ) → Result Setting PartFault
-setting_of reach g air c0 word = do
+check_of (raw.Set reach g air c0 word) = do
   far ← optional (in_range fields.Reach 1 farthest_reach) reach
   factor ← optional (in_range fields.G 0 100) g
   correction ← optional (in_range fields.C0 0 1000) c0
   weather ← optional air_of air
   method ← optional ground_of word
-  Ok (record { reach = far; g = factor; air = weather; c0 = correction; method = method })
-
--- the first fault of a line's part in the order of its tests, or the part, the grid or the setting
-unfoldable pub check_of : RawPart → Result Checked PartFault
-check_of (raw.Source name kind x y h lw dc) =
-    source_of name kind x y h lw dc >>= λ source. Ok (checked.Part (parts.Source source))
-check_of (raw.Barrier name points h density rho) =
-    barrier_of name points h density rho >>= λ barrier. Ok (checked.Part (parts.Obstacle barrier))
-check_of (raw.Building name points h rho) =
-    building_of name points h rho >>= λ building. Ok (checked.Part (parts.Obstacle building))
-check_of (raw.Zone name points g) = zone_of name points g >>= λ zone. Ok (checked.Part (parts.Zone zone))
-check_of (raw.Foliage name points h) =
-    foliage_of name points h >>= λ foliage. Ok (checked.Part (parts.Foliage foliage))
-check_of (raw.Receiver name x y h) = receiver_of name x y h >>= λ receiver. Ok (checked.Part (parts.Receiver receiver))
-check_of (raw.Grid name x y step columns rows h) =
-    grid_of name x y step columns rows h >>= λ grid. Ok (checked.Grid grid)
-check_of (raw.Set reach g air c0 word) =
-    setting_of reach g air c0 word >>= λ setting. Ok (checked.Set setting)
+  Ok (checked.Set (record { reach = far; g = factor; air = weather; c0 = correction; method = method }))

@@ -7,3 +7,4 @@ pub mod Answers
 pub mod Checking
 pub mod InBand
 pub mod Crossings
+pub mod inner

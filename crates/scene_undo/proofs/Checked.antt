@@ -5,10 +5,9 @@ use Rattle.scene_geom.specs.declared.plan.Pt.{Pt}
 use Rattle.scene_parts.specs.Answers.{◌>>=◌, ◌>>◌, each, optional}
 use Rattle.scene_parts.specs.Limits.{most_corners, most_columns, widest_step, plan_end, farthest_reach}
 use Rattle.scene_parts.specs.Ranges.{IsReach, IsSetting, last_place}
-use Rattle.scene_parts.specs.Views.{Zone, Foliage, Grid, Setting}
-use Rattle.scene_parts.specs.Checking.{check_of, within, in_range, corner_of, corners_of, check_outline, zone_of, foliage_of, plan_point, reaching, height_of, grid_at, grid_of, air_of, ground_of, setting_of, source_of, barrier_of, building_of, receiver_of}
+use Rattle.scene_parts.specs.Checking.{check_of, within, in_range, corner_of, corners_of, check_outline, check_surface, check_density, plan_point, reaching, height_of, power_of, directivity_of, kind_of, air_of, ground_of}
 use Rattle.scene_parts.specs.declared.outlines.RawPt.{RawPt}
-use Rattle.scene_parts.specs.declared.kinds.Shape.TheVariants.{Building}
+use Rattle.scene_parts.specs.declared.kinds.Shape.TheVariants.{Barrier, Building}
 use Rattle.scene_parts.specs.declared.kinds.Field.TheVariants as fields
 use Rattle.scene_parts.specs.declared.parts.Part.{Part}
 use Rattle.scene_parts.specs.declared.parts.Part.TheVariants as parts
@@ -77,7 +76,7 @@ each-length test (x ∷ xs) ys e =
     let is : first.0 ∷ rest.0 ≡ ys = cc in
     ap length (sym is) ∙ ap suc (each-length test xs rest.0 rest.1)
 
--- ---- zones, foliage, grids and settings
+-- ---- corners and columns
 
 corners-few : (points : List RawPt) (corners : List Pt) → corners_of points ≡ Ok corners → length corners ≤ most_corners
 unfolding corners_of
@@ -93,30 +92,6 @@ corners-few points corners e =
         let few : length points ≤ most_corners = grind arith in
         omega (arith, ap length is, long, few)
 
-zone-within : (name : List ℕ) (points : List RawPt) (g : ℤ) (zone : Zone) → zone_of name points g ≡ Ok zone → IsZoneWithin zone
-unfolding zone_of
-zone-within name points g zone e =
-    let corners = bind-ok (corners_of points) _ zone e in
-    let factor = bind-ok (in_range fields.G 0 100 g) _ zone corners.2 in
-    let outline = after-ok (check_outline Building corners.0) _ zone factor.2 in
-    let made : Zone = record { name = name; points = corners.0; g = factor.0 } in
-    let is : made ≡ zone = cc in
-    subst IsZoneWithin is (record {
-      few = corners-few points corners.0 corners.1;
-      ground_factor = (in_range-ok fields.G 0 100 g factor.0 factor.1).1;
-    })
-
-foliage-within : (name : List ℕ) (points : List RawPt) (h : ℤ) (foliage : Foliage) → foliage_of name points h ≡ Ok foliage
-    → IsFoliageWithin foliage
-unfolding foliage_of
-foliage-within name points h foliage e =
-    let corners = bind-ok (corners_of points) _ foliage e in
-    let height = bind-ok (height_of h) _ foliage corners.2 in
-    let outline = after-ok (check_outline Building corners.0) _ foliage height.2 in
-    let made : Foliage = record { name = name; points = corners.0; h = height.0 } in
-    let is : made ≡ foliage = cc in
-    subst IsFoliageWithin is (record { few = corners-few points corners.0 corners.1 })
-
 reaching-few : (field : Field) (start : ℤ) (step : ℕ) (count : ℤ) (n : ℕ) → reaching field start step count ≡ Ok n → n ≤ most_columns
 unfolding reaching
 reaching-few field start step count n e =
@@ -127,42 +102,6 @@ reaching-few field start step count n e =
     by m few true e = let is : m ≡ n = cc in omega (arith, few, is)
     by m few false e = cc
 
-grid-within : (name : List ℕ) (x y step columns rows h : ℤ) (grid : Grid) → grid_of name x y step columns rows h ≡ Ok grid → IsGridWithin grid
-unfolding grid_of grid_at
-grid-within name x y step columns rows h grid e =
-    let at = bind-ok (plan_point fields.X fields.Y x y) _ grid e in
-    let apart = bind-ok (in_range fields.Step 1 widest_step step) _ grid at.2 in
-    let across = bind-ok (reaching fields.Columns at.0.x apart.0 columns) _ grid apart.2 in
-    let up = bind-ok (reaching fields.Rows at.0.y apart.0 rows) _ grid across.2 in
-    let height = bind-ok (height_of h) _ grid up.2 in
-    let made : Grid = record { name = name; at = at.0; step = apart.0; columns = across.0; rows = up.0; h = height.0 } in
-    let is : made ≡ grid = cc in
-    subst IsGridWithin is (record {
-      columns = reaching-few fields.Columns at.0.x apart.0 columns across.0 across.1;
-      rows = reaching-few fields.Rows at.0.y apart.0 rows up.0 up.1;
-    })
-
-setting-within : (reach g : Option ℤ) (air : Option (List ℕ)) (c0 : Option ℤ) (word : Option (List ℕ)) (setting : Setting)
-    → setting_of reach g air c0 word ≡ Ok setting → IsSetting setting
-unfolding setting_of
-setting-within reach g air c0 word setting e =
-    let far = bind-ok (optional (in_range fields.Reach 1 farthest_reach) reach) _ setting e in
-    let factor = bind-ok (optional (in_range fields.G 0 100) g) _ setting far.2 in
-    let correction = bind-ok (optional (in_range fields.C0 0 1000) c0) _ setting factor.2 in
-    let weather = bind-ok (optional air_of air) _ setting correction.2 in
-    let method = bind-ok (optional ground_of word) _ setting weather.2 in
-    let made : Setting =
-    record { reach = far.0; g = factor.0; air = weather.0; c0 = correction.0; method = method.0 } in
-    let is : made ≡ setting = cc in
-    subst IsSetting is (record {
-      reach = optional-ok IsReach (in_range fields.Reach 1 farthest_reach)
-          (λ v n h. let both = in_range-ok fields.Reach 1 farthest_reach v n h in record { low = both.0; high = both.1 }) reach far.0 far.1;
-      ground_factor = optional-ok (λ n. n ≤ 100) (in_range fields.G 0 100)
-          (λ v n h. (in_range-ok fields.G 0 100 v n h).1) g factor.0 factor.1;
-      c0 = optional-ok (λ n. n ≤ 1000) (in_range fields.C0 0 1000)
-          (λ v n h. (in_range-ok fields.C0 0 1000 v n h).1) c0 correction.0 correction.1;
-    })
-
 -- ---- what a check passes
 
 abbrev answered : Checked → Result Checked PartFault
@@ -172,27 +111,59 @@ answered made = Ok made
 part-made : (part : Part) (made : Checked) → IsEdit (edits.Put part) → answered (checked.Part part) ≡ answered made → IsEdit (edit_of made)
 part-made part made is e = let same : checked.Part part ≡ made = cc in subst (λ c. IsEdit (edit_of c)) same is
 
-pub checked-edit : (given : RawPart) (made : Checked) → check_of given ≡ Ok made → IsEdit (edit_of made)
+-- what an answer passes is put or set by an edit
+abbrev Passes : Result Checked PartFault → Type 0
+Passes answer = (made : Checked) → answer ≡ Ok made → IsEdit (edit_of made)
+
+behind : {A : Type 0} (r : Result A PartFault) (next : A → Result Checked PartFault) → ((x : A) → r ≡ Ok x → Passes (next x)) → Passes (r >>= next)
+behind (Ok x) next passes made e = passes x refl made e
+behind (Err fault) next passes made e = cc
+
+beside : {A : Type 0} (r : Result A PartFault) (next : Result Checked PartFault) → Passes next → Passes (r >> next)
+beside (Ok x) next passes made e = passes made e
+beside (Err fault) next passes made e = cc
+
+pub checked-edit : (given : RawPart) → Passes (check_of given)
 unfolding check_of
-checked-edit (raw.Source name kind x y h lw dc) made e =
-    let source = bind-ok (source_of name kind x y h lw dc) _ made e in part-made (parts.Source source.0) made tt source.2
-checked-edit (raw.Barrier name points h density rho) made e =
-    let barrier = bind-ok (barrier_of name points h density rho) _ made e in part-made (parts.Obstacle barrier.0) made tt barrier.2
-checked-edit (raw.Building name points h rho) made e =
-    let building = bind-ok (building_of name points h rho) _ made e in part-made (parts.Obstacle building.0) made tt building.2
-checked-edit (raw.Zone name points g) made e =
-    let zone = bind-ok (zone_of name points g) _ made e in
-    part-made (parts.Zone zone.0) made (zone-within name points g zone.0 zone.1) zone.2
-checked-edit (raw.Foliage name points h) made e =
-    let foliage = bind-ok (foliage_of name points h) _ made e in
-    part-made (parts.Foliage foliage.0) made (foliage-within name points h foliage.0 foliage.1) foliage.2
-checked-edit (raw.Receiver name x y h) made e =
-    let receiver = bind-ok (receiver_of name x y h) _ made e in part-made (parts.Receiver receiver.0) made tt receiver.2
-checked-edit (raw.Grid name x y step columns rows h) made e =
-    let grid = bind-ok (grid_of name x y step columns rows h) _ made e in
-    let same : checked.Grid grid.0 ≡ made = cc in
-    subst (λ c. IsEdit (edit_of c)) same (grid-within name x y step columns rows h grid.0 grid.1)
-checked-edit (raw.Set reach g air c0 word) made e =
-    let setting = bind-ok (setting_of reach g air c0 word) _ made e in
-    let same : checked.Set setting.0 ≡ made = cc in
-    subst (λ c. IsEdit (edit_of c)) same (setting-within reach g air c0 word setting.0 setting.1)
+checked-edit (raw.Source name kind x y h lw dc) =
+    behind (plan_point fields.X fields.Y x y) _ (λ at _. behind (height_of h) _ (λ height _. behind (each power_of lw) _ (λ powers _.
+    behind (directivity_of dc) _ (λ correction _. behind (kind_of kind) _ (λ sort _ made. part-made _ made tt)))))
+checked-edit (raw.Barrier name points h density rho) =
+    behind (corners_of points) _ (λ corners _. behind (height_of h) _ (λ height _. behind (in_range fields.Density 0 100000 density) _ (λ weight _.
+    behind (in_range fields.Rho 0 1000 rho) _ (λ reflected _. beside (check_density weight) _ (beside (check_surface Barrier corners reflected) _ (λ made. part-made _ made tt))))))
+checked-edit (raw.Building name points h rho) =
+    behind (corners_of points) _ (λ corners _. behind (height_of h) _ (λ height _. behind (in_range fields.Rho 0 1000 rho) _ (λ reflected _.
+    beside (check_surface Building corners reflected) _ (λ made. part-made _ made tt))))
+checked-edit (raw.Zone name points g) =
+    behind (corners_of points) _ (λ corners few. behind (in_range fields.G 0 100 g) _ (λ factor within. beside (check_outline Building corners) _ (λ made.
+    part-made _ made (record {
+      few = corners-few points corners few;
+      ground_factor = (in_range-ok fields.G 0 100 g factor within).1;
+    }))))
+checked-edit (raw.Foliage name points h) =
+    behind (corners_of points) _ (λ corners few. behind (height_of h) _ (λ height _. beside (check_outline Building corners) _ (λ made.
+    part-made _ made (record { few = corners-few points corners few }))))
+checked-edit (raw.Receiver name x y h) =
+    behind (plan_point fields.X fields.Y x y) _ (λ at _. behind (height_of h) _ (λ height _ made. part-made _ made tt))
+checked-edit (raw.Grid name x y step columns rows h) =
+    behind (plan_point fields.X fields.Y x y) _ (λ at _. behind (in_range fields.Step 1 widest_step step) _ (λ apart _.
+    behind (reaching fields.Columns at.x apart columns) _ (λ across few. behind (reaching fields.Rows at.y apart rows) _ (λ up low.
+    behind (height_of h) _ (λ height _ made e.
+    let same : checked.Grid (record { name = name; at = at; step = apart; columns = across; rows = up; h = height }) ≡ made = cc in
+    subst (λ c. IsEdit (edit_of c)) same (record {
+      columns = reaching-few fields.Columns at.x apart columns across few;
+      rows = reaching-few fields.Rows at.y apart rows up low;
+    }))))))
+checked-edit (raw.Set reach g air c0 word) =
+    behind (optional (in_range fields.Reach 1 farthest_reach) reach) _ (λ far far-ok. behind (optional (in_range fields.G 0 100) g) _ (λ factor factor-ok.
+    behind (optional (in_range fields.C0 0 1000) c0) _ (λ correction correction-ok. behind (optional air_of air) _ (λ weather _.
+    behind (optional ground_of word) _ (λ method _ made e.
+    let same : checked.Set (record { reach = far; g = factor; air = weather; c0 = correction; method = method }) ≡ made = cc in
+    subst (λ c. IsEdit (edit_of c)) same (record {
+      reach = optional-ok IsReach (in_range fields.Reach 1 farthest_reach)
+          (λ v n h. let both = in_range-ok fields.Reach 1 farthest_reach v n h in record { low = both.0; high = both.1 }) reach far far-ok;
+      ground_factor = optional-ok (λ n. n ≤ 100) (in_range fields.G 0 100)
+          (λ v n h. (in_range-ok fields.G 0 100 v n h).1) g factor factor-ok;
+      c0 = optional-ok (λ n. n ≤ 1000) (in_range fields.C0 0 1000)
+          (λ v n h. (in_range-ok fields.C0 0 1000 v n h).1) c0 correction correction-ok;
+    }))))))

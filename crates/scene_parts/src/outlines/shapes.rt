@@ -8,7 +8,7 @@ ghost use Rattle.scene_parts.specs.Answers.{MatchesUnlessMemory, lacks_memory};
 ghost use Rattle.scene_parts.specs.Limits.{most_corners};
 ghost use Rattle.scene_parts.specs.Ranges.{are_same, is_same, is_flat, is_mirror, least_corners};
 ghost use Rattle.scene_parts.specs.Sides.{sides_in, is_short, squared_length, floor_root};
-ghost use Rattle.scene_parts.specs.Checking.{corner_of, corners_of, check_outline as check_outline_of, check_sides_from, check_reflection as check_reflection_of, check_density as check_density_of};
+ghost use Rattle.scene_parts.specs.Checking.{corner_of, corners_of, check_outline as check_outline_of, check_surface as check_surface_of, check_sides_from, check_reflection as check_reflection_of, check_density as check_density_of};
 
 use crate::checks::ranges::plan_point;
 use crate::faults::PartFault;
@@ -85,6 +85,21 @@ pub fn check_outline(shape: Shape, corners: &[Pt]) -> Result<(), PartFault>
     Ok(())
 }
 
+/// What a barrier and a building have in common: an outline, short sides and a reflection that the method takes, or the
+/// first of their faults.
+pub fn check_surface(shape: Shape, corners: &[Pt], rho: u16) -> Result<(), PartFault>
+    requires { length corners.now ≤ most_corners }
+    ensures value { result ≡ check_surface_of shape corners.now rho }
+    ensures enough { OnOk result (least_corners shape ≤ length corners.now) }
+    ensures spread { OnOk result (is_flat shape corners.now ≡ false) }
+    ensures short { OnOk result (IsTrue (list_all is_short (sides_in shape corners.now))) }
+    ensures mirror { OnOk result (IsTrue (is_mirror rho)) }
+{
+    check_outline(shape, corners)?;
+    check_sides(shape, corners)?;
+    check_reflection(rho)
+}
+
 fn flat(shape: Shape, corners: &[Pt]) -> bool
     ensures { result ≡ is_flat shape corners.now }
 {
@@ -116,7 +131,7 @@ fn in_one_place(p: Pt, q: Pt) -> bool
 }
 
 /// Sides of at most 262,143 mm, or `SideTooLong` of the first that is longer.
-pub fn check_sides(shape: Shape, corners: &[Pt]) -> Result<(), PartFault>
+fn check_sides(shape: Shape, corners: &[Pt]) -> Result<(), PartFault>
     requires { length corners.now ≤ most_corners }
     ensures value { result ≡ check_sides_from 0 (sides_in shape corners.now) }
     ensures all { OnOk result (IsTrue (list_all is_short (sides_in shape corners.now))) }
@@ -176,7 +191,7 @@ fn length_of(side: Side) -> u32
 }
 
 /// Nothing reflected, or more than 200 per mille, or `WeakMirror`.
-pub fn check_reflection(rho: u16) -> Result<(), PartFault>
+fn check_reflection(rho: u16) -> Result<(), PartFault>
     ensures value { result ≡ check_reflection_of rho }
     ensures mirror { OnOk result (IsTrue (is_mirror rho)) }
 {

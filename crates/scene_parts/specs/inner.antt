@@ -1,0 +1,2 @@
+-- What stands between the code and the definitions.
+pub mod RawClasses
