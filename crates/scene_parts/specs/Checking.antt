@@ -16,6 +16,7 @@ use Rattle.scene_parts.specs.declared.kinds.Field.TheVariants as fields
 use Rattle.scene_parts.specs.declared.outlines.RawPt.{RawPt}
 use Rattle.scene_parts.specs.declared.faults.PartFault.{PartFault}
 use Rattle.scene_parts.specs.declared.faults.PartFault.TheVariants.{OutOfRange, OutsideMethod, UnknownKind, TooLight, FewCorners, FlatShape, SideTooLong, WeakMirror}
+use Rattle.scene_parts.specs.declared.parts.Part.{Part}
 use Rattle.scene_parts.specs.declared.parts.Part.TheVariants as parts
 use Rattle.scene_parts.specs.declared.checks.raw.RawPart.{RawPart}
 use Rattle.scene_parts.specs.declared.checks.raw.RawPart.TheVariants as raw
@@ -132,43 +133,58 @@ check_surface shape corners rho = do
   check_sides_from 0 (sides_in shape corners)
   check_reflection rho
 
+-- the word that a line has for a part, a grid or a setting
+abbrev pub word_of : RawPart → List ℕ
+word_of (raw.Source name kind x y h lw dc) = codes "source"
+word_of (raw.Barrier name points h density rho) = codes "barrier"
+word_of (raw.Building name points h rho) = codes "building"
+word_of (raw.Zone name points g) = codes "zone"
+word_of (raw.Foliage name points h) = codes "foliage"
+word_of (raw.Receiver name x y h) = codes "receiver"
+word_of (raw.Grid name x y step columns rows h) = codes "grid"
+word_of (raw.Set reach g air c0 word) = codes "set"
+
+-- a part, where it passes
+abbrev pub put : {A : Type 0} → (A → Part) → Result A PartFault → Result Checked PartFault
+put kind answer = answer >>= λ part. Ok (checked.Part (kind part))
+
 -- the first fault of a line's part in the order of its tests, or the part, the grid or the setting
 unfoldable pub check_of : RawPart → Result Checked PartFault
-check_of (raw.Source name word x y h lw dc) = do
+check_of (raw.Source name word x y h lw dc) = put parts.Source (do
   at ← plan_point fields.X fields.Y x y
   height ← height_of h
   powers ← each power_of lw
   correction ← directivity_of dc
   kind ← kind_of word
-  Ok (checked.Part (parts.Source (record { name = name; kind = kind; at = at; h = height; lw = powers; dc = correction })))
-check_of (raw.Barrier name points h density rho) = do
+  Ok (record { name = name; kind = kind; at = at; h = height; lw = powers; dc = correction }))
+check_of (raw.Barrier name points h density rho) = put parts.Obstacle (do
   corners ← corners_of points
   height ← height_of h
   weight ← in_range fields.Density 0 100000 density
   reflected ← in_range fields.Rho 0 1000 rho
   check_density weight
   check_surface Barrier corners reflected
-  Ok (checked.Part (parts.Obstacle (record { name = name; shape = Barrier; points = corners; h = height; rho = reflected })))
-check_of (raw.Building name points h rho) = do
+  Ok (record { name = name; shape = Barrier; points = corners; h = height; rho = reflected }))
+check_of (raw.Building name points h rho) = put parts.Obstacle (do
   corners ← corners_of points
   height ← height_of h
   reflected ← in_range fields.Rho 0 1000 rho
   check_surface Building corners reflected
-  Ok (checked.Part (parts.Obstacle (record { name = name; shape = Building; points = corners; h = height; rho = reflected })))
-check_of (raw.Zone name points g) = do
+  Ok (record { name = name; shape = Building; points = corners; h = height; rho = reflected }))
+check_of (raw.Zone name points g) = put parts.Zone (do
   corners ← corners_of points
   factor ← in_range fields.G 0 100 g
   check_outline Building corners
-  Ok (checked.Part (parts.Zone (record { name = name; points = corners; g = factor })))
-check_of (raw.Foliage name points h) = do
+  Ok (record { name = name; points = corners; g = factor }))
+check_of (raw.Foliage name points h) = put parts.Foliage (do
   corners ← corners_of points
   height ← height_of h
   check_outline Building corners
-  Ok (checked.Part (parts.Foliage (record { name = name; points = corners; h = height })))
-check_of (raw.Receiver name x y h) = do
+  Ok (record { name = name; points = corners; h = height }))
+check_of (raw.Receiver name x y h) = put parts.Receiver (do
   at ← plan_point fields.X fields.Y x y
   height ← height_of h
-  Ok (checked.Part (parts.Receiver (record { name = name; at = at; h = height })))
+  Ok (record { name = name; at = at; h = height }))
 check_of (raw.Grid name x y step columns rows h) = do
   at ← plan_point fields.X fields.Y x y
   apart ← in_range fields.Step 1 widest_step step

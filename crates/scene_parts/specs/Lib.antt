@@ -7,4 +7,3 @@ pub mod Answers
 pub mod Checking
 pub mod InBand
 pub mod Crossings
-pub mod inner

@@ -4,10 +4,10 @@ use Rattle.std.specs.Prelude.{Option, Some, None, IfSome, Result, Ok, Err, ◌&&
 use Rattle.scene_geom.specs.declared.plan.Pt.{Pt}
 use Rattle.scene_parts.specs.Answers.{◌>>=◌, ◌>>◌, each, optional}
 use Rattle.scene_parts.specs.Limits.{most_corners, most_columns, widest_step, plan_end, farthest_reach}
-use Rattle.scene_parts.specs.Ranges.{IsReach, IsSetting, last_place}
-use Rattle.scene_parts.specs.Checking.{check_of, within, in_range, corner_of, corners_of, check_outline, check_surface, check_density, plan_point, reaching, height_of, power_of, directivity_of, kind_of, air_of, ground_of}
+use Rattle.scene_parts.specs.Ranges.{IsReach, last_place}
+use Rattle.scene_parts.specs.Checking.{put, check_of, within, in_range, corner_of, corners_of, check_outline, plan_point, reaching, height_of, air_of, ground_of}
 use Rattle.scene_parts.specs.declared.outlines.RawPt.{RawPt}
-use Rattle.scene_parts.specs.declared.kinds.Shape.TheVariants.{Barrier, Building}
+use Rattle.scene_parts.specs.declared.kinds.Shape.TheVariants.{Building}
 use Rattle.scene_parts.specs.declared.kinds.Field.TheVariants as fields
 use Rattle.scene_parts.specs.declared.parts.Part.{Part}
 use Rattle.scene_parts.specs.declared.parts.Part.TheVariants as parts
@@ -20,7 +20,7 @@ use Rattle.scene_parts.specs.declared.checks.checked.Checked.{Checked}
 use Rattle.scene_parts.specs.declared.checks.checked.Checked.TheVariants as checked
 use Rattle.scene_book.specs.declared.edits.Edit.TheVariants as edits
 use Rattle.scene_book.specs.Edits.{edit_of}
-use Rattle.scene_undo.specs.Scenes.{IsZoneWithin, IsFoliageWithin, IsGridWithin, IsEdit}
+use Rattle.scene_undo.specs.Scenes.{IsEdit}
 
 -- ---- tests in a row
 
@@ -29,11 +29,6 @@ pub bind-ok : {A B E : Type 0} (r : Result A E) (next : A → Result B E) (y : B
     → (x : A) × (r ≡ Ok x) × (next x ≡ Ok y)
 bind-ok (Ok x) next y e = (x, refl, e)
 bind-ok (Err fault) next y e = cc
-
-pub after-ok : {A B E : Type 0} (r : Result A E) (next : Result B E) (y : B) → (r >> next) ≡ Ok y
-    → (x : A) × (r ≡ Ok x) × (next ≡ Ok y)
-after-ok (Ok x) next y e = (x, refl, e)
-after-ok (Err fault) next y e = cc
 
 -- ---- ranges
 
@@ -104,62 +99,53 @@ reaching-few field start step count n e =
 
 -- ---- what a check passes
 
-abbrev answered : Checked → Result Checked PartFault
-answered made = Ok made
+-- what an answer gives, where it gives something
+abbrev Gives : {A : Type 0} → (A → Type 0) → Result A PartFault → Type 0
+Gives {A = A} P answer = (x : A) → answer ≡ Ok x → P x
+
+gives : {A : Type 0} (P : A → Type 0) (x : A) → P x → Gives P (Ok x)
+gives P x p y e = let is : x ≡ y = cc in subst P is p
+
+behind : {A B : Type 0} (P : B → Type 0) (r : Result A PartFault) (next : A → Result B PartFault) → ((x : A) → r ≡ Ok x → Gives P (next x))
+    → Gives P (r >>= next)
+behind P (Ok x) next given y e = given x refl y e
+behind P (Err fault) next given y e = cc
+
+beside : {A B : Type 0} (P : B → Type 0) (r : Result A PartFault) (next : Result B PartFault) → Gives P next → Gives P (r >> next)
+beside P (Ok x) next given y e = given y e
+beside P (Err fault) next given y e = cc
+
+abbrev Passes : Result Checked PartFault → Type 0
+Passes = Gives (λ made. IsEdit (edit_of made))
 
 -- a part that a check passes is put by an edit
-part-made : (part : Part) (made : Checked) → IsEdit (edits.Put part) → answered (checked.Part part) ≡ answered made → IsEdit (edit_of made)
-part-made part made is e = let same : checked.Part part ≡ made = cc in subst (λ c. IsEdit (edit_of c)) same is
+put-passes : {A : Type 0} (kind : A → Part) (answer : Result A PartFault) → Gives (λ x. IsEdit (edits.Put (kind x))) answer
+    → Passes (put kind answer)
+put-passes kind answer given = behind _ answer _ (λ x e. gives _ (checked.Part (kind x)) (given x e))
 
--- what an answer passes is put or set by an edit
-abbrev Passes : Result Checked PartFault → Type 0
-Passes answer = (made : Checked) → answer ≡ Ok made → IsEdit (edit_of made)
-
-behind : {A : Type 0} (r : Result A PartFault) (next : A → Result Checked PartFault) → ((x : A) → r ≡ Ok x → Passes (next x)) → Passes (r >>= next)
-behind (Ok x) next passes made e = passes x refl made e
-behind (Err fault) next passes made e = cc
-
-beside : {A : Type 0} (r : Result A PartFault) (next : Result Checked PartFault) → Passes next → Passes (r >> next)
-beside (Ok x) next passes made e = passes made e
-beside (Err fault) next passes made e = cc
-
+-- sources, obstacles and receivers are put as they are
 pub checked-edit : (given : RawPart) → Passes (check_of given)
 unfolding check_of
-checked-edit (raw.Source name kind x y h lw dc) =
-    behind (plan_point fields.X fields.Y x y) _ (λ at _. behind (height_of h) _ (λ height _. behind (each power_of lw) _ (λ powers _.
-    behind (directivity_of dc) _ (λ correction _. behind (kind_of kind) _ (λ sort _ made. part-made _ made tt)))))
-checked-edit (raw.Barrier name points h density rho) =
-    behind (corners_of points) _ (λ corners _. behind (height_of h) _ (λ height _. behind (in_range fields.Density 0 100000 density) _ (λ weight _.
-    behind (in_range fields.Rho 0 1000 rho) _ (λ reflected _. beside (check_density weight) _ (beside (check_surface Barrier corners reflected) _ (λ made. part-made _ made tt))))))
-checked-edit (raw.Building name points h rho) =
-    behind (corners_of points) _ (λ corners _. behind (height_of h) _ (λ height _. behind (in_range fields.Rho 0 1000 rho) _ (λ reflected _.
-    beside (check_surface Building corners reflected) _ (λ made. part-made _ made tt))))
 checked-edit (raw.Zone name points g) =
-    behind (corners_of points) _ (λ corners few. behind (in_range fields.G 0 100 g) _ (λ factor within. beside (check_outline Building corners) _ (λ made.
-    part-made _ made (record {
+    put-passes parts.Zone _ (behind _ (corners_of points) _ (λ corners few. behind _ (in_range fields.G 0 100 g) _ (λ factor within.
+    beside _ (check_outline Building corners) _ (gives _ _ (record {
       few = corners-few points corners few;
       ground_factor = (in_range-ok fields.G 0 100 g factor within).1;
-    }))))
+    })))))
 checked-edit (raw.Foliage name points h) =
-    behind (corners_of points) _ (λ corners few. behind (height_of h) _ (λ height _. beside (check_outline Building corners) _ (λ made.
-    part-made _ made (record { few = corners-few points corners few }))))
-checked-edit (raw.Receiver name x y h) =
-    behind (plan_point fields.X fields.Y x y) _ (λ at _. behind (height_of h) _ (λ height _ made. part-made _ made tt))
+    put-passes parts.Foliage _ (behind _ (corners_of points) _ (λ corners few. behind _ (height_of h) _ (λ height _.
+    beside _ (check_outline Building corners) _ (gives _ _ (record { few = corners-few points corners few })))))
 checked-edit (raw.Grid name x y step columns rows h) =
-    behind (plan_point fields.X fields.Y x y) _ (λ at _. behind (in_range fields.Step 1 widest_step step) _ (λ apart _.
-    behind (reaching fields.Columns at.x apart columns) _ (λ across few. behind (reaching fields.Rows at.y apart rows) _ (λ up low.
-    behind (height_of h) _ (λ height _ made e.
-    let same : checked.Grid (record { name = name; at = at; step = apart; columns = across; rows = up; h = height }) ≡ made = cc in
-    subst (λ c. IsEdit (edit_of c)) same (record {
+    behind _ (plan_point fields.X fields.Y x y) _ (λ at _. behind _ (in_range fields.Step 1 widest_step step) _ (λ apart _.
+    behind _ (reaching fields.Columns at.x apart columns) _ (λ across few. behind _ (reaching fields.Rows at.y apart rows) _ (λ up low.
+    behind _ (height_of h) _ (λ height _. gives _ _ (record {
       columns = reaching-few fields.Columns at.x apart columns across few;
       rows = reaching-few fields.Rows at.y apart rows up low;
     }))))))
 checked-edit (raw.Set reach g air c0 word) =
-    behind (optional (in_range fields.Reach 1 farthest_reach) reach) _ (λ far far-ok. behind (optional (in_range fields.G 0 100) g) _ (λ factor factor-ok.
-    behind (optional (in_range fields.C0 0 1000) c0) _ (λ correction correction-ok. behind (optional air_of air) _ (λ weather _.
-    behind (optional ground_of word) _ (λ method _ made e.
-    let same : checked.Set (record { reach = far; g = factor; air = weather; c0 = correction; method = method }) ≡ made = cc in
-    subst (λ c. IsEdit (edit_of c)) same (record {
+    behind _ (optional (in_range fields.Reach 1 farthest_reach) reach) _ (λ far far-ok. behind _ (optional (in_range fields.G 0 100) g) _ (λ factor factor-ok.
+    behind _ (optional (in_range fields.C0 0 1000) c0) _ (λ correction correction-ok. behind _ (optional air_of air) _ (λ weather _.
+    behind _ (optional ground_of word) _ (λ method _. gives _ _ (record {
       reach = optional-ok IsReach (in_range fields.Reach 1 farthest_reach)
           (λ v n h. let both = in_range-ok fields.Reach 1 farthest_reach v n h in record { low = both.0; high = both.1 }) reach far far-ok;
       ground_factor = optional-ok (λ n. n ≤ 100) (in_range fields.G 0 100)
@@ -167,3 +153,4 @@ checked-edit (raw.Set reach g air c0 word) =
       c0 = optional-ok (λ n. n ≤ 1000) (in_range fields.C0 0 1000)
           (λ v n h. (in_range-ok fields.C0 0 1000 v n h).1) c0 correction correction-ok;
     }))))))
+checked-edit given = put-passes _ _ (λ part _. tt)

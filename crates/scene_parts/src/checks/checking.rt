@@ -1,8 +1,7 @@
 //! The check of a line's part.
-ghost use Rattle.std.specs.Prelude.{◌≡◌, IsTrue};
+ghost use Rattle.std.specs.Prelude.{◌≡◌, codes};
 ghost use Rattle.scene_parts.specs.Answers.{MatchesUnlessMemory, lacks_memory};
-ghost use Rattle.scene_parts.specs.Checking.{check_of};
-ghost use Rattle.scene_parts.specs.inner.RawClasses.{is_source, is_barrier, is_building, is_zone, is_foliage, is_receiver, is_grid, is_setting};
+ghost use Rattle.scene_parts.specs.Checking.{word_of, check_of};
 
 use crate::checks::checked::Checked;
 use crate::checks::powers::{directivity, powers};
@@ -38,7 +37,7 @@ pub fn check(alloc: Global, raw: RawPart) -> Result<Checked, PartFault>
 
 #[tactic(auto, unfolding(crate::specs::Checking::check_of))]
 fn source(raw: RawPart) -> Result<Checked, PartFault>
-    requires { IsTrue (is_source raw) }
+    requires { word_of raw ≡ codes "source" }
     ensures { result ≡ check_of raw }
 {
     let RawPart::Source {
@@ -65,7 +64,7 @@ fn source(raw: RawPart) -> Result<Checked, PartFault>
 
 #[tactic(auto, unfolding(crate::specs::Checking::check_of))]
 fn barrier(alloc: Global, raw: RawPart) -> Result<Checked, PartFault>
-    requires { IsTrue (is_barrier raw) }
+    requires { word_of raw ≡ codes "barrier" }
     ensures { MatchesUnlessMemory lacks_memory result (check_of raw) }
 {
     let RawPart::Barrier {
@@ -95,7 +94,7 @@ fn barrier(alloc: Global, raw: RawPart) -> Result<Checked, PartFault>
 
 #[tactic(auto, unfolding(crate::specs::Checking::check_of))]
 fn building(alloc: Global, raw: RawPart) -> Result<Checked, PartFault>
-    requires { IsTrue (is_building raw) }
+    requires { word_of raw ≡ codes "building" }
     ensures { MatchesUnlessMemory lacks_memory result (check_of raw) }
 {
     let RawPart::Building {
@@ -122,7 +121,7 @@ fn building(alloc: Global, raw: RawPart) -> Result<Checked, PartFault>
 
 #[tactic(auto, unfolding(crate::specs::Checking::check_of))]
 fn zone(alloc: Global, raw: RawPart) -> Result<Checked, PartFault>
-    requires { IsTrue (is_zone raw) }
+    requires { word_of raw ≡ codes "zone" }
     ensures { MatchesUnlessMemory lacks_memory result (check_of raw) }
 {
     let RawPart::Zone { name, points, g } = raw else {
@@ -140,7 +139,7 @@ fn zone(alloc: Global, raw: RawPart) -> Result<Checked, PartFault>
 
 #[tactic(auto, unfolding(crate::specs::Checking::check_of))]
 fn foliage(alloc: Global, raw: RawPart) -> Result<Checked, PartFault>
-    requires { IsTrue (is_foliage raw) }
+    requires { word_of raw ≡ codes "foliage" }
     ensures { MatchesUnlessMemory lacks_memory result (check_of raw) }
 {
     let RawPart::Foliage { name, points, h } = raw else {
@@ -158,7 +157,7 @@ fn foliage(alloc: Global, raw: RawPart) -> Result<Checked, PartFault>
 
 #[tactic(auto, unfolding(crate::specs::Checking::check_of))]
 fn receiver(raw: RawPart) -> Result<Checked, PartFault>
-    requires { IsTrue (is_receiver raw) }
+    requires { word_of raw ≡ codes "receiver" }
     ensures { result ≡ check_of raw }
 {
     let RawPart::Receiver { name, x, y, h } = raw else {
@@ -173,7 +172,7 @@ fn receiver(raw: RawPart) -> Result<Checked, PartFault>
 
 #[tactic(auto, unfolding(crate::specs::Checking::check_of))]
 fn grid(raw: RawPart) -> Result<Checked, PartFault>
-    requires { IsTrue (is_grid raw) }
+    requires { word_of raw ≡ codes "grid" }
     ensures { result ≡ check_of raw }
 {
     let RawPart::Grid {
@@ -205,7 +204,7 @@ fn grid(raw: RawPart) -> Result<Checked, PartFault>
 
 #[tactic(auto, unfolding(crate::specs::Checking::check_of))]
 fn setting(raw: RawPart) -> Result<Checked, PartFault>
-    requires { IsTrue (is_setting raw) }
+    requires { word_of raw ≡ codes "set" }
     ensures { result ≡ check_of raw }
 {
     let RawPart::Set {

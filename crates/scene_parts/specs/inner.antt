@@ -1,2 +1,0 @@
--- What stands between the code and the definitions.
-pub mod RawClasses
