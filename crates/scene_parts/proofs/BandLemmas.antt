@@ -1,5 +1,5 @@
--- Levels of bands, tested one after another.
-use Rattle.std.proofs.Common.{◌≡◌, ◌∙◌, ℕ, ◌+◌, ◌<◌, ◌≤◌, ℤ, refl, sym, ap, subst, List, [], ◌∷◌, length, take, drop, set, get_or}
+-- Eight bands, and their levels tested one after another.
+use Rattle.std.proofs.Common.{◌≡◌, ◌∙◌, ℕ, ◌+◌, ◌<◌, ◌≤◌, ℤ, refl, sym, ap, subst, List, [], ◌∷◌, length, take, drop, set, get_or, arith}
 use Rattle.std.proofs.lemmas.List.{take_all, drop_all, append-nil, take_more_set}
 use Rattle.std.specs.Prelude.{Bool, true, false, IsTrue, ◌&&◌, int_le, Option, None, Some, Result, Ok, Err, if◌then◌else◌}
 use Rattle.std.specs.List.{list_all}
@@ -10,6 +10,20 @@ use Rattle.scene_parts.specs.Answers.{◌>>=◌, each}
 use Rattle.scene_parts.specs.Checking.{power_within}
 use Rattle.scene_parts.specs.Ranges.{is_power_within}
 use Rattle.scene_parts.proofs.AnswerLemmas.{after, after-step}
+
+-- a list of eight items is its items
+pub eight : {A : Type 0} (xs : List A) (d : A) → length xs ≡ 8
+    → xs ≡ get_or xs 0 d ∷ get_or xs 1 d ∷ get_or xs 2 d ∷ get_or xs 3 d ∷ get_or xs 4 d ∷ get_or xs 5 d ∷ get_or xs 6 d ∷ get_or xs 7 d ∷ []
+eight (p ∷ q ∷ r ∷ s ∷ t ∷ u ∷ v ∷ w ∷ []) d n = refl
+eight [] d n = absurd (omega arith)
+eight (p ∷ []) d n = absurd (omega arith)
+eight (p ∷ q ∷ []) d n = absurd (omega arith)
+eight (p ∷ q ∷ r ∷ []) d n = absurd (omega arith)
+eight (p ∷ q ∷ r ∷ s ∷ []) d n = absurd (omega arith)
+eight (p ∷ q ∷ r ∷ s ∷ t ∷ []) d n = absurd (omega arith)
+eight (p ∷ q ∷ r ∷ s ∷ t ∷ u ∷ []) d n = absurd (omega arith)
+eight (p ∷ q ∷ r ∷ s ∷ t ∷ u ∷ v ∷ []) d n = absurd (omega arith)
+eight (p ∷ q ∷ r ∷ s ∷ t ∷ u ∷ v ∷ w ∷ x ∷ xs) d n = absurd (omega arith)
 
 -- a level that passes stands behind those before it
 pub level-kept : {A B : Type 0} (test : A → Result B PartFault) (lw : List A) (powers : List B) (i : ℕ) (d : A) (y : B)
