@@ -1,5 +1,6 @@
 pub mod Factors
 pub mod Decaying
+pub mod ShortEnds
 pub mod Same
 pub mod TermBounds
 pub mod Walking

@@ -20,7 +20,8 @@ use Rattle.term_ground.specs.declared.legs.stretch.Stretches.{Stretches}
 use Rattle.term_ground.specs.declared.legs.stretch.Regional.{Regional}
 use Rattle.path_shape.specs.Forms.{plus_all}
 use Rattle.term_ground.specs.Lengths.{factor}
-use Rattle.path_shape.specs.Outlines.{counted, length_inside, meets_legs, whole}
+use Rattle.path_shape.specs.Outlines.{place_form, before, signed, counted, length_inside, meets_legs, whole}
+use Rattle.path_shape.specs.Stretches.{part_of}
 use Rattle.term_ground.specs.Zones.{met_zones}
 use Rattle.path_shape.specs.inner.Stretches.{walked}
 use Rattle.term_ground.specs.inner.Walks.{of_stretches, lengths_along, nothing, advanced, known_term, summed}
@@ -63,6 +64,23 @@ module _ (R : Regional → Passage → Regional → Type 0) (stretches : Stretch
   pub lengths-straight : int_lt (area2_of outline) (pos 0) ≡ false → lengths ≡ lengths_along outline from dir stretches
   lengths-straight h =
       walks ∙ rw (← inside-straight outline from dir stretches.source h, ← inside-straight outline from dir stretches.middle h, ← inside-straight outline from dir stretches.receiver h) refl
+
+-- a passage whose place is known
+part-known : (at : Interval) (passage : Passage) (length : Interval) (stretch : Stretch) → enc (place_form passage.place) ≡ at
+    → enc (Add (Known length) (part_of (Known at) passage.to_left stretch)) ≡ walked (passage ∷ []) length stretch
+part-known at passage length stretch e = by passage.to_left where
+  by : (to_left : Bool) → enc (Add (Known length) (part_of (Known at) to_left stretch))
+      ≡ enc (Add (Known length) (signed to_left (before passage.place (Known stretch.from) (Known stretch.to))))
+  by true = rw e
+  by false = rw e
+
+pub passage-known : (at : Interval) (passage : Passage) (lengths : Regional) (stretches : Stretches) (source middle receiver : Interval) → enc (place_form passage.place) ≡ at
+    → source ≡ enc (Add (Known lengths.source) (part_of (Known at) passage.to_left stretches.source))
+    → middle ≡ enc (Add (Known lengths.middle) (part_of (Known at) passage.to_left stretches.middle))
+    → receiver ≡ enc (Add (Known lengths.receiver) (part_of (Known at) passage.to_left stretches.receiver))
+    → record { source = source; middle = middle; receiver = receiver } ≡ advanced (walked (passage ∷ [])) lengths stretches
+passage-known at passage lengths stretches source middle receiver e s m r =
+    rw (s, m, r, part-known at passage lengths.source stretches.source e, part-known at passage lengths.middle stretches.middle e, part-known at passage lengths.receiver stretches.receiver e) refl
 
 -- ---- zones
 

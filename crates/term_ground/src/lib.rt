@@ -9,6 +9,7 @@ mod amounts;
 mod attenuation;
 mod coverage;
 mod decays;
+mod extents;
 pub mod laws;
 mod legs;
 mod simple;

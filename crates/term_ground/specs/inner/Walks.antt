@@ -130,11 +130,6 @@ lengths_on_path outline path =
 
 -- ---- zones
 
--- what a zone adds to a ground factor that makes a difference over a length of a stretch
-abbrev pub term_of : Interval → Interval → Stretch → Tree
-term_of difference length stretch =
-    Div (Mul (Known difference) (Known length)) (Sub (Known stretch.to) (Known stretch.from))
-
 -- the term of a zone, where the ground factor outside of zones is known
 abbrev pub known_term : Interval → Path → Stretch → Zone → Tree
 known_term outside path stretch zone =

@@ -1,7 +1,6 @@
 //! How much of each region of a path lies in a zone of ground.
 
 ghost use Rattle.std.specs.Prelude.{◌≡◌, [], ◌∷◌};
-ghost use Rattle.scene_geom.specs.Direction.{FitsDirection};
 ghost use Rattle.path_shape.specs.declared.path.Path.{Path};
 ghost use Rattle.path_shape.specs.inner.Stretches.{walked};
 ghost use Rattle.term_ground.specs.inner.Walks.{lengths_along, advanced};
@@ -9,11 +8,12 @@ ghost use Rattle.term_ground.specs.inner.Walks.{IsRoute, lengths_on_leg, lengths
 ghost use Rattle.term_ground.specs.inner.Walks.{sums_of};
 ghost use Rattle.term_ground.specs.inner.Walks as walks;
 
+use crate::extents::places::extent_at;
 use crate::legs::leg::{Leg, Route};
 use crate::legs::stretch::{Regional, Stretches};
 use fix_interval::{add, exact, neg};
 use path_shape::{fold_passages, place, turns_right};
-use scene_geom::{Dir, Passage, Pt, meets};
+use scene_geom::{Passage, Pt, meets};
 
 /// How much of each region of a path an outline holds. None where the outline meets no leg.
 pub(crate) fn lengths_on(outline: &[Pt], route: &Route) -> Option<Regional>
@@ -31,7 +31,7 @@ fn on_leg(outline: &[Pt], leg: &Leg) -> Option<Regional>
     ensures { result ≡ lengths_on_leg outline.now leg.now }
 {
     if meets(outline, leg.start, leg.dir, leg.end) {
-        Some(lengths_inside(outline, leg.start, leg.dir, &leg.stretches))
+        Some(lengths_inside(outline, leg))
     } else {
         None
     }
@@ -69,19 +69,18 @@ fn nothing() -> Regional
     }
 }
 
-/// How much of each region an outline holds, on a line from a point along a direction.
-fn lengths_inside(outline: &[Pt], from: Pt, dir: Dir, stretches: &Stretches) -> Regional
-    requires { FitsDirection dir }
-    ensures { result ≡ lengths_along outline.now from dir stretches.now }
+/// How much of each region an outline holds on the whole line of a leg.
+fn lengths_inside(outline: &[Pt], leg: &Leg) -> Regional
+    ensures { result ≡ lengths_along outline.now leg.now.start leg.now.dir leg.now.stretches }
 {
     let lengths = fold_passages(
         outline,
-        from,
-        dir,
+        leg.start,
+        leg.dir,
         nothing(),
         |lengths: Regional, passage: Passage| -> Regional
-            ensures { result ≡ advanced (walked (passage ∷ [])) lengths stretches.entry.now }
-        { with_passage(lengths, passage, stretches) },
+            ensures { result ≡ advanced (walked (passage ∷ [])) lengths leg.entry.now.stretches }
+        { with_passage(lengths, passage, leg) },
     );
     if turns_right(outline) {
         Regional {
@@ -95,7 +94,26 @@ fn lengths_inside(outline: &[Pt], from: Pt, dir: Dir, stretches: &Stretches) -> 
 }
 
 /// The lengths with what a passage adds or takes off.
-fn with_passage(lengths: Regional, passage: Passage, stretches: &Stretches) -> Regional
+#[inline(always)]
+fn with_passage(lengths: Regional, passage: Passage, leg: &Leg) -> Regional
+    ensures { result ≡ advanced (walked (passage ∷ [])) lengths leg.now.stretches }
+{
+    match (extent_at(passage.place), &leg.sections) {
+        (Some(at), Some(sections)) => Regional {
+            source: sections.source.counted(lengths.source, at, passage.to_left),
+            middle: sections.middle.counted(lengths.middle, at, passage.to_left),
+            receiver: sections
+                .receiver
+                .counted(lengths.receiver, at, passage.to_left),
+        },
+        _ => with_any_passage(lengths, passage, &leg.stretches),
+    }
+}
+
+/// The same, whatever the ends.
+#[cold]
+#[inline(never)]
+fn with_any_passage(lengths: Regional, passage: Passage, stretches: &Stretches) -> Regional
     ensures { result ≡ advanced (walked (passage ∷ [])) lengths stretches.now }
 {
     let at = place(passage.place);

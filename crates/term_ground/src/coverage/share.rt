@@ -1,7 +1,7 @@
 //! The ground factors of the regions of a path.
 
 ghost use Rattle.std.specs.Prelude.{◌≡◌, [], ◌∷◌};
-ghost use Rattle.fix_interval.specs.Tree.{Known, Pick, Max, Min, Add, enc};
+ghost use Rattle.fix_interval.specs.Tree.{Known, Pick, Max, Min, Add, Mul, Div, enc};
 ghost use Rattle.path_shape.specs.Shape.{IsPath};
 ghost use Rattle.path_shape.specs.declared.path.Path.{Path};
 ghost use Rattle.path_shape.specs.Forms.{zero_form, one_form};
@@ -9,16 +9,18 @@ ghost use Rattle.term_ground.specs.Lengths as form;
 ghost use Rattle.term_ground.specs.Regions.{share_of, known_share};
 ghost use Rattle.term_ground.specs.Regions as regions;
 ghost use Rattle.term_ground.specs.declared.legs.region.Region.TheVariants.{Source, Middle, Receiver};
-ghost use Rattle.term_ground.specs.inner.Walks.{IsRoute, with_zones, same, term_of};
+ghost use Rattle.term_ground.specs.inner.Walks.{IsRoute, with_zones, same};
+ghost use Rattle.term_ground.specs.inner.Widths as wide;
 
 use crate::coverage::covering::lengths_on;
 use crate::coverage::lengths::factor;
+use crate::extents::quotients::over_width;
 use crate::legs::leg::Route;
 use crate::legs::region::Region;
 use crate::legs::route::route_of;
-use crate::legs::stretch::{Regional, Stretches, middle_from};
-use fix_interval::{Iv, add, div, exact, less, max, min, mul, pick, sub};
-use path_shape::{Path, Stretch};
+use crate::legs::stretch::{Regional, middle_from, widths_of};
+use fix_interval::{Iv, add, exact, less, max, min, mul, pick, sub};
+use path_shape::Path;
 use scene_parts::Zone;
 
 /// The ground factor G of a region of a path (ISO 9613-2, 7.3.1), from 0 to 1: the part of it that is porous, where a
@@ -81,14 +83,22 @@ fn sums(zones: &[Zone], outside: Iv, path: &Path) -> Regional
 {
     let mut total = alike(outside);
     let route = route_of(path);
+    let widths = widths_of(&route.stretches);
     for zone in zones {
-        total = with_zone(total, zone, outside, &route);
+        total = with_zone(total, zone, outside, &route, &widths);
     }
     total
 }
 
 /// The sums with what a zone adds to them, which is nothing where it doesn't meet the path.
-fn with_zone(total: Regional, zone: &Zone, outside: Iv, route: &Route) -> Regional
+fn with_zone(
+    total: Regional,
+    zone: &Zone,
+    outside: Iv,
+    route: &Route,
+    widths: &Regional,
+) -> Regional
+    requires { widths.now ≡ wide.widths_of route.now.stretches }
     ensures { (path : Path) → IsRoute route.now path
         → result ≡ with_zones (zone.now ∷ []) outside path total }
 {
@@ -96,24 +106,21 @@ fn with_zone(total: Regional, zone: &Zone, outside: Iv, route: &Route) -> Region
         return total;
     };
     let difference = sub(factor(zone.g), outside);
-    let Stretches {
-        source,
-        middle,
-        receiver,
-    } = route.stretches;
     Regional {
-        source: with_term(total.source, difference, lengths.source, source),
-        middle: with_term(total.middle, difference, lengths.middle, middle),
-        receiver: with_term(total.receiver, difference, lengths.receiver, receiver),
+        source: with_term(total.source, difference, lengths.source, widths.source),
+        middle: with_term(total.middle, difference, lengths.middle, widths.middle),
+        receiver: with_term(
+            total.receiver,
+            difference,
+            lengths.receiver,
+            widths.receiver,
+        ),
     }
 }
 
-/// A sum with the term of a zone: the difference that it makes over a length, as a part of the whole stretch.
-fn with_term(sum: Iv, difference: Iv, length: Iv, stretch: Stretch) -> Iv
-    ensures { result ≡ enc (Add (Known sum) (term_of difference length stretch)) }
+/// A sum with the term of a zone: the difference that it makes over a length, as a part of the width of the stretch.
+fn with_term(sum: Iv, difference: Iv, length: Iv, width: Iv) -> Iv
+    ensures { result ≡ enc (Add (Known sum) (Div (Mul (Known difference) (Known length)) (Known width))) }
 {
-    add(
-        sum,
-        div(mul(difference, length), sub(stretch.to, stretch.from)),
-    )
+    add(sum, over_width(mul(difference, length), width))
 }

@@ -8,6 +8,7 @@ ghost use Rattle.term_ground.specs.inner.Walks.{IsRoute, IsLeg};
 ghost use Rattle.term_ground.specs.inner.Walks.{each_stretch};
 ghost use Rattle.path_shape.specs.inner.Stretches.{on_first_leg, on_second_leg};
 
+use crate::extents::extent::Sections;
 use crate::legs::leg::{Leg, Route};
 use crate::legs::stretch::{Stretches, regions_of};
 use path_shape::{Legs, Path, place};
@@ -43,6 +44,7 @@ fn leg_from(start: Pt, dir: Dir, end: Frac, stretches: Stretches) -> Leg
         dir,
         end,
         stretches,
+        sections: Sections::of(&stretches),
     }
 }
 

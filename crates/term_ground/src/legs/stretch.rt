@@ -4,6 +4,7 @@ ghost use Rattle.std.specs.Prelude.{◌≡◌, ◌+◌};
 ghost use Rattle.fix_interval.specs.Tree.{Known, enc};
 ghost use Rattle.term_ground.specs.Regions as regions;
 ghost use Rattle.term_ground.specs.inner.Walks.{stretches_of};
+ghost use Rattle.term_ground.specs.inner.Widths as wide;
 
 use crate::coverage::lengths::thirty;
 use fix_interval::{Iv, div, exact, min, sub};
@@ -45,6 +46,17 @@ pub(crate) fn regions_of(path: &Path) -> Stretches
             from: sub(one, min(one, by_receiver)),
             to: one,
         },
+    }
+}
+
+/// How wide the regions are.
+pub(crate) fn widths_of(stretches: &Stretches) -> Regional
+    ensures { result ≡ wide.widths_of stretches.now }
+{
+    Regional {
+        source: sub(stretches.source.to, stretches.source.from),
+        middle: sub(stretches.middle.to, stretches.middle.from),
+        receiver: sub(stretches.receiver.to, stretches.receiver.from),
     }
 }
 

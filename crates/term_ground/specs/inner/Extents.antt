@@ -1,0 +1,30 @@
+-- Quantities and stretches whose ends are kept in 64 bits.
+use Rattle.std.specs.Prelude.{◌≡◌, Some}
+use Rattle.fix_interval.specs.Interval.{Interval}
+use Rattle.fix_interval.specs.Tree.{enc}
+use Rattle.fix_interval.specs.Values.{max_of, min_of, sub_of}
+use Rattle.path_shape.specs.Forms.{zero_form}
+use Rattle.path_shape.specs.declared.stretch.Stretch.{Stretch}
+use Rattle.term_ground.specs.declared.extents.extent.Extent.{Extent}
+use Rattle.term_ground.specs.declared.extents.extent.Section.{Section}
+use Rattle.term_ground.specs.declared.extents.extent.Sections.{Sections}
+use Rattle.term_ground.specs.declared.legs.stretch.Stretches.{Stretches}
+
+-- as an interval
+abbrev pub by_ends : Extent → Interval
+by_ends extent = record { lo = Some extent.lo; hi = Some extent.hi }
+
+-- a stretch with its ends
+pub record IsSection (section : Section) (stretch : Stretch) : Type 0 where
+  pub from_is : stretch.from ≡ by_ends section.from
+  pub to_is : stretch.to ≡ by_ends section.to
+
+-- the regions with their ends
+pub record AreSections (sections : Sections) (stretches : Stretches) : Type 0 where
+  pub source : IsSection sections.source stretches.source
+  pub middle : IsSection sections.middle stretches.middle
+  pub receiver : IsSection sections.receiver stretches.receiver
+
+-- what lies of the stretch between two ends before a place
+abbrev pub part_at : Interval → Interval → Interval → Interval
+part_at place from to = max_of (enc zero_form) (sub_of (min_of place to) from)
