@@ -1,10 +1,10 @@
 -- Quantities whose ends are kept in 64 bits are those of the table of enclosures.
-use Rattle.std.proofs.Common.{◌≡◌, ℕ, ◌+◌, ◌*◌, ◌/◌, ◌%◌, ◌<◌, ◌≤◌, ◌^◌, ℤ, pos, negsuc, neg_ℤ, ◌+ℤ◌, ◌-ℤ◌, ◌*ℤ◌, ◌≤ℤ◌, ◌<ℤ◌, to_z, of_z, refl, sym, ap, subst, ◌∙◌, arith}
+use Rattle.std.proofs.Common.{◌≡◌, ℕ, ◌+◌, ◌*◌, ◌/◌, ◌%◌, ◌<◌, ◌≤◌, ◌^◌, ℤ, pos, negsuc, neg_ℤ, ◌+ℤ◌, ◌-ℤ◌, ◌*ℤ◌, ◌≤ℤ◌, ◌<ℤ◌, to_z, of_z, refl, sym, ap, subst, arith}
 use Rattle.std.specs.Prelude.{Some, unsigned_abs}
 use Rattle.std.specs.Int.{w64, w128, div_ceil, int_min, int_max}
 use Rattle.std.proofs.lemmas.Int.{ints, clamps}
 use Rattle.std.proofs.lemmas.Nat.{div-add-mod'}
-use Rattle.fix_interval.specs.Interval.{Interval, IsInterval}
+use Rattle.fix_interval.specs.Interval.{IsInterval}
 use Rattle.fix_interval.specs.Units.{unit, unit-is}
 use Rattle.fix_interval.specs.Round.{floor_of, ceil_of, floor_quotient, ceil_quotient}
 use Rattle.fix_interval.specs.Values.{ratio_of, add_of, neg_of, max_of, min_of, quotient_of_ends}

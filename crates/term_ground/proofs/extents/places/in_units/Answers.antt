@@ -1,4 +1,4 @@
-use Rattle.std.proofs.Common.{◌∙◌, sym, ap, arith}
+use Rattle.std.proofs.Common.{sym, arith}
 use Rattle.term_ground.proofs.ShortEnds.{place-down, place-up-exact, place-up}
 use Rattle.term_ground.proofs.extents.places.in_units.Goals as goal
 

@@ -1,4 +1,3 @@
-use Rattle.std.proofs.Common.{arith}
 use Rattle.term_ground.proofs.ShortEnds.{place-passed}
 use Rattle.term_ground.proofs.extents.places.inner_place.Goals as goal
 
