@@ -1,19 +1,20 @@
 -- Quantities whose ends are kept in 64 bits are those of the table of enclosures.
 use Rattle.std.proofs.Common.{◌≡◌, ℕ, ◌+◌, ◌*◌, ◌/◌, ◌%◌, ◌<◌, ◌≤◌, ◌^◌, ℤ, pos, negsuc, neg_ℤ, ◌+ℤ◌, ◌-ℤ◌, ◌*ℤ◌, ◌≤ℤ◌, ◌<ℤ◌, to_z, of_z, refl, sym, ap, subst, arith}
-use Rattle.std.specs.Prelude.{Some, unsigned_abs}
+use Rattle.std.specs.Prelude.{Option, Some, None, unsigned_abs}
 use Rattle.std.specs.Int.{w64, w128, div_ceil, int_min, int_max}
 use Rattle.std.proofs.lemmas.Int.{ints, clamps}
+use Rattle.std.proofs.Math.Nat.{zero-div}
 use Rattle.std.proofs.lemmas.Nat.{div-add-mod'}
-use Rattle.fix_interval.specs.Interval.{IsInterval}
+use Rattle.fix_interval.specs.Interval.{Interval, IsInterval, IsEnd}
 use Rattle.fix_interval.specs.Units.{unit, unit-is}
 use Rattle.fix_interval.specs.Round.{floor_of, ceil_of, floor_quotient, ceil_quotient}
-use Rattle.fix_interval.specs.Values.{ratio_of, add_of, neg_of, max_of, min_of, quotient_of_ends}
+use Rattle.fix_interval.specs.Values.{ratio_of, sum_of_ends, add_of, neg_of, mul_of, div_of, max_of, min_of, quotient_of_ends}
 use Rattle.fix_interval.proofs.Dividing.{least_by_positive, least_by_positive_negative, greatest_by_positive, greatest_by_positive_negative, units-not_negative, units-negative, quotient_of_ends-positive, IsInterval-quotient_by_positive}
 use Rattle.fix_interval.proofs.Multiplying.{end_of-small}
 use Rattle.fix_interval.proofs.Ratios.{passed, ratio_of-small, unsigned_abs-units}
 use Rattle.fix_interval.proofs.WholeFactors.{within-64}
-use Rattle.fix_interval.proofs.Rounding.{ceil_of-pos, floor_of-negative, unsigned_abs-floor_of, unsigned_abs-ceil_of, div-parts}
-use Rattle.term_ground.specs.inner.Extents.{part_at}
+use Rattle.fix_interval.proofs.Rounding.{ceil_of-pos, floor_of-negative, unsigned_abs-floor_of, unsigned_abs-ceil_of, div_ceil_zero, div-parts}
+use Rattle.term_ground.specs.inner.Extents.{part_at, no_length}
 
 -- ---- what lies before a place
 
@@ -159,6 +160,45 @@ module _ (al ah bl bh l g : ℤ) (p : pos 0 <ℤ bl) (o : bl ≤ℤ bh) (a : al 
 
   pub quotient-interval : IsInterval (record { lo = Some (to_z w128 (of_z w128 l)); hi = Some (to_z w128 (of_z w128 g)) })
   quotient-interval = rw (passed l ends-fit.low_end, passed g ends-fit.high_end) ends-fit
+
+-- ---- no length
+
+no-product : (z : ℤ) → z *ℤ pos 0 ≡ pos 0
+no-product z = omega (arith, ints)
+
+nothing-over : (wl wh : ℤ) → pos 0 <ℤ wl → wl ≤ℤ wh → quotient_of_ends (pos 0) (pos 0) wl wh ≡ no_length
+nothing-over wl wh p o =
+    let none : pos 0 ≤ℤ (pos 0 *ℤ pos unit) = units-not_negative (pos 0) (omega (arith, ints)) in
+    let low : 0 < unsigned_abs wl = omega (arith, ints) in
+    rw (
+      quotient_of_ends-positive (pos 0) (pos 0) wl wh p o (omega (arith, ints)) (omega arith) (omega arith),
+      least_by_positive (pos 0 *ℤ pos unit) wl wh p o none,
+      greatest_by_positive (pos 0 *ℤ pos unit) wl wh p o none,
+      floor-positive (pos 0 *ℤ pos unit) (unsigned_abs wh) none,
+      ceil_of-pos (pos 0 *ℤ pos unit) (unsigned_abs wl) low none,
+      unsigned_abs-units (pos 0),
+      zero-div (unsigned_abs wh),
+      div_ceil_zero (unsigned_abs wl) low,
+    )
+    refl
+
+pub nothing-found : (dl dh wl wh : ℤ) → pos 0 <ℤ wl → wl ≤ℤ wh
+    → div_of (mul_of (record { lo = Some dl; hi = Some dh }) no_length) (record { lo = Some wl; hi = Some wh }) ≡ no_length
+unfolding mul_of div_of unit
+nothing-found dl dh wl wh p o = rw (no-product dl, no-product dh) (nothing-over wl wh p o)
+
+pub sum-kept : (i : Interval) → IsInterval i → add_of i no_length ≡ i
+unfolding add_of
+sum-kept i is = both i.lo i.hi is.low_end is.high_end where
+  same : (z : ℤ) → z +ℤ pos 0 ≡ z
+  same z = omega (arith, ints)
+
+  kept : (end : Option ℤ) → IsEnd end → sum_of_ends end (Some (pos 0)) ≡ end
+  kept None h = refl
+  kept (Some z) h = rw (same z, end_of-small z h) refl
+
+  both : (lo hi : Option ℤ) → IsEnd lo → IsEnd hi → add_of (record { lo = lo; hi = hi }) no_length ≡ record { lo = lo; hi = hi }
+  both lo hi l h = rw (kept lo l, kept hi h) refl
 
 -- ---- places
 

@@ -1,5 +1,5 @@
 -- Quantities and stretches whose ends are kept in 64 bits.
-use Rattle.std.specs.Prelude.{◌≡◌, Some}
+use Rattle.std.specs.Prelude.{◌≡◌, Some, pos}
 use Rattle.fix_interval.specs.Interval.{Interval}
 use Rattle.fix_interval.specs.Tree.{enc}
 use Rattle.fix_interval.specs.Values.{max_of, min_of, sub_of}
@@ -28,3 +28,7 @@ pub record AreSections (sections : Sections) (stretches : Stretches) : Type 0 wh
 -- what lies of the stretch between two ends before a place
 abbrev pub part_at : Interval → Interval → Interval → Interval
 part_at place from to = max_of (enc zero_form) (sub_of (min_of place to) from)
+
+-- a length of exactly 0
+abbrev pub no_length : Interval
+no_length = record { lo = Some (pos 0); hi = Some (pos 0) }

@@ -14,7 +14,7 @@ ghost use Rattle.term_ground.specs.inner.Widths as wide;
 
 use crate::coverage::covering::lengths_on;
 use crate::coverage::lengths::factor;
-use crate::extents::quotients::over_width;
+use crate::extents::quotients::{is_nothing, is_short_part, kept, over_width};
 use crate::legs::leg::Route;
 use crate::legs::region::Region;
 use crate::legs::route::route_of;
@@ -122,5 +122,8 @@ fn with_zone(
 fn with_term(sum: Iv, difference: Iv, length: Iv, width: Iv) -> Iv
     ensures { result ≡ enc (Add (Known sum) (Div (Mul (Known difference) (Known length)) (Known width))) }
 {
+    if is_nothing(length) && is_short_part(difference, width) {
+        return kept(sum);
+    }
     add(sum, over_width(mul(difference, length), width))
 }

@@ -4,14 +4,41 @@ ghost use Rattle.std.specs.Prelude.{◌≡◌, ◌<◌, ◌^◌, pos, ◌*ℤ◌
 ghost use Rattle.std.specs.Int.{div_ceil, int_min, int_max};
 ghost use Rattle.fix_interval.specs.Units.{unit};
 ghost use Rattle.fix_interval.specs.Round.{floor_quotient, ceil_quotient};
-ghost use Rattle.fix_interval.specs.Values.{div_of};
-ghost use Rattle.term_ground.specs.inner.Extents.{by_ends};
+ghost use Rattle.fix_interval.specs.Values.{add_of, mul_of, div_of};
+ghost use Rattle.term_ground.specs.inner.Extents.{by_ends, no_length};
 
 use crate::extents::extent::Extent;
 use fix_interval::{Iv, div};
 
 /// A dividend below this absolute value times the number of units that are one fits 64 bits.
 const DIVIDEND_LIMIT: u64 = 1 << 32;
+
+/// Whether a length is exactly 0, as that of a zone which lies before a region is.
+#[inline(always)]
+pub(crate) fn is_nothing(length: Iv) -> bool
+    ensures { result ≡ true → length ≡ no_length }
+{
+    length.lo() == 0 && length.hi() == 0
+}
+
+/// Whether a difference and a width are short and the width is above 0, so that no length makes no term of them.
+#[inline(always)]
+pub(crate) fn is_short_part(difference: Iv, width: Iv) -> bool
+    ensures { result ≡ true → div_of (mul_of difference no_length) width ≡ no_length }
+{
+    match (Extent::of(difference), Extent::of(width)) {
+        (Some(_), Some(by)) => 0 < by.lo,
+        _ => false,
+    }
+}
+
+/// A sum to which no length adds anything.
+#[inline(always)]
+pub(crate) fn kept(sum: Iv) -> Iv
+    ensures { result ≡ add_of sum no_length }
+{
+    Iv::of_ends(sum.low(), sum.high())
+}
 
 /// The quotient of two quantities, as `div` gives it. Where the first lies between -1 and 1 and the second is above 0, as
 /// the width of a stretch is, it is one short division an end.
