@@ -1,5 +1,8 @@
 //! Reflections that are there.
-use scene_geom::{Dir, Frac};
+ghost use Rattle.std.specs.Prelude.{◌≡◌};
+ghost use Rattle.scene_geom.specs.Reflection.{CanReflect, unfolded};
+
+use scene_geom::{Dir, Frac, Pt, Side, unfold};
 use std::marker::Model;
 
 /// The reflection in a side of an obstacle, as the path from a source to a receiver by way of it, unfolded (ISO 9613-2,
@@ -28,4 +31,20 @@ impl Model for Mirror {
     ghost invariant = { λ m. IsMirror (record { first = m.first; second = m.second; p = m.p; square = m.plan2 }) };
 
     ghost inverse = { λ path. record { p = path.p; first = path.first; second = path.second; plan2 = path.square } };
+}
+
+impl Mirror {
+    /// The reflection from a source to a receiver in a side that mirrors one to the other.
+    pub fn of(side: Side, s: Pt, r: Pt) -> Mirror
+        requires { CanReflect side s r }
+        ensures { result ≡ unfolded side s r }
+    {
+        let plan = unfold(side, s, r);
+        Mirror {
+            p: plan.p,
+            first: plan.first,
+            second: plan.second,
+            plan2: plan.square,
+        }
+    }
 }

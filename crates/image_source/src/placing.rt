@@ -37,8 +37,8 @@ pub(crate) fn height_at(h: u32, t: Frac) -> i128
 /// How far along a side from its start the point lies that is at a place of the way between two points, times the square
 /// of the side's length and the divisor of the place, in mm.
 pub(crate) fn ahead_at(side: Side, from: Pt, to: Pt, p: Frac) -> i128
-    requires above { unsigned_abs p.n ≤ 5940000000000 }
-    requires below { unsigned_abs p.d ≤ 5940000000000 }
+    requires above { unsigned_abs p.n ≤ 256000000000000 }
+    requires below { unsigned_abs p.d ≤ 256000000000000 }
     ensures { result ≡ at_place (form.ahead side from) (form.ahead side to) p }
 {
     let start = ahead(side, from);

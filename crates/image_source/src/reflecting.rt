@@ -1,15 +1,17 @@
 //! Where a side of an obstacle reflects.
-ghost use Rattle.std.specs.Prelude.{◌≡◌, ◌<◌, length, slice_get, IfSome};
+ghost use Rattle.std.specs.Prelude.{◌≡◌, ◌≤◌, ◌<◌, length, pos, slice_get, true, unsigned_abs, IfSome};
+ghost use Rattle.scene_parts.specs.Ranges.{IsObstacle};
 ghost use Rattle.scene_parts.specs.Sides.{sides_of};
 ghost use Rattle.scene_geom.specs.Crossing.{are_opposite};
-ghost use Rattle.scene_geom.specs.Fraction.{FitsEnd};
-ghost use Rattle.scene_geom.specs.Reflection.{CanReflect};
+ghost use Rattle.scene_geom.specs.Fraction.{FitsCrossing};
+ghost use Rattle.scene_geom.specs.Reflection.{CanReflect, are_on_one_side, off_wall};
+ghost use Rattle.scene_geom.specs.Reflection as wall;
 ghost use Rattle.image_source.specs.Mirrors.{mirror_of};
 ghost use Rattle.image_source.specs.Mirrors as form;
 
 use crate::image::Mirror;
 use crate::placing::{ahead, ahead_at, height_at, sight_height};
-use scene_geom::{Frac, Pt, Side, area2, on_one_side, orient, unfold};
+use scene_geom::{Frac, Pt, Side, area2, on_one_side, orient};
 use scene_parts::{Ends, Obstacle, Shape, side_of};
 
 /// The reflection from a source to a receiver, whose heights are in mm, in side `i` of an obstacle. None where there is
@@ -55,20 +57,27 @@ pub fn mirror_by(
         (λ side. IfSome result (λ m. CanReflect side s r)) }
 {
     let side = side_of(o, i);
-    if o.rho == 0 || !on_one_side(side, s, r) || !faces(o, winding, side, s) {
-        return None;
-    }
-    let plan = unfold(side, s, r);
     let ends = Ends { s, hs, r, hr };
-    if !strikes(side, ends, plan.p) || !stays_below(ends, o.h, plan.p) {
-        return None;
+    if has_mirror(o, winding, side, ends) {
+        Some(Mirror::of(side, s, r))
+    } else {
+        None
     }
-    Some(Mirror {
-        p: plan.p,
-        first: plan.first,
-        second: plan.second,
-        plan2: plan.square,
-    })
+}
+
+/// Whether a side of an obstacle mirrors a source to a receiver, where it is known how the corners of the obstacle go
+/// round: where `mirror_by` gives a reflection. What most sides fail by is asked first, and nothing is unfolded.
+#[tactic(auto, unfolding(crate::specs::Mirrors::winding))]
+pub fn has_mirror(o: &Obstacle, winding: i128, side: Side, ends: Ends) -> bool
+    requires { winding ≡ form.winding o.now }
+    ensures value { result ≡ form.has_mirror o.now side ends }
+    ensures kept { IsObstacle o.now }
+{
+    if o.rho == 0 || !faces(o, winding, side, ends.s) || !on_one_side(side, ends.s, ends.r) {
+        return false;
+    }
+    let p = specular(side, ends.s, ends.r);
+    strikes(side, ends, p) && stays_below(ends, o.h, p)
 }
 
 /// Whether an obstacle's side reflects on the side on which a point lies: a building's doesn't on its inside.
@@ -83,9 +92,30 @@ fn faces(o: &Obstacle, winding: i128, side: Side, p: Pt) -> bool
     }
 }
 
+/// The fraction of the path that lies before the specular point.
+fn specular(side: Side, s: Pt, r: Pt) -> Frac
+    requires { are_on_one_side side s r ≡ true }
+    ensures value { result ≡ wall.specular side s r }
+    ensures fits { FitsCrossing result }
+{
+    let before = off(side, s);
+    Frac {
+        n: before,
+        d: before + off(side, r),
+    }
+}
+
+/// The distance of a point from the line of a side, times the side's length, in mm².
+fn off(side: Side, p: Pt) -> i128
+    ensures value { result ≡ pos (off_wall side p) }
+    ensures within { unsigned_abs result ≤ 128000000000000 }
+{
+    orient(side.from, side.to, p).abs()
+}
+
 /// Whether the specular point lies strictly between the ends of a side.
 fn strikes(side: Side, ends: Ends, p: Frac) -> bool
-    requires { FitsEnd p }
+    requires { FitsCrossing p }
     ensures { result ≡ form.strikes side ends p }
 {
     let place = ahead_at(side, ends.s, ends.r, p);
@@ -94,7 +124,7 @@ fn strikes(side: Side, ends: Ends, p: Frac) -> bool
 
 /// Whether the path passes the specular point no higher than the wall is.
 fn stays_below(ends: Ends, h: u32, p: Frac) -> bool
-    requires { FitsEnd p }
+    requires { FitsCrossing p }
     ensures { result ≡ form.stays_below ends h p }
 {
     sight_height(ends, p) <= height_at(h, p)

@@ -115,13 +115,6 @@ square-kept side s r m is kept = record {
 pub strong-mirror : (rho : ℕ) → 0 < rho → IsTrue (is_mirror rho) → 200 < rho
 strong-mirror rho some mirror = grind arith
 
--- a reflection that is there is the unfolded path
-pub unfolded-there : (o : Obstacle) (side : Side) (ends : Ends) (m : Reflection) → Some m ≡ mirror_of o side ends → m ≡ unfolded side ends.s ends.r
-unfolded-there o side ends m is = by (has_mirror o side ends) is where
-  by : (test : Bool) → Some m ≡ then_some test (unfolded side ends.s ends.r) → m ≡ unfolded side ends.s ends.r
-  by true e = cc
-  by false e = absurd (cc)
-
 -- ---- the bands that are asked for
 
 -- a wall counts in a band as its length tells
@@ -207,14 +200,14 @@ filter_map-cons f x xs = by (f x) refl where
 here : (sides : List Side) (i : ℕ) (side : Side) → slice_get sides i ≡ Some side → drop i sides ≡ side ∷ drop (i + 1) sides
 here sides i side e = drop_more sides i side (slice_get_within sides i side e) ∙ ap (λ x. x ∷ drop (i + 1) sides) (get_or_from_slice_get sides i side side e)
 
--- a path for a side, where there is one
+-- a path for a side, where it mirrors the source to the receiver
 pub one-added : (globals : Globals) (source : PreparedSource) (book : Book) (ends : Ends) (o : Obstacle) (side : Side) (laid : Reflection) (m : Reflected) (found : List Reflected)
-    → mirror_of o side ends ≡ Some laid → m ≡ reflected_of globals source ends (along_legs book ends o side laid)
+    → has_mirror o side ends ≡ true → laid ≡ unfolded side ends.s ends.r → m ≡ reflected_of globals source ends (along_legs book ends o side laid)
     → found ++ m ∷ [] ≡ found ++ map (reflected_of globals source ends) (option_to_list (reflected_in book ends o side))
-one-added globals source book ends o side laid m found some is = rw (some, is) refl
+one-added globals source book ends o side laid m found some there is = rw (some, is, there) refl
 
 pub none-added : (globals : Globals) (source : PreparedSource) (book : Book) (ends : Ends) (o : Obstacle) (side : Side) (found : List Reflected)
-    → mirror_of o side ends ≡ None → found ≡ found ++ map (reflected_of globals source ends) (option_to_list (reflected_in book ends o side))
+    → has_mirror o side ends ≡ false → found ≡ found ++ map (reflected_of globals source ends) (option_to_list (reflected_in book ends o side))
 none-added globals source book ends o side found none = rw none (sym (append-nil found))
 
 -- what is found, and what the sides behind give, is the same after a side

@@ -1,5 +1,5 @@
 //! Paths by way of reflecting walls (ISO 9613-2, 7.5).
-ghost use Rattle.std.specs.Prelude.{◌≡◌, ◌≤◌, ◌<◌, ◌++◌, length, map, slice_get, Some, IfOk, OnOk};
+ghost use Rattle.std.specs.Prelude.{◌≡◌, ◌≤◌, ◌<◌, ◌++◌, true, length, map, slice_get, Some, IfOk, OnOk};
 ghost use Rattle.std.specs.Option.{option_to_list};
 ghost use Rattle.scene_geom.specs.Reflection.{CanReflect};
 ghost use Rattle.scene_parts.specs.Ranges.{IsHeight};
@@ -7,7 +7,7 @@ ghost use Rattle.scene_parts.specs.Sides.{sides_of};
 ghost use Rattle.scene_geom.specs.Reflection.{unfolded};
 ghost use Rattle.scene_book.specs.Limits.{most_sides};
 ghost use Rattle.fix_interval.specs.Tree.{enc};
-ghost use Rattle.image_source.specs.Mirrors.{winding as winding_of};
+ghost use Rattle.image_source.specs.Mirrors.{has_mirror as is_mirror_of, winding as winding_of};
 ghost use Rattle.path_calc.specs.Contributions.{reflection_level as level_form};
 ghost use Rattle.std.specs.List.{list_any};
 ghost use Rattle.scene_geom.specs.Bands.{all_bands};
@@ -24,7 +24,7 @@ use crate::prepared::PreparedSource;
 use crate::reflected::{Echo, Reflected, Sound};
 use enclose_log::lg;
 use fix_interval::{Iv, Truth, exact, mul, ratio};
-use image_source::{Leg, Mirror, big_enough_in_bands, mirror_by, winding};
+use image_source::{Leg, Mirror, big_enough_in_bands, has_mirror, winding};
 use part_grid::Found;
 use path_shape::Path;
 use scene_geom::{Band, Side};
@@ -99,20 +99,40 @@ impl<'a> Between<'a> {
             ≡ found.old.items ++ map (reflected_of book.globals self.now.from.now self.now.ends)
             (option_to_list (reflected_in book self.now.ends obstacle.now side))) }
     {
-        let Ends { s, hs, r, hr } = self.ends;
-        match mirror_by(obstacle, winding, i, s, hs, r, hr) {
-            None => Ok(()),
-            Some(mirror) => {
-                found.push(self.by_way_of(obstacle, side, &mirror, near)?)?;
-                Ok(())
-            }
+        if !has_mirror(obstacle, winding, side, self.ends) {
+            return Ok(());
         }
+        self.add_by_way_of(found, obstacle, side, near)
+    }
+
+    /// Adds the path by way of a side of an obstacle that mirrors the source to the receiver. Most sides don't, so that the
+    /// loop over them keeps no room for a path.
+    #[inline(never)]
+    fn add_by_way_of(
+        &self,
+        found: &mut Vec<Reflected>,
+        obstacle: &Obstacle,
+        side: Side,
+        near: &mut Found,
+    ) -> Result<(), NoMemory>
+        requires source { self.now.from.now.h ≡ self.now.ends.hs }
+        requires receiver { self.now.to.now ≡ self.now.ends.hr }
+        requires source_height { IsHeight self.now.ends.hs }
+        requires receiver_height { IsHeight self.now.ends.hr }
+        requires reflects { 0 < obstacle.now.rho }
+        requires wall { CanReflect side self.now.ends.s self.now.ends.r }
+        requires mirrors { is_mirror_of obstacle.now side self.now.ends ≡ true }
+        ensures { OnOk result (let book = self.now.scene.now in found.new.items
+            ≡ found.old.items ++ map (reflected_of book.globals self.now.from.now self.now.ends)
+            (option_to_list (reflected_in book self.now.ends obstacle.now side))) }
+    {
+        let mirror = Mirror::of(side, self.ends.s, self.ends.r);
+        found.push(self.by_way_of(obstacle, side, &mirror, near)?)?;
+        Ok(())
     }
 
     /// The path by way of a side of an obstacle. In which bands the wall is large enough is asked first: many walls are too
-    /// small in all of them, and along those nothing is calculated. Most sides reflect none, so that the loop over them
-    /// keeps no room for one.
-    #[inline(never)]
+    /// small in all of them, and along those nothing is calculated.
     fn by_way_of(
         &self,
         obstacle: &Obstacle,

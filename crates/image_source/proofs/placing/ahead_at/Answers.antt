@@ -5,12 +5,12 @@ use Rattle.image_source.proofs.placing.ahead_at.Goals as goal
 
 places : (c : goal.After-struct_told-2-1) → FitsEven c.ahead-start.result c.ahead-end.result c.args.p
 places c =
-    evens c.ahead-start.result c.ahead-end.result c.args.p 128000000000000 5940000000000 c.ahead-start.ensures.within c.ahead-end.ensures.within c.requires.above c.requires.below
+    evens c.ahead-start.result c.ahead-end.result c.args.p 128000000000000 256000000000000 c.ahead-start.ensures.within c.ahead-end.ensures.within c.requires.above c.requires.below
     (omega arith) (omega arith) (omega arith) (omega arith) (omega arith)
 
 pub overflow_mul-result : goal.overflow_mul-result
 overflow_mul-result c =
-    product_fits c.ahead-start.result c.args.p.d 128000000000000 5940000000000 c.ahead-start.ensures.within c.requires.below (omega arith) (omega arith) (omega arith)
+    product_fits c.ahead-start.result c.args.p.d 128000000000000 256000000000000 c.ahead-start.ensures.within c.requires.below (omega arith) (omega arith) (omega arith)
 
 pub overflow_mul-result-2 : goal.overflow_mul-result-2
 overflow_mul-result-2 c = rise-fits _ _ _ (places c)

@@ -11,7 +11,7 @@ use Rattle.image_source.proofs.reflecting.strikes.Goals as goal
 
 pub overflow_mul-result : goal.overflow_mul-result
 overflow_mul-result c =
-    product_fits c.ahead.result c.args.p.d 128000000000000 5940000000000 c.ahead.ensures.within c.requires.below (omega arith) (omega arith) (omega arith)
+    product_fits c.ahead.result c.args.p.d 128000000000000 256000000000000 c.ahead.ensures.within c.requires.below (omega arith) (omega arith) (omega arith)
 
 -- both tests, the first of which holds
 both : (place place' end end' : ℤ) → place ≡ place' → end ≡ end' → int_lt (pos 0) place ≡ true → int_lt place end ≡ (int_lt (pos 0) place' && int_lt place' end')
@@ -22,7 +22,7 @@ returns-then-place-gt0 c =
     let side = c.args.side in
     let p = c.args.p in
     let place = still c.ahead_at-place.result (omega (arith, ints, c.ahead_at-place.type_inv)) in
-    let end = product_is c.ahead.result p.d 128000000000000 5940000000000 c.ahead.ensures.within c.requires.below (omega arith) (omega arith) (omega arith) in
+    let end = product_is c.ahead.result p.d 128000000000000 256000000000000 c.ahead.ensures.within c.requires.below (omega arith) (omega arith) (omega arith) in
     let square = c.ahead.ensures.value ∙ dot-abs (along side) in
     rw
     (place, end)
