@@ -27,17 +27,6 @@ second-of r s false q whole e h k is = k ∙ is
 
 -- ---- mirrors
 
-there-if : {A : Type 0} (b : Bool) (x : A) → is_some (then_some b x) ≡ b
-there-if true x = refl
-there-if false x = refl
-
-pub mirrors-at : (o : Obstacle) (ends : Ends) (at : Option Side) (side : Side) (found : Option Reflection) (answer : Bool)
-    → at ≡ Some side → answer ≡ is_some found → IfSome at (λ side. found ≡ mirror_of o side ends) → answer ≡ has_mirror o side ends
-mirrors-at o ends None side found answer there e h = cc
-mirrors-at o ends (Some other) side found answer there e h =
-    let same : other ≡ side = cc in
-    e ∙ ap is_some h ∙ there-if (has_mirror o other ends) (unfolded other ends.s ends.r) ∙ ap (λ (side : Side). has_mirror o side ends) same
-
 -- an obstacle that is taken as absorbing mirrors nothing
 pub absorbs : (o : Obstacle) (ends : Ends) → o.rho ≡ 0 → list_any (λ side. has_mirror o side ends) (sides_of o) ≡ false
 absorbs o ends e = none-passes (λ side. has_mirror o side ends) (sides_of o) (λ side i. rw e refl)

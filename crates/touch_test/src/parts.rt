@@ -2,7 +2,7 @@
 ghost use Rattle.std.specs.Prelude.{◌≡◌, ◌<◌, length, slice_get, All, Some};
 ghost use Rattle.std.specs.List.{list_any};
 ghost use Rattle.scene_parts.specs.Sides.{sides_of};
-ghost use Rattle.image_source.specs.Mirrors.{has_mirror, winding as winding_of};
+ghost use Rattle.image_source.specs.Mirrors.{has_mirror as is_mirror_of};
 ghost use Rattle.path_calc.specs.Segments.{FitsSegment};
 ghost use Rattle.touch_test.specs.Envelopes as far;
 ghost use Rattle.touch_test.specs.Touches as form;
@@ -10,7 +10,7 @@ ghost use Rattle.touch_test.specs.Touches.{bundled};
 
 use crate::crossings::{crosses_any, meets_any_leg, meets_line};
 use crate::envelopes::Envelope;
-use image_source::{mirror_by, winding};
+use image_source::{has_mirror, winding};
 use path_calc::{Bundle, Seg, within};
 use scene_geom::{Pt, Side};
 use scene_parts::{Ends, Obstacle, Part, Receiver, side_of, sides};
@@ -79,28 +79,18 @@ fn obstacle_touches(obstacle: &Obstacle, ends: Ends, trace: &[Seg]) -> bool
 
 /// Whether a side of an obstacle mirrors a source to a receiver.
 fn mirrors(obstacle: &Obstacle, ends: Ends) -> bool
-    ensures { result ≡ list_any (λ side. has_mirror obstacle.now side ends) (sides_of obstacle.now) }
+    ensures { result ≡ list_any (λ side. is_mirror_of obstacle.now side ends) (sides_of obstacle.now) }
 {
     if obstacle.rho == 0 {
         return false;
     }
     let winding = winding(obstacle);
     for i in 0..sides(obstacle) {
-        if reflects(obstacle, winding, i, side_of(obstacle, i), ends) {
+        if has_mirror(obstacle, winding, side_of(obstacle, i), ends) {
             return true;
         }
     }
     false
-}
-
-/// Whether side `i` of an obstacle mirrors a source to a receiver.
-fn reflects(obstacle: &Obstacle, winding: i128, i: u32, side: Side, ends: Ends) -> bool
-    requires winding { winding ≡ winding_of obstacle.now }
-    requires within { i < length (sides_of obstacle.now) }
-    requires side { slice_get (sides_of obstacle.now) i ≡ Some side }
-    ensures { result ≡ has_mirror obstacle.now side ends }
-{
-    mirror_by(obstacle, winding, i, ends.s, ends.hs, ends.r, ends.hr).is_some()
 }
 
 /// Whether the outline of a zone or of a foliage meets the direct line or a leg of a trace.

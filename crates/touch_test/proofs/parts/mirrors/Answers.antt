@@ -12,12 +12,12 @@ returns-then-obstacle-eq0 c =
     sym (absorbs c.args.obstacle.now c.args.ends
     (sym (ap (λ (o : Obstacle). o.rho) c.obstacle.view_is) ∙ c.if-obstacle-eq0.true))
 
-pub returns-then-reflects : goal.returns-then-reflects
-returns-then-reflects c =
+pub returns-then-has_mirror : goal.returns-then-has_mirror
+returns-then-has_mirror c =
     passes-there (λ (side : Side). has_mirror c.args.obstacle.now side c.args.ends) (sides_of c.args.obstacle.now) c.loop-i.i c.side_of.result _
-    c.side_of.ensures c.reflects.ensures c.if-reflects.true
+    c.side_of.ensures c.has_mirror.ensures.value c.if-has_mirror.true
 
 pub loop-i-preserved : goal.loop-i-preserved
 loop-i-preserved c =
     fails-too (λ (side : Side). has_mirror c.args.obstacle.now side c.args.ends) (sides_of c.args.obstacle.now) c.loop-i.i c.side_of.result _
-    c.side_of.ensures c.reflects.ensures c.if-reflects.false c.loop-i.invariant
+    c.side_of.ensures c.has_mirror.ensures.value c.if-has_mirror.false c.loop-i.invariant
