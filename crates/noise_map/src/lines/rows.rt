@@ -13,8 +13,8 @@ use level_contours::{Family, cells, loops, row_texts};
 use map_board::{LookAll, LookRow};
 use map_io::{Sink, put_all};
 use map_text::{
-    Head, Refusal, RowText, RowTexts, RowWriter, counts_text, head_text, receiver_text, refused_text,
-    row_text,
+    Head, Refusal, RowText, RowTexts, RowWriter, counts_text, head_text, receiver_text,
+    refused_text, row_text,
 };
 use scene_parts::NoMemory;
 
