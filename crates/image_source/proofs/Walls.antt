@@ -2,9 +2,8 @@
 use lib.Dec.{T_prop}
 use mir.Syntax.{w128}
 use mir.Val.{to_z, of_z}
-use Rattle.std.proofs.Common.{◌≡◌, ℕ, zero, suc, ◌+◌, ◌*◌, ◌≤◌, ◌<◌, List, [], ◌∷◌, refl, sym, ap, ◌∙◌, arith}
-use Rattle.std.specs.Prelude.{ℤ, negsuc, ◌+ℤ◌, ◌<ℤ◌, unsigned_abs, Some, None, slice_get, IsTrue, nat_le, pos, not, ◌==◌, Bool, true, false, ◌&&◌}
-use Rattle.std.specs.Bool.{then_some}
+use Rattle.std.proofs.Common.{◌≡◌, ℕ, zero, suc, ◌+◌, ◌*◌, ◌≤◌, ◌<◌, List, [], ◌∷◌, refl, ap, ◌∙◌, arith}
+use Rattle.std.specs.Prelude.{ℤ, negsuc, ◌+ℤ◌, ◌<ℤ◌, unsigned_abs, Some, slice_get, IsTrue, nat_le, pos, not, ◌==◌, Bool, true, false, ◌&&◌}
 use Rattle.std.specs.List.{list_all}
 use Rattle.std.proofs.lemmas.Int.{ints}
 use Rattle.scene_geom.specs.declared.plan.Pt.{Pt}
@@ -17,7 +16,7 @@ use Rattle.scene_parts.specs.Views.{Obstacle}
 use Rattle.scene_parts.specs.Ranges.{IsObstacle}
 use Rattle.scene_parts.specs.Sides.{sides_of, is_short}
 use Rattle.scene_parts.specs.declared.screening.ends.Ends.{Ends}
-use Rattle.image_source.specs.Mirrors.{IsMirror, strikes, stays_below, faces, has_mirror, mirror_of}
+use Rattle.image_source.specs.Mirrors.{IsMirror, strikes, stays_below, faces, has_mirror}
 
 -- each side of a list of short ones is short
 all-short : (sides : List Side) (i : ℕ) (side : Side) → IsTrue (list_all is_short sides) → slice_get sides i ≡ Some side → is_short side ≡ true

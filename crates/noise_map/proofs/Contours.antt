@@ -1,9 +1,8 @@
 -- The cells of contours are as many as the columns and rows of their grid say.
-use Rattle.std.proofs.Common.{◌≡◌, ℕ, zero, suc, ◌+◌, ◌*◌, List, length, map, refl, ap, ◌∙◌, subst, arith}
+use Rattle.std.proofs.Common.{◌≡◌, ℕ, zero, suc, ◌*◌, List, length, map, refl, ap, ◌∙◌, subst, arith}
 use Rattle.std.specs.Prelude.{Result, IfOk}
 use Rattle.std.proofs.lemmas.List.{length-append, length-map}
 use native.Mathlib.Nat.{suc-mul, mul_comm}
-use Rattle.scene_book.specs.Grid.{name_in}
 use Rattle.command_lines.specs.Views.{Contour}
 use Rattle.command_lines.specs.inner.Ranges.{IsContour}
 use Rattle.map_board.specs.declared.looks.LookAll.{LookAll}

@@ -1,5 +1,5 @@
 -- A line was done behind others.
-use Rattle.std.proofs.Common.{◌≡◌, ℕ, ◌+◌, Bool, ◌||◌, List, [], ◌∷◌, ◌++◌, length, refl, sym, ap, ◌∙◌, subst, arith, inl, inr, append_assoc, length-append}
+use Rattle.std.proofs.Common.{◌≡◌, ℕ, ◌+◌, Bool, ◌||◌, List, [], ◌∷◌, ◌++◌, length, refl, sym, ap, ◌∙◌, subst, arith, inl, inr, length-append}
 use Rattle.std.specs.Prelude.{Option, slice_get}
 use Rattle.std.specs.Io.KnownBytes.{Appends}
 use Rattle.std.proofs.KnownBytes.{Appends-nil, Appends-trans}
@@ -7,7 +7,6 @@ use Rattle.std.proofs.lemmas.List.{append-nil}
 use Rattle.command_words.specs.declared.line.CommandLine.{CommandLine}
 use Rattle.map_io.specs.Lines.{all_but_last}
 use Rattle.turn_lock.proofs.Histories.{begins_self, begins_trans}
-use Rattle.scene_book.specs.declared.edits.Edit.{Edit}
 use Rattle.map_board.specs.declared.looks.LookAll.{LookAll}
 use Rattle.map_board.specs.Seats.{Entries}
 use Rattle.map_board.specs.Showing.{accepted_edits}

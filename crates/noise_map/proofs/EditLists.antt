@@ -1,6 +1,6 @@
 -- Edits that are made one after the other.
 use Rattle.std.proofs.Common.{◌≡◌, ℕ, zero, suc, None, List, [], ◌∷◌, ◌++◌, length, take, refl, sym, ap, ◌∙◌, subst, inl, inr, append_assoc, arith}
-use Rattle.std.specs.Prelude.{Bool, true, false, Vec, Option, Some, Result, Ok, Err, ◌⊎◌, IsSomeAnd, slice_get, fold, reverse}
+use Rattle.std.specs.Prelude.{Bool, true, false, Vec, Option, Some, Result, Ok, Err, ◌⊎◌, IsSomeAnd, slice_get, reverse}
 use Rattle.std.proofs.lemmas.List.{append-nil, reverse-append}
 use Rattle.std.proofs.lemmas.List.Sums.{fold-append}
 use Rattle.std.proofs.Math.Seq.{take-append_seam}
@@ -9,7 +9,7 @@ use Rattle.turn_lock.proofs.Histories.{begins_trans}
 use Rattle.map_board.specs.declared.looks.LookAll.{LookAll}
 use Rattle.map_board.specs.Seats.{Entries}
 use Rattle.map_board.specs.Showing.{accepted_edits}
-use Rattle.map_lock.specs.Seats.{BoardSeat, BoardEntry}
+use Rattle.map_lock.specs.Seats.{BoardSeat}
 use Rattle.noise_map.specs.declared.run.editor.Editor.{Editor}
 use Rattle.noise_map.specs.declared.lines.keeping.KeptVersion.{KeptVersion}
 use Rattle.std.specs.declared.alloc.Global.{Global}
@@ -17,9 +17,8 @@ use Rattle.scene_book.specs.Applying.{lacks_memory}
 use Rattle.scene_book.specs.declared.edits.EditFault.{EditFault}
 use Rattle.map_text.specs.declared.refusals.Refusal.TheVariants.{Edit as OfEdit, NoSuchVersion}
 use Rattle.noise_map.specs.Effects.{Past, is_kept, edits_back, Effect, shows, silent, refused, effect_of_edits, effect_of_undo, journal_with, journal_with_all}
-use Rattle.noise_map.specs.Texts.{answer_to}
 use Rattle.noise_map.specs.Ways.{looks_in, edit_entry, edit_entries, lacking_edit, BreaksOff}
-use Rattle.noise_map.specs.inner.Steps.{kept_in, past_of, kept_when, kept_when_all, IsCut, Knows, HasFollowed, HasGone, HasMade, HasLacked, MakesOrLacks, MakesUnlessMemory, has_lacked, HasMadeAll, HasLackedOne, HasMet, HasFailed, MeetsEditsUnlessMemory}
+use Rattle.noise_map.specs.inner.Steps.{kept_in, past_of, kept_when, kept_when_all, IsCut, Knows, HasGone, HasMade, HasLacked, MakesOrLacks, MakesUnlessMemory, has_lacked, HasMadeAll, HasLackedOne, HasMet, HasFailed, MeetsEditsUnlessMemory}
 use Rattle.noise_map.proofs.Effects.{get-behind}
 use Rattle.noise_map.proofs.Ways.{looks_in-append, looks_in-one}
 use Rattle.noise_map.proofs.Meeting.{Meets, still, refusal-met, followed-still}

@@ -1,28 +1,27 @@
 -- Kept versions: in a journal that grows, with one more, and cut for an undo.
-use Rattle.std.proofs.Common.{◌≡◌, ℕ, zero, suc, ◌+◌, ◌*◌, ◌<◌, ◌≤◌, true, false, List, [], ◌∷◌, ◌++◌, length, take, Some, refl, sym, ap, ◌∙◌, subst, arith, inl, inr, append_assoc, length-append}
-use Rattle.std.specs.Prelude.{Bool, Vec, Option, Result, Ok, Err, IsErr, ◌⊎◌, All, map, reverse, filter, flat_map, slice_get, nat_lt, nat_le, ◌==◌, ◌||◌, if◌then◌else◌}
+use Rattle.std.proofs.Common.{◌≡◌, ℕ, suc, ◌*◌, ◌<◌, ◌≤◌, true, false, List, [], ◌∷◌, ◌++◌, length, refl, sym, ap, ◌∙◌, subst, arith, inl, inr, append_assoc, length-append}
+use Rattle.std.specs.Prelude.{Bool, Vec, Option, Result, Ok, Err, IsErr, All, map, reverse, filter, flat_map, nat_lt, nat_le, ◌==◌, ◌||◌}
 use Rattle.std.proofs.lemmas.Bool.Decides.{nat_tests}
 use Rattle.std.proofs.lemmas.Grind.{flat_map-append}
-use Rattle.std.proofs.lemmas.List.{append-nil, reverse-append, take-append-le, map-append}
+use Rattle.std.proofs.lemmas.List.{append-nil, reverse-append, map-append}
 use Rattle.std.specs.List.{list_any}
 use Rattle.std.proofs.lemmas.List.Folds.{list_any-append}
 use Rattle.std.proofs.lemmas.List.Elements.{All-nil, All-append, All-cons, All-head, All-tail, filter-append}
-use Rattle.std.proofs.Math.Seq.{take-append_seam}
 use Rattle.std.specs.declared.alloc.Global.{Global}
 use Rattle.scene_parts.specs.declared.parts.Part.{Part}
-use Rattle.scene_book.specs.Book.{Book, empty_book}
+use Rattle.scene_book.specs.Book.{Book}
 use Rattle.scene_book.specs.Applying.{apply_of, grid_of, lacks_memory}
 use Rattle.scene_book.specs.declared.edits.Edit.{Edit}
 use Rattle.scene_book.specs.declared.edits.Edit.TheVariants as edits
 use Rattle.scene_book.specs.declared.edits.EditFault.{EditFault}
 use Rattle.scene_parts.specs.Views.{Grid}
 use Rattle.scene_undo.specs.Inverse.{inverse_of}
-use Rattle.map_board.specs.Journal.{book_after_all, newest_scene}
+use Rattle.map_board.specs.Journal.{newest_scene}
 use Rattle.map_board.specs.Showing.{accepted_edits}
 use Rattle.map_text.specs.declared.refusals.Refusal.TheVariants.{Edit as OfEdit}
 use Rattle.noise_map.specs.declared.run.editor.Editor.{Editor}
 use Rattle.noise_map.specs.declared.lines.keeping.KeptVersion.{KeptVersion}
-use Rattle.noise_map.specs.Effects.{is_kept, silent, refused, undone_by, way_back, edits_back, display_of_edit, with_edit, journal_with, journal_with_all, with_version, kept_with, kept_with_all}
+use Rattle.noise_map.specs.Effects.{is_kept, silent, refused, way_back, edits_back, display_of_edit, with_edit, journal_with, journal_with_all, with_version, kept_with, kept_with_all}
 use Rattle.noise_map.specs.inner.Steps.{kept_in, past_of, IsKeptOf, Descends, Knows, HasMade, MakesOrLacks, MakesUnlessMemory, display_behind, kept_when, kept_when_all, EndsUpTo, IsCut}
 use Rattle.noise_map.proofs.Journals.{way-stays, way-last}
 

@@ -18,7 +18,7 @@ use Rattle.scene_parts.specs.Crossings.{counts_in}
 use Rattle.edge_chain.specs.Chain.{segments_of}
 use Rattle.part_grid.specs.declared.owned.Owned.{Owned}
 use Rattle.part_grid.specs.Cells.{cells_meet_of}
-use Rattle.part_grid.specs.Numbered.{owned_by, numbered}
+use Rattle.part_grid.specs.Numbered.{numbered}
 use Rattle.part_grid.proofs.Crossed.{unmet-are-apart}
 use Rattle.part_grid.proofs.Numbered.{IsFoundAt, found-at, or_none, looked_any, any-near, any-by-obstacles, any-more}
 use Rattle.path_calc.specs.LateralPaths.{is_in_the_way}

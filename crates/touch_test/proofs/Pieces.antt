@@ -1,15 +1,11 @@
 -- What the code asks of a part, in another order than the definitions.
 use Rattle.std.proofs.Common.{◌≡◌, refl, sym, ap, ◌∙◌, Bool, true, false, ◌||◌, List}
-use Rattle.std.specs.Prelude.{Option, Some, None, is_some, IfSome}
-use Rattle.std.specs.Bool.{then_some}
 use Rattle.std.specs.List.{list_any}
 use Rattle.scene_geom.specs.declared.plan.Side.{Side}
-use Rattle.scene_geom.specs.declared.reflection.Reflection.{Reflection}
-use Rattle.scene_geom.specs.Reflection.{unfolded}
 use Rattle.scene_parts.specs.Views.{Obstacle}
 use Rattle.scene_parts.specs.Sides.{sides_of}
 use Rattle.scene_parts.specs.declared.screening.ends.Ends.{Ends}
-use Rattle.image_source.specs.Mirrors.{has_mirror, mirror_of}
+use Rattle.image_source.specs.Mirrors.{has_mirror}
 use Rattle.path_calc.specs.declared.bundles.segments.Seg.{Seg}
 use Rattle.touch_test.specs.Crossings.{crosses_segment}
 use Rattle.touch_test.specs.Touches.{obstacle_touches}

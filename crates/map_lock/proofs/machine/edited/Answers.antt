@@ -1,0 +1,5 @@
+use Rattle.map_lock.proofs.machine.edited.Goals as goal
+
+-- an edit that must fail breaks this goal: with an answer it is refused sooner
+pub returns : goal.returns
+returns c = c.edit.ensures
