@@ -25,7 +25,7 @@ impl Model for PointSource {
 
     ghost view = { λ s. record { name = s.name; kind = s.kind; at = s.at; h = s.h; lw = s.lw; dc = s.dc } };
 
-    ghost invariant = { λ s. IsSource (view s) };
+    ghost invariant = { λ s. IsSource (record { name = s.name; kind = s.kind; at = s.at; h = s.h; lw = s.lw; dc = s.dc }) };
 }
 
 /// A barrier or a building (ISO 9613-2, 7.4 and 7.5): its height in mm, and what its sides reflect per mille.
@@ -46,7 +46,7 @@ impl Model for Obstacle {
 
     ghost view = { λ o. record { name = o.name; shape = o.shape; points = o.points; h = o.h; rho = o.rho } };
 
-    ghost invariant = { λ o. IsObstacle (view o) };
+    ghost invariant = { λ o. IsObstacle (record { name = o.name; shape = o.shape; points = o.points; h = o.h; rho = o.rho }) };
 }
 
 /// A zone of ground (ISO 9613-2, 7.3.1): its ground factor in hundredths.
@@ -65,7 +65,7 @@ impl Model for Zone {
 
     ghost view = { λ z. record { name = z.name; points = z.points; g = z.g } };
 
-    ghost invariant = { λ z. IsZone (view z) };
+    ghost invariant = { λ z. IsZone (record { name = z.name; points = z.points; g = z.g }) };
 }
 
 /// Dense foliage (ISO 9613-2, Table A.1): trees and shrubs so dense that one can't see through them, with their height
@@ -85,7 +85,7 @@ impl Model for Foliage {
 
     ghost view = { λ f. record { name = f.name; points = f.points; h = f.h } };
 
-    ghost invariant = { λ f. IsFoliage (view f) };
+    ghost invariant = { λ f. IsFoliage (record { name = f.name; points = f.points; h = f.h }) };
 }
 
 /// A receiver: a point at a height above ground, in mm.
@@ -104,7 +104,7 @@ impl Model for Receiver {
 
     ghost view = { λ r. record { name = r.name; at = r.at; h = r.h } };
 
-    ghost invariant = { λ r. IsReceiver (view r) };
+    ghost invariant = { λ r. IsReceiver (record { name = r.name; at = r.at; h = r.h }) };
 }
 
 /// A part of a scene.

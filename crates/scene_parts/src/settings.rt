@@ -23,7 +23,7 @@ impl Model for Globals {
 
     ghost view = { λ s. record { reach = s.reach; g = s.g; air = s.air; c0 = s.c0; method = s.ground } };
 
-    ghost invariant = { λ s. AreGlobals (view s) };
+    ghost invariant = { λ s. AreGlobals (record { reach = s.reach; g = s.g; air = s.air; c0 = s.c0; method = s.ground }) };
 
     ghost inverse = { λ s. record { reach = s.reach; g = s.g; air = s.air; c0 = s.c0; ground = s.method } };
 }
@@ -46,7 +46,7 @@ impl Model for SetSpec {
 
     ghost view = { λ s. record { reach = s.reach; g = s.g; air = s.air; c0 = s.c0; method = s.ground } };
 
-    ghost invariant = { λ s. IsSetting (view s) };
+    ghost invariant = { λ s. IsSetting (record { reach = s.reach; g = s.g; air = s.air; c0 = s.c0; method = s.ground }) };
 }
 
 /// A grid of receivers: the place of the first, the distance to the next in mm, and their height in mm.
@@ -68,5 +68,5 @@ impl Model for GridSpec {
 
     ghost view = { λ s. record { name = s.name; at = s.at; step = s.step; columns = s.columns; rows = s.rows; h = s.h } };
 
-    ghost invariant = { λ s. IsGrid (view s) };
+    ghost invariant = { λ s. IsGrid (record { name = s.name; at = s.at; step = s.step; columns = s.columns; rows = s.rows; h = s.h }) };
 }
