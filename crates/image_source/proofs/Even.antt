@@ -1,12 +1,12 @@
 -- That 128 bits hold what changes evenly along a path.
 use Rattle.std.proofs.Common.{◌≡◌, ℕ, ◌+◌, ◌*◌, ◌^◌, ◌≤◌, ◌<◌, arith, ap, ◌∙◌}
 use Rattle.std.specs.Prelude.{ℤ, ◌+ℤ◌, ◌-ℤ◌, ◌*ℤ◌, unsigned_abs}
-use Rattle.std.proofs.lemmas.Int.{ints, fits_signed_from_abs}
+use Rattle.std.proofs.lemmas.Int.{ints, to_z-of_z, fits_signed_from_abs}
 use Rattle.scene_geom.specs.declared.fractions.fraction.Frac.{Frac}
 use Rattle.scene_geom.proofs.Whole.{kept, abs-mul, abs-sub}
 use Rattle.scene_geom.specs.Plan.{InPlan}
 use Rattle.image_source.specs.Mirrors.{at_place}
-use mir.Syntax.{w32, w128}
+use mir.Syntax.{w32, w64, w128}
 use mir.Val.{SFits, to_z, of_z}
 
 -- a number that 128 bits keep
@@ -54,6 +54,9 @@ pub rise-fits : (x y : ℤ) (t : Frac) → FitsEven x y t
     → SFits w128 (to_z w128 (of_z w128 t.n) *ℤ to_z w128 (of_z w128 (to_z w128 (of_z w128 y) -ℤ to_z w128 (of_z w128 x))))
 rise-fits x y t f = rw (f.n.is, f.to.is, f.from.is, f.way.is) f.rise.fits
 
+pub way-fits : (x y : ℤ) (t : Frac) → FitsEven x y t → SFits w128 (to_z w128 (of_z w128 y) -ℤ to_z w128 (of_z w128 x))
+way-fits x y t f = rw (f.to.is, f.from.is) f.way.fits
+
 pub start-fits : (x y : ℤ) (t : Frac) → FitsEven x y t → SFits w128 (to_z w128 (of_z w128 x) *ℤ to_z w128 (of_z w128 t.d))
 start-fits x y t f = rw (f.from.is, f.d.is) f.start.fits
 
@@ -74,55 +77,7 @@ whole-is x y t f = rw (f.n.is, f.d.is, f.to.is, f.from.is, f.way.is, f.start.is,
 pub at_place_eq : (x y x' y' : ℤ) (t : Frac) → x ≡ x' → y ≡ y' → at_place x y t ≡ at_place x' y' t
 at_place_eq x y x' y' t e f = ap (λ (z : ℤ). at_place z y t) e ∙ ap (λ (z : ℤ). at_place x' z t) f
 
--- ---- sums of two products of ways
-
-pub record FitsSum (a b c d : ℤ) : Type 0 where
-  pub first : Kept a
-  pub second : Kept b
-  pub third : Kept c
-  pub fourth : Kept d
-  pub left : Kept (a *ℤ b)
-  pub right : Kept (c *ℤ d)
-  pub whole : Kept (a *ℤ b +ℤ c *ℤ d)
-  pub bound : unsigned_abs (a *ℤ b +ℤ c *ℤ d) ≤ 128000000000000
-
-pub sums : (a b c d : ℤ) → unsigned_abs a ≤ 8000000 → unsigned_abs b ≤ 8000000 → unsigned_abs c ≤ 8000000 → unsigned_abs d ≤ 8000000 → FitsSum a b c d
-sums a b c d ha hb hc hd =
-    let left : unsigned_abs (a *ℤ b) ≤ 64000000000000 = abs-mul a b 8000000 8000000 ha hb in
-    let right : unsigned_abs (c *ℤ d) ≤ 64000000000000 = abs-mul c d 8000000 8000000 hc hd in
-    let bound : unsigned_abs (a *ℤ b +ℤ c *ℤ d) ≤ 128000000000000 = abs-add (a *ℤ b) (c *ℤ d) 64000000000000 64000000000000 left right in
-    record {
-      first = within a 8000000 ha (omega arith);
-      second = within b 8000000 hb (omega arith);
-      third = within c 8000000 hc (omega arith);
-      fourth = within d 8000000 hd (omega arith);
-      left = within (a *ℤ b) 64000000000000 left (omega arith);
-      right = within (c *ℤ d) 64000000000000 right (omega arith);
-      whole = within (a *ℤ b +ℤ c *ℤ d) 128000000000000 bound (omega arith);
-      bound = bound;
-    }
-
-pub left-fits : (a b c d : ℤ) → FitsSum a b c d → SFits w128 (to_z w128 (of_z w128 a) *ℤ to_z w128 (of_z w128 b))
-left-fits a b c d f = rw (f.first.is, f.second.is) f.left.fits
-
-pub sum-fits : (a b c d : ℤ) → FitsSum a b c d
-    → SFits w128
-    (to_z w128 (of_z w128 (to_z w128 (of_z w128 a) *ℤ to_z w128 (of_z w128 b)))
-    +ℤ to_z w128 (of_z w128 (to_z w128 (of_z w128 c) *ℤ to_z w128 (of_z w128 d))))
-sum-fits a b c d f = rw (f.first.is, f.second.is, f.third.is, f.fourth.is, f.left.is, f.right.is) f.whole.fits
-
-pub sum-is : (a b c d : ℤ) → FitsSum a b c d
-    → to_z w128
-    (of_z w128
-    (to_z w128 (of_z w128 (to_z w128 (of_z w128 a) *ℤ to_z w128 (of_z w128 b)))
-    +ℤ to_z w128 (of_z w128 (to_z w128 (of_z w128 c) *ℤ to_z w128 (of_z w128 d)))))
-    ≡ a *ℤ b +ℤ c *ℤ d
-sum-is a b c d f = rw (f.first.is, f.second.is, f.third.is, f.fourth.is, f.left.is, f.right.is) f.whole.is
-
-pub sum_eq : (a b c d a' b' c' d' : ℤ) → a ≡ a' → b ≡ b' → c ≡ c' → d ≡ d' → a *ℤ b +ℤ c *ℤ d ≡ a' *ℤ b' +ℤ c' *ℤ d'
-sum_eq a b c d a' b' c' d' e f g h =
-    ap (λ (z : ℤ). z *ℤ b +ℤ c *ℤ d) e ∙ ap (λ (z : ℤ). a' *ℤ z +ℤ c *ℤ d) f
-    ∙ ap (λ (z : ℤ). a' *ℤ b' +ℤ z *ℤ d) g ∙ ap (λ (z : ℤ). a' *ℤ b' +ℤ c' *ℤ z) h
+-- ---- ways
 
 -- a way between two coordinates that were passed on in 32 bits
 pub way-is : (r a b : ℤ) → InPlan a → InPlan b → r ≡ to_z w32 (of_z w32 b) -ℤ to_z w32 (of_z w32 a) → r ≡ b -ℤ a
@@ -131,3 +86,9 @@ way-is r a b ha hb e = omega (arith, ints, ha.low, ha.high, hb.low, hb.high, e)
 -- a result of the code that is read again
 pub still : (z : ℤ) → unsigned_abs z < 2 ^ 127 → to_z w128 (of_z w128 z) ≡ z
 still z h = (within z (unsigned_abs z) (omega arith) h).is
+
+-- and one in 64 bits
+pub still-short : (z : ℤ) → unsigned_abs z ≤ 128000000000000 → to_z w64 (of_z w64 z) ≡ z
+still-short z h =
+    let fits = fits_signed_from_abs w64 z (omega (arith, h)) in
+    simp to_z-of_z

@@ -4,5 +4,6 @@ pub mod Edges
 pub mod Sound
 pub mod Fitting
 pub mod Walls
+pub mod Passing
 pub mod Meeting
 pub mod Nearby

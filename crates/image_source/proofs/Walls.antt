@@ -57,18 +57,6 @@ pub none-beside : (o : Obstacle) (side : Side) (ends : Ends) → are_on_one_side
 none-beside o side ends h =
     beside (not (o.rho == 0)) (are_on_one_side side ends.s ends.r) (strikes side ends (specular side ends.s ends.r)) (stays_below ends o.h (specular side ends.s ends.r)) (faces o.shape o.points side ends.s) h
 
--- nor where they aren't in front of it
-behind : (a b c d e : Bool) → e ≡ false → false ≡ (a && b && c && d && e)
-behind true true true true e h = rw h refl
-behind true true true false e h = refl
-behind true true false d e h = refl
-behind true false c d e h = refl
-behind false b c d e h = refl
-
-pub none-behind : (o : Obstacle) (side : Side) (ends : Ends) → faces o.shape o.points side ends.s ≡ false → false ≡ has_mirror o side ends
-none-behind o side ends h =
-    behind (not (o.rho == 0)) (are_on_one_side side ends.s ends.r) (strikes side ends (specular side ends.s ends.r)) (stays_below ends o.h (specular side ends.s ends.r)) (faces o.shape o.points side ends.s) h
-
 -- ---- where the specular point lies
 
 -- numbers of one sign aren't 0

@@ -40,14 +40,6 @@ abbrev pub faces : Shape → List Pt → Side → Pt → Bool
 faces Barrier corners side p = true
 faces Building corners side p = are_opposite (orient_of side.from side.to p) (area2_of corners)
 
--- how the corners of an obstacle go round, where it has an inside
-abbrev pub winding_in : Shape → List Pt → ℤ
-winding_in Barrier corners = pos 0
-winding_in Building corners = area2_of corners
-
-unfoldable pub winding : Obstacle → ℤ
-winding o = winding_in o.shape o.points
-
 -- a side of an obstacle reflects: the surface isn't taken as absorbing, source and receiver are both in front of it,
 -- and the specular point lies on it
 abbrev pub has_mirror : Obstacle → Side → Ends → Bool

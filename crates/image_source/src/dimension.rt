@@ -118,5 +118,5 @@ fn division(p: Frac) -> Iv
 fn wall_square(side: Side) -> i128
     ensures { result ≡ pos (wall.squared_length side) }
 {
-    ahead(side, side.to)
+    i128::from(ahead(side, side.to))
 }

@@ -41,26 +41,26 @@ pub(crate) fn ahead_at(side: Side, from: Pt, to: Pt, p: Frac) -> i128
     requires below { unsigned_abs p.d ≤ 256000000000000 }
     ensures { result ≡ at_place (form.ahead side from) (form.ahead side to) p }
 {
-    let start = ahead(side, from);
-    let end = ahead(side, to);
+    let start = i128::from(ahead(side, from));
+    let end = i128::from(ahead(side, to));
     start * p.d + p.n * (end - start)
 }
 
-/// How far along a side from its start a point lies, times the side's length, in mm².
-pub(crate) fn ahead(side: Side, p: Pt) -> i128
+/// How far along a side from its start a point lies, times the side's length, in mm². 64 bits hold it.
+pub(crate) fn ahead(side: Side, p: Pt) -> i64
     ensures value { result ≡ form.ahead side p }
     ensures within { unsigned_abs result ≤ 128000000000000 }
 {
     way(side.from.x, p.x) * way(side.from.x, side.to.x)
-        + way(side.from.y, p.y) * way(side.from.y, side.to.y)
+        - way(p.y, side.from.y) * way(side.from.y, side.to.y)
 }
 
 /// How far it is from one coordinate to another, in mm.
-fn way(from: i32, to: i32) -> i128
+fn way(from: i32, to: i32) -> i64
     requires from_in_plan { InPlan from }
     requires to_in_plan { InPlan to }
     ensures value { result ≡ to -ℤ from }
     ensures within { unsigned_abs result ≤ 8000000 }
 {
-    i128::from(to) - i128::from(from)
+    i64::from(to) - i64::from(from)
 }

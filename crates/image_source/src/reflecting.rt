@@ -1,9 +1,10 @@
 //! Where a side of an obstacle reflects.
-ghost use Rattle.std.specs.Prelude.{◌≡◌, ◌≤◌, ◌<◌, length, pos, slice_get, true, unsigned_abs, IfSome};
+ghost use Rattle.std.specs.Prelude.{◌≡◌, ◌≤◌, ◌<◌, ◌≤ℤ◌, length, pos, slice_get, true, false, unsigned_abs, IfSome};
 ghost use Rattle.scene_parts.specs.Ranges.{IsObstacle};
 ghost use Rattle.scene_parts.specs.Sides.{sides_of};
 ghost use Rattle.scene_geom.specs.Crossing.{are_opposite};
 ghost use Rattle.scene_geom.specs.Fraction.{FitsCrossing};
+ghost use Rattle.scene_geom.specs.declared.fractions.fraction.Frac.{Frac};
 ghost use Rattle.scene_geom.specs.Reflection.{CanReflect, are_on_one_side, off_wall};
 ghost use Rattle.scene_geom.specs.Reflection as wall;
 ghost use Rattle.image_source.specs.Mirrors.{mirror_of};
@@ -24,72 +25,52 @@ pub fn mirror(o: &Obstacle, i: u32, s: Pt, hs: u32, r: Pt, hr: u32) -> Option<Mi
     ensures fits { IfSome (slice_get (sides_of o.now) i)
         (λ side. IfSome result (λ m. CanReflect side s r)) }
 {
-    mirror_by(o, winding(o), i, s, hs, r, hr)
-}
-
-/// How the corners of a building go round: twice its area in mm², above 0 where they go to the left. 0 for a barrier. All
-/// sides of an obstacle share it.
-#[tactic(auto, unfolding(crate::specs::Mirrors::winding))]
-pub fn winding(o: &Obstacle) -> i128
-    ensures { result ≡ form.winding o.now }
-{
-    match o.shape {
-        Shape::Barrier => 0,
-        Shape::Building => area2(o.points.items()),
-    }
-}
-
-/// The same as `mirror`, where it is known how the corners of the obstacle go round: once, and not for each of its sides.
-pub fn mirror_by(
-    o: &Obstacle,
-    winding: i128,
-    i: u32,
-    s: Pt,
-    hs: u32,
-    r: Pt,
-    hr: u32,
-) -> Option<Mirror>
-    requires side { i < length (sides_of o.now) }
-    requires winding { winding ≡ form.winding o.now }
-    ensures value { IfSome (slice_get (sides_of o.now) i)
-        (λ side. result ≡ mirror_of o.now side (record { s = s; hs = hs; r = r; hr = hr })) }
-    ensures fits { IfSome (slice_get (sides_of o.now) i)
-        (λ side. IfSome result (λ m. CanReflect side s r)) }
-{
     let side = side_of(o, i);
     let ends = Ends { s, hs, r, hr };
-    if has_mirror(o, winding, side, ends) {
+    if has_mirror(o, side, ends) {
         Some(Mirror::of(side, s, r))
     } else {
         None
     }
 }
 
-/// Whether a side of an obstacle mirrors a source to a receiver, where it is known how the corners of the obstacle go
-/// round: where `mirror_by` gives a reflection. What most sides fail by is asked first, and nothing is unfolded.
-#[tactic(auto, unfolding(crate::specs::Mirrors::winding))]
-pub fn has_mirror(o: &Obstacle, winding: i128, side: Side, ends: Ends) -> bool
-    requires { winding ≡ form.winding o.now }
+/// Whether a side of an obstacle mirrors a source to a receiver: where `mirror` gives a reflection. What most sides fail by is
+/// asked first, and nothing is unfolded.
+pub fn has_mirror(o: &Obstacle, side: Side, ends: Ends) -> bool
     ensures value { result ≡ form.has_mirror o.now side ends }
     ensures kept { IsObstacle o.now }
 {
-    if o.rho == 0 || !faces(o, winding, side, ends.s) || !on_one_side(side, ends.s, ends.r) {
+    if o.rho == 0 || !on_one_side(side, ends.s, ends.r) || passes_by(side, ends) {
         return false;
     }
     let p = specular(side, ends.s, ends.r);
-    strikes(side, ends, p) && stays_below(ends, o.h, p)
+    strikes(side, ends, p) && stays_below(ends, o.h, p) && faces(o, side, ends.s)
 }
 
 /// Whether an obstacle's side reflects on the side on which a point lies: a building's doesn't on its inside.
-#[tactic(auto, unfolding(crate::specs::Mirrors::winding))]
-fn faces(o: &Obstacle, winding: i128, side: Side, p: Pt) -> bool
-    requires { winding ≡ form.winding o.now }
+fn faces(o: &Obstacle, side: Side, p: Pt) -> bool
     ensures { result ≡ form.faces o.now.shape o.now.points side p }
 {
     match o.shape {
         Shape::Barrier => true,
-        Shape::Building => opposite(orient(side.from, side.to, p), winding),
+        Shape::Building => {
+            opposite(orient(side.from, side.to, p), area2(o.points.items()))
+        }
     }
+}
+
+/// Whether source and receiver both lie before the start of a side or both behind its end, so that nothing between them is
+/// strictly between these. 64 bits tell.
+fn passes_by(side: Side, ends: Ends) -> bool
+    ensures { result ≡ true → (p : Frac) → pos 0 ≤ℤ p.n → p.n ≤ℤ p.d → form.strikes side ends p ≡ false }
+{
+    let source = ahead(side, ends.s);
+    let receiver = ahead(side, ends.r);
+    if source <= 0 {
+        return receiver <= 0;
+    }
+    let end = ahead(side, side.to);
+    end <= source && end <= receiver
 }
 
 /// The fraction of the path that lies before the specular point.
@@ -119,7 +100,7 @@ fn strikes(side: Side, ends: Ends, p: Frac) -> bool
     ensures { result ≡ form.strikes side ends p }
 {
     let place = ahead_at(side, ends.s, ends.r, p);
-    0 < place && place < ahead(side, side.to) * p.d
+    0 < place && place < i128::from(ahead(side, side.to)) * p.d
 }
 
 /// Whether the path passes the specular point no higher than the wall is.

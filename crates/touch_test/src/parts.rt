@@ -10,7 +10,7 @@ ghost use Rattle.touch_test.specs.Touches.{bundled};
 
 use crate::crossings::{crosses_any, meets_any_leg, meets_line};
 use crate::envelopes::Envelope;
-use image_source::{has_mirror, winding};
+use image_source::has_mirror;
 use path_calc::{Bundle, Seg, within};
 use scene_geom::{Pt, Side};
 use scene_parts::{Ends, Obstacle, Part, Receiver, side_of, sides};
@@ -84,9 +84,8 @@ fn mirrors(obstacle: &Obstacle, ends: Ends) -> bool
     if obstacle.rho == 0 {
         return false;
     }
-    let winding = winding(obstacle);
     for i in 0..sides(obstacle) {
-        if has_mirror(obstacle, winding, side_of(obstacle, i), ends) {
+        if has_mirror(obstacle, side_of(obstacle, i), ends) {
             return true;
         }
     }

@@ -1,7 +1,7 @@
 use Rattle.std.proofs.Common.{sym, ◌∙◌}
 use Rattle.scene_parts.specs.declared.screening.ends.Ends.{Ends}
 use Rattle.image_source.proofs.Walls.{can-reflect}
-use Rattle.image_source.proofs.reflecting.mirror_by.Goals as goal
+use Rattle.image_source.proofs.reflecting.mirror.Goals as goal
 
 pub of-requires : goal.of-requires
 of-requires c =
