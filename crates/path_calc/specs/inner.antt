@@ -2,6 +2,7 @@
 pub mod Prepared
 pub mod Hearing
 pub mod Losses
+pub mod BarrierAttenuations
 pub mod Propagations
 pub mod Ranges
 pub mod Strings

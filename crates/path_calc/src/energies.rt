@@ -1,30 +1,26 @@
 //! The energies that a receiver has from a source.
-ghost use Rattle.std.specs.Prelude.{◌≡◌, ◌*◌, ◌++◌, map, All, IfOk, OnOk};
+ghost use Rattle.std.specs.Prelude.{◌≡◌, ◌*◌, map, All};
 ghost use Rattle.fix_interval.specs.Tree.{Known, enc};
 ghost use Rattle.scene_geom.specs.Bands.{all_bands};
 ghost use Rattle.path_calc.specs.Energies.{sum_form};
 ghost use Rattle.path_calc.specs.Bundles.{bundle_of};
-ghost use Rattle.path_calc.specs.Trace.{trace_of};
 ghost use Rattle.path_calc.specs.Prepared.{prepared_of};
 ghost use Rattle.path_calc.specs.inner.Ranges.{AreInRange, IsSumOf, most_sounds};
-ghost use Rattle.path_calc.specs.inner.Hearing.{energy_after, long_energy_after};
+ghost use Rattle.path_calc.specs.inner.Hearing.{ArePaths, energy_after, long_energy_after};
+ghost use Rattle.scene_book.specs.Book.{Book};
+ghost use Rattle.scene_parts.specs.Views.{Source, Receiver};
 
 pub(crate) mod hearing;
 pub(crate) mod paths;
 pub(crate) mod small_sums;
 pub(crate) mod weights;
 
-use crate::bundles::segments::Segs;
 use crate::energies::hearing::{Heard, heard_in};
-use crate::energies::paths::{Paths, paths_between};
+use crate::energies::paths::Paths;
 use crate::energies::small_sums::plus;
-use crate::indexed::IndexedScene;
-use crate::prepared::{PreparedReceiver, PreparedSource};
+use crate::prepared::PreparedSource;
 use fix_interval::{Iv, exact};
-use part_grid::Found;
 use scene_geom::Band;
-use scene_parts::{NoMemory, PointSource, Receiver};
-use std::alloc::Global;
 
 /// The energies that a receiver has from a source: in each band, and the long-term energy over all.
 #[derive(Drop)]
@@ -33,34 +29,22 @@ pub(crate) struct Energies {
     pub(crate) long: Iv,
 }
 
-/// The energies that a receiver has from a source, whose trace is added to a trace. What the bands share is calculated
+/// The energies that a receiver has from a source, at the end of all paths between them. What the bands share is calculated
 /// once.
-pub(crate) fn path_energies(
-    alloc: Global,
-    scene: &IndexedScene<'_>,
-    source: &PointSource,
-    from: &PreparedSource,
-    receiver: &Receiver,
-    to: &PreparedReceiver,
-    found: &mut Found,
-    trace: &mut Segs,
-) -> Result<Energies, NoMemory>
-    requires source { from.now ≡ prepared_of source.now }
-    requires receiver { to.now ≡ receiver.now.h }
-    ensures bands { IfOk result (λ energies. energies.bands
-        ≡ (bundle_of scene.now source.now receiver.now).energy) }
-    ensures long { IfOk result (λ energies. energies.long
-        ≡ (bundle_of scene.now source.now receiver.now).long) }
-    ensures trace { OnOk result (trace.new ≡ trace.old ++ trace_of scene.now source.now receiver.now) }
-    ensures bands_bounds { IfOk result (λ energies. All (IsSumOf most_sounds) energies.bands) }
-    ensures long_bounds { IfOk result (λ energies. IsSumOf (8 * most_sounds) energies.long) }
+pub(crate) fn path_energies(paths: &Paths, from: &PreparedSource) -> Energies
+    requires { AreInRange paths.now }
+    ensures bands { (book : Book) (s : Source) (r : Receiver) → ArePaths paths.now book s r → from.now ≡ prepared_of s
+        → result.bands ≡ (bundle_of book s r).energy }
+    ensures long { (book : Book) (s : Source) (r : Receiver) → ArePaths paths.now book s r → from.now ≡ prepared_of s
+        → result.long ≡ (bundle_of book s r).long }
+    ensures bands_bounds { All (IsSumOf most_sounds) result.bands }
+    ensures long_bounds { IsSumOf (8 * most_sounds) result.long }
 {
-    let paths = paths_between(alloc, scene, source, from, receiver, to, found, trace)?;
-    let heard = heard(&paths, from);
-    Ok(Energies {
+    let heard = heard(paths, from);
+    Energies {
         bands: bands_of(&heard),
         long: long_sum(&heard),
-    })
+    }
 }
 
 /// What is heard of a source at the end of all paths, in each band.

@@ -22,6 +22,7 @@ pub fn a_div(d: Iv) -> Iv
 /// The attenuation by the air in dB (ISO 9613-2, equation 8), at a distance in metres, which counts as 1 m at least, with
 /// the coefficient of Table 2 in tenths of a decibel per kilometre. Where the distance is from 0 m to 2^28 m and the
 /// coefficient below 4096, both ends are from 0 dB to 2^27 dB.
+#[inline(always)]
 pub fn a_atm(d: Iv, alpha10: u32) -> Iv
     ensures value { result ≡ enc (absorption (Known d) alpha10) }
     ensures bounds { AreBetween (pos 0) (pos (2 ^ 60)) d → alpha10 < 4096

@@ -9,6 +9,7 @@ use crate::bundles::Bundle;
 use crate::bundles::segments::Segs;
 use crate::bundles::steps::Steps;
 use crate::energies::path_energies;
+use crate::energies::paths::paths_between;
 use crate::indexed::IndexedScene;
 use crate::prepared::{PreparedReceiver, PreparedSource};
 use part_grid::{Found, Grid};
@@ -105,7 +106,8 @@ fn calculated(
 {
     let name = Name::from_vec(source.name.items().to_vec(alloc)?);
     let mut segs = Segs::new(alloc);
-    let energies = path_energies(alloc, scene, source, from, receiver, to, found, &mut segs)?;
+    let paths = paths_between(alloc, scene, source, from, receiver, to, found, &mut segs)?;
+    let energies = path_energies(&paths, from);
     Ok(Bundle {
         source: name,
         at: source.at,

@@ -47,6 +47,7 @@ impl Losses {
     }
 
     /// A level in dB less what foliage takes off it in a band.
+    #[inline(always)]
     pub(crate) fn off(&self, level: Iv, band: Band) -> Iv
         requires { IsScreened level }
         ensures value { result ≡ sub_of level (loss_in self.now band) }

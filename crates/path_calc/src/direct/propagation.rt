@@ -13,7 +13,7 @@ ghost use Rattle.term_barrier.specs.Limits.{IsDistance, IsGroundEffect, IsScreen
 
 use crate::direct::foliage::Losses;
 use crate::direct::lengths::square_in_metres;
-use crate::direct::screening::over_top;
+use crate::direct::screening::{BarrierAttenuations, over_top};
 use crate::energies::small_sums::plus;
 use crate::indexed::IndexedScene;
 use crate::prepared::{PreparedReceiver, PreparedSource};
@@ -47,7 +47,7 @@ pub(crate) struct Propagation {
     pub(crate) divergence: Iv,
     pub(crate) grounds: [Iv; 8],
     pub(crate) omega: Option<Iv>,
-    pub(crate) screening: [Iv; 8],
+    pub(crate) screening: BarrierAttenuations,
     pub(crate) foliage: Losses,
     pub(crate) correction: Iv,
 }
@@ -159,6 +159,6 @@ impl Propagation {
         ensures value { result ≡ screening_at self.now band }
         ensures bounds { IsScreening result }
     {
-        self.screening[band.place()]
+        self.screening.at(band)
     }
 }

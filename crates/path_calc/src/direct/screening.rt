@@ -1,8 +1,12 @@
 //! By how much a path is screened over the top: the direct one, or the legs of a reflection.
-ghost use Rattle.std.specs.Prelude.{◌≡◌, map, IfOk, OnOk, All};
+ghost use Rattle.std.specs.Prelude.{◌≡◌, ◌∷◌, map, pos, IfOk, OnOk, All, slice_index_or};
 ghost use Rattle.scene_parts.specs.Crossings.{is_crossing_in};
 ghost use Rattle.term_barrier.specs.Edges.{FitsEdge};
 ghost use Rattle.term_barrier.specs.Limits.{IsGroundEffect, IsScreening};
+ghost use Rattle.fix_interval.specs.Interval.{Interval};
+ghost use Rattle.fix_interval.specs.Tree.{Const, enc};
+ghost use Rattle.scene_geom.specs.Bands.{all_bands, place_of};
+ghost use Rattle.path_calc.specs.inner.BarrierAttenuations.{AreBarrierAttenuations};
 ghost use Rattle.path_calc.specs.inner.Hearing.{edges_among, bar_over, bars_over, where_asked, is_asked};
 
 use fix_interval::{Iv, exact};
@@ -10,7 +14,56 @@ use path_shape::Path;
 use scene_geom::Band;
 use scene_parts::{Crossing, Edge, NoMemory};
 use std::alloc::Global;
+use std::marker::Model;
 use term_barrier::Screens;
+
+/// A_bar of a path over the top in each band in dB (ISO 9613-2, 7.4): a path that nothing crosses keeps no values of eight
+/// bands. Contracts see it as the list of the attenuations.
+#[derive(Drop)]
+pub(crate) struct BarrierAttenuations {
+    bands: Option<Box<[Iv; 8]>>,
+}
+
+impl Model for BarrierAttenuations {
+    ghost use Rattle.std.specs.Prelude.{List};
+    ghost use Rattle.fix_interval.specs.Interval.{Interval};
+    ghost use Rattle.path_calc.specs.inner.BarrierAttenuations.{attenuations_in, AreBarrierAttenuations};
+
+    ghost Value = { List Interval };
+
+    ghost view = { λ a. attenuations_in a.bands };
+
+    ghost invariant = { λ a. AreBarrierAttenuations (attenuations_in a.bands) };
+}
+
+impl BarrierAttenuations {
+    /// That of a path that nothing crosses.
+    fn none() -> BarrierAttenuations
+        ensures { result ≡ map (λ band. enc (Const (pos 0) 1)) all_bands }
+    {
+        BarrierAttenuations { bands: None }
+    }
+
+    /// The attenuations in the bands.
+    fn of(alloc: Global, bands: [Iv; 8]) -> Result<BarrierAttenuations, NoMemory>
+        requires { All IsScreening bands }
+        ensures { IfOk result (λ attenuations. attenuations ≡ bands) }
+    {
+        let bands = Some(Box::new(alloc, bands)?);
+        Ok(BarrierAttenuations { bands })
+    }
+
+    /// The attenuation in a band.
+    pub(crate) fn at(&self, band: Band) -> Iv
+        ensures value { (default : Interval) → result ≡ slice_index_or self.now (place_of band) default }
+        ensures bounds { IsScreening result }
+    {
+        match &self.bands {
+            Some(bands) => bands[band.place()],
+            None => exact(0),
+        }
+    }
+}
 
 /// A_bar of a path in each band that is asked for (ISO 9613-2, 7.4), of the crossings of its line of sight, where its length
 /// and A_gr in each band are known: 0 dB where nothing crosses it, and in the bands that nobody asks for. What the bands share
@@ -22,19 +75,20 @@ pub(crate) fn over_top(
     distance: Iv,
     ground: &[Iv; 8],
     asked: &[bool; 8],
-) -> Result<[Iv; 8], NoMemory>
+) -> Result<BarrierAttenuations, NoMemory>
     requires edges { All (λ crossing. FitsEdge crossing.edge) crossings.now }
     requires ground { All IsGroundEffect ground.now }
     ensures value { IfOk result (λ bars. bars ≡ bars_over path.now
         (λ band. edges_among band crossings.now) distance ground.now (is_asked asked.now)) }
-    ensures bounds { IfOk result (All IsScreening) }
+    ensures bounds { IfOk result AreBarrierAttenuations }
 {
     if crossings.is_empty() {
-        return Ok([exact(0); 8]);
+        return Ok(BarrierAttenuations::none());
     }
     let edges = edges(alloc, crossings)?;
     let screens = Screens::of(alloc, path, edges.as_slice(), distance)?;
-    bars(alloc, crossings, &screens, ground, asked)
+    let bars = bars(alloc, crossings, &screens, ground, asked)?;
+    BarrierAttenuations::of(alloc, bars)
 }
 
 /// A_bar in each band that is asked for, of the crossings that count there. The bands share the memory of the marks.

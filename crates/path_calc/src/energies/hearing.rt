@@ -14,6 +14,7 @@ ghost use Rattle.path_calc.specs.inner.Losses.{loss_in};
 ghost use Rattle.path_calc.specs.inner.Ranges.{AreInRange, IsWeight, IsSmall, IsSumOf, most_sounds};
 ghost use Rattle.scene_book.specs.Limits.{most_sides};
 ghost use Rattle.path_calc.specs.inner.Hearing.{energy_after, long_energy_after, sum_after, past, with_energy};
+ghost use Rattle.path_calc.specs.inner.Hearing.{power_at, screening_at};
 ghost use Rattle.path_calc.specs.inner.Hearing.{downwind_energy, long_term_energy, sound_energy, echo_energy, reflected_energy};
 ghost use Rattle.path_calc.specs.inner.Hearing.{level_before as level_form};
 
@@ -37,6 +38,7 @@ pub(crate) struct Heard {
 }
 
 /// What is heard of a source in a band, at the end of all paths.
+#[inline(always)]
 pub(crate) fn heard_in(paths: &Paths, source: &PreparedSource, band: Band) -> Heard
     requires { AreInRange paths.now }
     ensures energy { result.energy ≡ energy_after paths.now source.now band }
@@ -52,6 +54,7 @@ pub(crate) fn heard_in(paths: &Paths, source: &PreparedSource, band: Band) -> He
 
 /// What is heard of all sounds in a band: that over the top, those round the left and the right, and those that walls
 /// reflect.
+#[inline(always)]
 fn heard_of(paths: &Paths, band: Band, emission: Iv) -> Heard
     requires paths { AreInRange paths.now }
     requires emission { IsEmission emission }
@@ -63,8 +66,36 @@ fn heard_of(paths: &Paths, band: Band, emission: Iv) -> Heard
 {
     let direct = &paths.direct;
     let level = level_before(direct, band, direct.power_of(emission));
-    let lateral = paths.lateral_in(band);
     let over = heard_past(level, direct.screening_in(band), direct, band);
+    if paths.has_direct_alone() {
+        over
+    } else {
+        with_other_paths(over, level, paths, band, emission)
+    }
+}
+
+/// What is heard over the top, and beside it what goes round the left and the right, and what walls reflect. It isn't put into
+/// its caller, since a path in the open would pay there for its locals.
+#[inline(never)]
+fn with_other_paths(over: Heard, level: Iv, paths: &Paths, band: Band, emission: Iv) -> Heard
+    requires paths { AreInRange paths.now }
+    requires emission { IsEmission emission }
+    requires level { level ≡ enc (level_form paths.now.direct band (power_at paths.now.direct emission)) }
+    requires range { IsUnscreened level }
+    requires energy { over.energy ≡ enc (energy_form (past level
+        (screening_at paths.now.direct band) (loss_in paths.now.direct.foliage band))) }
+    requires long { over.long ≡ enc (long_term_energy band (Known paths.now.direct.correction) (past level
+        (screening_at paths.now.direct band) (loss_in paths.now.direct.foliage band))) }
+    requires energy_bounds { IsSumOf 1 over.energy }
+    requires long_bounds { IsSumOf 1 over.long }
+    ensures energy { result.energy ≡ sum_after downwind_energy paths.now band (Some emission) }
+    ensures long { result.long
+        ≡ sum_after (long_term_energy band) paths.now band (Some emission) }
+    ensures energy_bounds { IsSumOf most_sounds result.energy }
+    ensures long_bounds { IsSumOf most_sounds result.long }
+{
+    let direct = &paths.direct;
+    let lateral = paths.lateral_in(band);
     let left = with_lateral(over, level, lateral.left, direct, band);
     let right = with_lateral(left, level, lateral.right, direct, band);
     with_reflected(right, paths.reflected.as_slice(), band, emission)
@@ -179,6 +210,7 @@ fn both(a: Heard, b: Heard) -> Heard
 }
 
 /// The level of what is sent in a band, at the end of a path, before what screens it and foliage are taken off, in dB.
+#[inline(always)]
 fn level_before(propagation: &Propagation, band: Band, power: Iv) -> Iv
     requires propagation { IsPropagation propagation.now }
     requires power { IsSentOn propagation.now.omega power }
@@ -191,6 +223,7 @@ fn level_before(propagation: &Propagation, band: Band, power: Iv) -> Iv
 }
 
 /// The energies of a level in a band, past what screens it, with the foliage and the weather of a path.
+#[inline(always)]
 fn heard_past(level: Iv, screening: Iv, path: &Propagation, band: Band) -> Heard
     requires level { IsUnscreened level }
     requires screening { IsScreening screening }
@@ -207,6 +240,7 @@ fn heard_past(level: Iv, screening: Iv, path: &Propagation, band: Band) -> Heard
 }
 
 /// A level less what screens it.
+#[inline(always)]
 fn past_screens(level: Iv, screening: Iv) -> Iv
     requires level { IsUnscreened level }
     requires screening { IsScreening screening }
@@ -217,6 +251,7 @@ fn past_screens(level: Iv, screening: Iv) -> Iv
 }
 
 /// The energies of a level in a band, where C_met is this.
+#[inline(always)]
 fn heard_at(level: Iv, c_met: Iv, band: Band) -> Heard
     requires level { IsAtReceiver level }
     requires weather { IsWeatherCorrection c_met }

@@ -1,5 +1,5 @@
 //! All paths from a source to a receiver: the direct one, those round the sides and those by way of walls.
-ghost use Rattle.std.specs.Prelude.{◌≡◌, ◌++◌, map, IfOk, OnOk};
+ghost use Rattle.std.specs.Prelude.{◌≡◌, ◌++◌, [], true, map, IfOk, OnOk};
 ghost use Rattle.path_calc.specs.inner.Hearing.{ArePaths, lateral_at};
 ghost use Rattle.path_calc.specs.Prepared.{prepared_of};
 ghost use Rattle.path_calc.specs.inner.Ranges.{AreInRange, IsLateralScreening};
@@ -96,6 +96,13 @@ fn add_walls(trace: &mut Segs, reflected: &[Reflected]) -> Result<(), NoMemory>
 }
 
 impl Paths {
+    /// Whether nothing but the direct path leads to the receiver.
+    pub(crate) fn has_direct_alone(&self) -> bool
+        ensures { result ≡ true → (self.now.lateral.items ≡ []) × (self.now.reflected.items ≡ []) }
+    {
+        self.lateral.is_empty() && self.reflected.is_empty()
+    }
+
     /// The attenuation by screening round the sides in a band.
     pub(crate) fn lateral_in(&self, band: Band) -> LateralScreening
         requires { AreInRange self.now }

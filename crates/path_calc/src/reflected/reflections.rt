@@ -7,7 +7,7 @@ ghost use Rattle.scene_parts.specs.Sides.{sides_of};
 ghost use Rattle.scene_geom.specs.Reflection.{unfolded};
 ghost use Rattle.scene_book.specs.Limits.{most_sides};
 ghost use Rattle.fix_interval.specs.Tree.{enc};
-ghost use Rattle.image_source.specs.Mirrors.{has_mirror as is_mirror_of, winding as winding_of};
+ghost use Rattle.image_source.specs.Mirrors.{has_mirror as is_mirror_of};
 ghost use Rattle.path_calc.specs.Contributions.{reflection_level as level_form};
 ghost use Rattle.std.specs.List.{list_any};
 ghost use Rattle.scene_geom.specs.Bands.{all_bands};
@@ -24,7 +24,7 @@ use crate::prepared::PreparedSource;
 use crate::reflected::{Echo, Reflected, Sound};
 use enclose_log::lg;
 use fix_interval::{Iv, Truth, exact, mul, ratio};
-use image_source::{Leg, Mirror, big_enough_in_bands, has_mirror, winding};
+use image_source::{Leg, Mirror, big_enough_in_bands, has_mirror};
 use part_grid::Found;
 use path_shape::Path;
 use scene_geom::{Band, Side};
@@ -69,20 +69,17 @@ impl<'a> Between<'a> {
         if obstacle.rho == 0 {
             return Ok(());
         }
-        let winding = winding(obstacle);
         for i in 0..sides(obstacle) {
-            self.add_side(found, obstacle, winding, i, side_of(obstacle, i), near)?;
+            self.add_side(found, obstacle, i, side_of(obstacle, i), near)?;
         }
         Ok(())
     }
 
-    /// Adds the path by way of a side of an obstacle, where the side reflects. Its number is `i`, and it is known how the
-    /// corners of the obstacle go round.
+    /// Adds the path by way of a side of an obstacle, where the side reflects. Its number is `i`.
     fn add_side(
         &self,
         found: &mut Vec<Reflected>,
         obstacle: &Obstacle,
-        winding: i128,
         i: u32,
         side: Side,
         near: &mut Found,
@@ -92,14 +89,13 @@ impl<'a> Between<'a> {
         requires source_height { IsHeight self.now.ends.hs }
         requires receiver_height { IsHeight self.now.ends.hr }
         requires reflects { 0 < obstacle.now.rho }
-        requires winding { winding ≡ winding_of obstacle.now }
         requires number { i < length (sides_of obstacle.now) }
         requires side { slice_get (sides_of obstacle.now) i ≡ Some side }
         ensures { OnOk result (let book = self.now.scene.now in found.new.items
             ≡ found.old.items ++ map (reflected_of book.globals self.now.from.now self.now.ends)
             (option_to_list (reflected_in book self.now.ends obstacle.now side))) }
     {
-        if !has_mirror(obstacle, winding, side, self.ends) {
+        if !has_mirror(obstacle, side, self.ends) {
             return Ok(());
         }
         self.add_by_way_of(found, obstacle, side, near)

@@ -13,23 +13,18 @@ use Rattle.path_calc.proofs.Heard.{bands-heard, longs-heard}
 use Rattle.path_calc.proofs.energies.path_energies.Goals as goal
 
 pub returns-clause-bands : goal.returns-clause-bands
-returns-clause-bands c =
-    c.bands_of.ensures ∙ c.heard-heard.ensures.energies
-    ∙ bands-heard c.in_ok-paths.paths c.args.from.now c.args.scene.now c.args.source.now c.args.receiver.now c.requires.source (c.in_ok-paths.ensures.value)
+returns-clause-bands c = λ book s r are from.
+    c.bands_of.ensures ∙ c.heard-heard.ensures.energies ∙ bands-heard c.args.paths.now c.args.from.now book s r from are
 
 pub returns-clause-long : goal.returns-clause-long
 unfolding long_energy
-returns-clause-long c =
-    let book = c.args.scene.now in
-    let s = c.args.source.now in
-    let r = c.args.receiver.now in
+returns-clause-long c = λ book s r are from.
     let heard = c.heard-heard.result in
     let longs : List Interval = map (λ (h : Heard). h.long) heard in
     let trees : List Tree = map (long_energy_in book.globals (surroundings_of book s r) s r) all_bands in
     c.long_sum.ensures.value ∙ sym (sum-of-map (λ (h : Heard). h.long) heard)
     ∙ sum-of-intervals (Const (pos 0) 1) trees longs (
-    c.heard-heard.ensures.longs
-    ∙ longs-heard c.in_ok-paths.paths c.args.from.now book s r c.requires.source (c.in_ok-paths.ensures.value))
+    c.heard-heard.ensures.longs ∙ longs-heard c.args.paths.now c.args.from.now book s r from are)
 
 pub returns-clause-bands_bounds : goal.returns-clause-bands_bounds
 returns-clause-bands_bounds c =
