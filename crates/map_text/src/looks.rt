@@ -54,7 +54,8 @@ fn push_shown_bands(
     row: &LookRow,
     rows: &mut Vec<RowText>,
 ) -> Result<(), NoMemory>
-    ensures { OnOk result (rows.new.items ≡ rows.old.items ++ shown_bands version row.now.name row.now.shown) }
+    ensures { OnOk result (rows.new.items
+        ≡ rows.old.items ++ shown_bands version row.now.name row.now.shown) }
 {
     let all = Band::all();
     match &row.shown {

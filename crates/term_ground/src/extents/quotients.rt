@@ -86,7 +86,8 @@ fn short_quotient(x: Extent, by: Extent) -> Iv
 fn least(units: i64, by: Extent) -> i128
     requires positive { pos 0 <ℤ by.lo }
     requires small { unsigned_abs units < 2 ^ 32 }
-    ensures { result ≡ int_min (floor_quotient (units *ℤ pos unit) by.lo) (floor_quotient (units *ℤ pos unit) by.hi) }
+    ensures { result ≡ int_min (floor_quotient (units *ℤ pos unit) by.lo)
+        (floor_quotient (units *ℤ pos unit) by.hi) }
 {
     let scaled = units.unsigned_abs() * (1 << 32);
     if 0 <= units {
@@ -101,7 +102,8 @@ fn least(units: i64, by: Extent) -> i128
 fn greatest(units: i64, by: Extent) -> i128
     requires positive { pos 0 <ℤ by.lo }
     requires small { unsigned_abs units < 2 ^ 32 }
-    ensures { result ≡ int_max (ceil_quotient (units *ℤ pos unit) by.lo) (ceil_quotient (units *ℤ pos unit) by.hi) }
+    ensures { result ≡ int_max (ceil_quotient (units *ℤ pos unit) by.lo)
+        (ceil_quotient (units *ℤ pos unit) by.hi) }
 {
     let scaled = units.unsigned_abs() * (1 << 32);
     if 0 <= units {
