@@ -1,1 +1,3 @@
 pub mod RoundingLemmas
+pub mod Fronts
+pub mod Spans

@@ -2,3 +2,5 @@ pub mod Rounding
 pub mod Faults
 pub mod Rows
 pub mod Looks
+pub mod Taking
+pub mod Making

@@ -1,12 +1,16 @@
--- The rows of a receiver in a settle or a look.
-use Rattle.std.specs.Prelude.{ℕ, Bool, true, false, List, [], ◌∷◌, map}
+-- The rows of a settle or a look.
+use Rattle.std.specs.Prelude.{ℕ, Bool, true, false, List, [], ◌∷◌, map, flat_map, length, slice_index}
 use Rattle.scene_geom.specs.Bands.{all_bands}
 use Rattle.scene_geom.specs.declared.band.Band.{Band}
 use Rattle.path_calc.specs.Levels.{Levels, level_in}
 use Rattle.map_board.specs.declared.answers.Shown.{Shown}
 use Rattle.map_board.specs.declared.answers.Shown.TheVariants.{Current, Stale, New}
+use Rattle.map_board.specs.declared.looks.LookAll.{LookAll}
 use Rattle.map_board.specs.declared.looks.LookRow.{LookRow}
-use Rattle.map_text.specs.Rows.{current_row, stale_row, new_row, band_row}
+use Rattle.map_text.specs.declared.heads.Head.{Head}
+use Rattle.map_text.specs.Rows.{head_row, current_row, stale_row, new_row, band_row, counts_row}
+
+-- ---- a receiver
 
 -- the row of a band, with the level there
 abbrev pub row_of_band : ℕ → List ℕ → Levels → Band → List ℕ
@@ -40,3 +44,18 @@ receiver_row version row = shown_row version row.name row.shown
 -- and behind it those of its bands, where they are asked for
 abbrev pub receiver_rows : Bool → ℕ → LookRow → List (List ℕ)
 receiver_rows bands version row = receiver_row version row ∷ bands_asked bands version row.name row.shown
+
+-- ---- all receivers
+
+-- the rows of a look: its head, and those of each receiver, those of bands among them where they are asked for
+unfoldable pub look_rows : Head → Bool → LookAll → List (List ℕ)
+look_rows head bands look =
+    head_row head look.version (length look.rows) ∷ flat_map (receiver_rows bands look.version) look.rows
+
+-- the row of counts behind those of a settle, where it is asked for
+abbrev pub counts_rows : Bool → LookAll → List (List ℕ)
+counts_rows false look = []
+counts_rows true look =
+    counts_row look.version (length look.rows) (slice_index look.counts 0) (slice_index look.counts 1)
+    (slice_index look.counts 2) (slice_index look.counts 3)
+    ∷ []

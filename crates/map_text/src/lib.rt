@@ -1,4 +1,4 @@
-//! The rows that go out, as text.
+//! The rows that go out, as text and on their way to a sink.
 #![tactic(auto)]
 
 mod counted;
@@ -6,9 +6,12 @@ mod heads;
 mod laws;
 mod levels;
 mod looks;
+mod making;
 mod refusals;
 mod refused;
 mod rounding;
+mod rows;
+mod stopped;
 
 pub use counted::counts_text;
 pub use csv_rows::{RowText, RowTexts, RowWriter};
@@ -16,6 +19,9 @@ pub use heads::{Head, head_text};
 pub use laws::printed_is_around;
 pub use levels::made_text;
 pub use looks::{receiver_text, row_text};
+pub use making::Making;
 pub use refusals::Refusal;
 pub use refused::refused_text;
+pub use rows::Rows;
 pub use scene_parts::NoMemory;
+pub use stopped::Stopped;

@@ -20,6 +20,7 @@ use Rattle.turn_lock.specs.contracts.view.View as View
 use Rattle.atomic_table.specs.contracts.shared.Seat as Place
 use Rattle.std.specs.contracts.option.Option as Option
 use Rattle.scene_book.proofs.Crossing.{Scene-send}
+use Rattle.scene_undo.proofs.Crossing.{KeptVersion-send}
 use Rattle.map_board.specs.contracts.past.Past as Past
 use Rattle.map_board.specs.contracts.past.Past.TheKnot as knot
 use Rattle.map_board.specs.declared.past.Past.TheDeep as deep
@@ -35,7 +36,6 @@ use Rattle.atomic_table.proofs.send_lease.SendLease.TheSendSync.{the_sync as Lea
 use Rattle.map_io.specs.contracts.reader.LineReader as LineReader
 use Rattle.noise_map.specs.contracts.lines.step.Shared as Shared
 use Rattle.noise_map.specs.contracts.run.editor.Editor as Editor
-use Rattle.noise_map.specs.contracts.lines.keeping.KeptVersion as KeptVersion
 use Rattle.std.proofs.Crossing.{crosses, Vec-send}
 
 -- a journal holds nothing but what contracts see, so one layer of it may cross whatever the layers in it are
@@ -124,9 +124,6 @@ WorkerSeat-send = search (Place-send, sendable) depth 40 fits 10000 steps 100000
 
 EditorSeat-send : IsSend EditorSeat.the_row
 EditorSeat-send = search (Place-send, sendable) depth 40 fits 10000 steps 100000000
-
-KeptVersion-send : IsSend KeptVersion.the_row
-KeptVersion-send = search (crosses, sendable) depth 80 fits 100000 steps 1000000
 
 pub editor_crosses : IsSend Editor.the_row
 editor_crosses = search (EditorSeat-send, Scene-send, KeptVersion-send, crosses, sendable) depth 40 fits 10000 steps 100000000

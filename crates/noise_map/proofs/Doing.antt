@@ -13,19 +13,19 @@ use Rattle.map_board.specs.Showing.{accepted_edits}
 use Rattle.map_lock.specs.Seats.{BoardSeat}
 use Rattle.noise_map.specs.declared.lines.answer.Answer.{Answer}
 use Rattle.noise_map.specs.declared.run.editor.Editor.{Editor}
-use Rattle.noise_map.specs.declared.lines.stopped.Stopped.{Stopped}
-use Rattle.noise_map.specs.declared.lines.stopped.Stopped.TheVariants as stops
+use Rattle.map_text.specs.declared.stopped.Stopped.{Stopped}
+use Rattle.map_text.specs.declared.stopped.Stopped.TheVariants as stops
 use Rattle.noise_map.specs.declared.run.status.Status.TheVariants as status
 use Rattle.noise_map.specs.Demands.{demand_of}
 use Rattle.noise_map.specs.Effects.{Past, past_with, Effect, effect_of, effect_at, looks_asked, is_refused, Point, at_start, point_after}
 use Rattle.noise_map.specs.Texts.{answer_to, rows_of, line_rows, text_of}
 use Rattle.noise_map.specs.Ways.{looks_in, Does, Way, and_line, Fails}
-use Rattle.noise_map.specs.Taking.{joined, TakesFront}
+use Rattle.map_text.specs.Taking.{joined, TakesFront}
 use Rattle.noise_map.specs.inner.Steps.{past_of, HasGone, HasMet, HasFollowed, HasFailed, is_refusal}
 use Rattle.noise_map.specs.inner.Progress.{IsSameSeat, Did, Told, HasEnded, status_of}
 use Rattle.noise_map.specs.Outcome.{TakesPartOf}
 use Rattle.noise_map.proofs.Ways.{looks_in-append, way-grown}
-use Rattle.noise_map.proofs.Fronts.{joined-append, on-from}
+use Rattle.map_text.proofs.Fronts.{joined-append, on-from}
 use Rattle.noise_map.proofs.Effects.{point-push, text-push, text-more, get-behind, refusal-is, count-is}
 
 pub same-gone : (before seat after : BoardSeat) (added : Entries) → IsSameSeat before seat → HasGone seat added after → IsSameSeat before after

@@ -11,14 +11,15 @@ use Rattle.map_board.specs.Seats.{Entries}
 use Rattle.map_board.specs.Showing.{accepted_edits}
 use Rattle.map_lock.specs.Seats.{BoardSeat}
 use Rattle.noise_map.specs.declared.run.editor.Editor.{Editor}
-use Rattle.noise_map.specs.declared.lines.keeping.KeptVersion.{KeptVersion}
+use Rattle.scene_undo.specs.declared.versions.KeptVersion.{KeptVersion}
+use Rattle.scene_undo.specs.Versions.{is_kept, kept_in, IsCut}
 use Rattle.std.specs.declared.alloc.Global.{Global}
 use Rattle.scene_book.specs.Applying.{lacks_memory}
 use Rattle.scene_book.specs.declared.edits.EditFault.{EditFault}
 use Rattle.map_text.specs.declared.refusals.Refusal.TheVariants.{Edit as OfEdit, NoSuchVersion}
-use Rattle.noise_map.specs.Effects.{Past, is_kept, edits_back, Effect, shows, silent, refused, effect_of_edits, effect_of_undo, journal_with, journal_with_all}
+use Rattle.noise_map.specs.Effects.{Past, edits_back, Effect, shows, silent, refused, effect_of_edits, effect_of_undo, journal_with, journal_with_all}
 use Rattle.noise_map.specs.Ways.{looks_in, edit_entry, edit_entries, lacking_edit, BreaksOff}
-use Rattle.noise_map.specs.inner.Steps.{kept_in, past_of, kept_when, kept_when_all, IsCut, Knows, HasGone, HasMade, HasLacked, MakesOrLacks, MakesUnlessMemory, has_lacked, HasMadeAll, HasLackedOne, HasMet, HasFailed, MeetsEditsUnlessMemory}
+use Rattle.noise_map.specs.inner.Steps.{past_of, kept_when, kept_when_all, Knows, HasGone, HasMade, HasLacked, MakesOrLacks, MakesUnlessMemory, has_lacked, HasMadeAll, HasLackedOne, HasMet, HasFailed, MeetsEditsUnlessMemory}
 use Rattle.noise_map.proofs.Effects.{get-behind}
 use Rattle.noise_map.proofs.Ways.{looks_in-append, looks_in-one}
 use Rattle.noise_map.proofs.Meeting.{Meets, still, refusal-met, followed-still}

@@ -21,9 +21,10 @@ use Rattle.map_board.specs.Showing.{accepted_edits}
 use Rattle.map_lock.specs.Turns.{HasTurned}
 use Rattle.map_lock.specs.Settling.{HasNotFinished, is_finish}
 use Rattle.noise_map.specs.declared.run.editor.Editor.{Editor}
-use Rattle.noise_map.specs.declared.lines.keeping.KeptVersion.{KeptVersion}
-use Rattle.noise_map.specs.declared.lines.stopped.Stopped.{Stopped}
-use Rattle.noise_map.specs.declared.lines.stopped.Stopped.TheVariants as stops
+use Rattle.scene_undo.specs.declared.versions.KeptVersion.{KeptVersion}
+use Rattle.scene_undo.specs.Versions.{kept_in}
+use Rattle.map_text.specs.declared.stopped.Stopped.{Stopped}
+use Rattle.map_text.specs.declared.stopped.Stopped.TheVariants as stops
 use Rattle.noise_map.specs.declared.run.status.Status.{Status}
 use Rattle.noise_map.specs.declared.run.status.Status.TheVariants as status
 use Rattle.noise_map.specs.Effects.{point_after}
@@ -31,8 +32,8 @@ use Rattle.noise_map.specs.Making.{site_lines}
 use Rattle.noise_map.specs.Texts.{text_of, rows_of}
 use Rattle.noise_map.specs.Ways.{Way, begun, looks_in}
 use Rattle.noise_map.specs.Histories.{IsWay}
-use Rattle.noise_map.specs.Taking.{joined, TakesFront}
-use Rattle.noise_map.specs.inner.Steps.{kept_in, IsKeptOf, Knows, is_refusal}
+use Rattle.map_text.specs.Taking.{joined, TakesFront}
+use Rattle.noise_map.specs.inner.Steps.{IsKeptOf, Knows, is_refusal}
 use Rattle.noise_map.specs.inner.Progress.{Read, IsSameSeat, Did, Progress, HasWritten, HasEnded, HasFinished, Ended, AskedEnded, IsTextOf, ending_of, status_at_end, status_of}
 use Rattle.noise_map.specs.Outcome.{Covers, CoversFront, Writes, TellsRefused, TakesPartOf}
 use Rattle.noise_map.proofs.Ways.{looks_in-append, looks_in-one, is_way-grown}

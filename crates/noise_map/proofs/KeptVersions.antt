@@ -1,28 +1,25 @@
 -- Kept versions: in a journal that grows, with one more, and cut for an undo.
-use Rattle.std.proofs.Common.{◌≡◌, ℕ, suc, ◌*◌, ◌<◌, ◌≤◌, true, false, List, [], ◌∷◌, ◌++◌, length, refl, sym, ap, ◌∙◌, subst, arith, inl, inr, append_assoc, length-append}
-use Rattle.std.specs.Prelude.{Bool, Vec, Option, Result, Ok, Err, IsErr, All, map, reverse, filter, flat_map, nat_lt, nat_le, ◌==◌, ◌||◌}
+use Rattle.std.proofs.Common.{◌≡◌, ℕ, suc, ◌<◌, ◌≤◌, true, false, List, [], ◌∷◌, ◌++◌, length, refl, sym, ap, ◌∙◌, subst, arith, inl, inr, length-append}
+use Rattle.std.specs.Prelude.{Bool, Vec, Option, Result, Ok, Err, IsErr, All, reverse, filter, flat_map, nat_lt, nat_le}
 use Rattle.std.proofs.lemmas.Bool.Decides.{nat_tests}
-use Rattle.std.proofs.lemmas.Grind.{flat_map-append}
-use Rattle.std.proofs.lemmas.List.{append-nil, reverse-append, map-append}
-use Rattle.std.specs.List.{list_any}
-use Rattle.std.proofs.lemmas.List.Folds.{list_any-append}
+use Rattle.std.proofs.lemmas.List.{append-nil, map-append}
 use Rattle.std.proofs.lemmas.List.Elements.{All-nil, All-append, All-cons, All-head, All-tail, filter-append}
 use Rattle.std.specs.declared.alloc.Global.{Global}
 use Rattle.scene_parts.specs.declared.parts.Part.{Part}
 use Rattle.scene_book.specs.Book.{Book}
-use Rattle.scene_book.specs.Applying.{apply_of, grid_of, lacks_memory}
+use Rattle.scene_book.specs.Applying.{apply_of, lacks_memory}
 use Rattle.scene_book.specs.declared.edits.Edit.{Edit}
-use Rattle.scene_book.specs.declared.edits.Edit.TheVariants as edits
 use Rattle.scene_book.specs.declared.edits.EditFault.{EditFault}
-use Rattle.scene_parts.specs.Views.{Grid}
 use Rattle.scene_undo.specs.Inverse.{inverse_of}
+use Rattle.scene_undo.specs.declared.versions.KeptVersion.{KeptVersion}
+use Rattle.scene_undo.specs.Versions.{kept_in, EndsUpTo, IsCut}
+use Rattle.scene_undo.proofs.KeptVersions.{reversed-cons, versions, versions-append, kept-one-more}
 use Rattle.map_board.specs.Journal.{newest_scene}
 use Rattle.map_board.specs.Showing.{accepted_edits}
 use Rattle.map_text.specs.declared.refusals.Refusal.TheVariants.{Edit as OfEdit}
 use Rattle.noise_map.specs.declared.run.editor.Editor.{Editor}
-use Rattle.noise_map.specs.declared.lines.keeping.KeptVersion.{KeptVersion}
-use Rattle.noise_map.specs.Effects.{is_kept, silent, refused, way_back, edits_back, display_of_edit, with_edit, journal_with, journal_with_all, with_version, kept_with, kept_with_all}
-use Rattle.noise_map.specs.inner.Steps.{kept_in, past_of, IsKeptOf, Descends, Knows, HasMade, MakesOrLacks, MakesUnlessMemory, display_behind, kept_when, kept_when_all, EndsUpTo, IsCut}
+use Rattle.noise_map.specs.Effects.{silent, refused, way_back, edits_back, display_of_edit, with_edit, journal_with, journal_with_all, with_version, kept_with, kept_with_all}
+use Rattle.noise_map.specs.inner.Steps.{past_of, IsKeptOf, Descends, Knows, HasMade, MakesOrLacks, MakesUnlessMemory, display_behind, kept_when, kept_when_all}
 use Rattle.noise_map.proofs.Journals.{way-stays, way-last}
 
 -- ---- lists
@@ -38,9 +35,6 @@ all-front P (x ∷ xs) ys all = All-cons P x xs (All-head P x (xs ++ ys) all) (a
 all-back : {X : Type 0} (P : X → Type 0) (xs ys : List X) → All P (xs ++ ys) → All P ys
 all-back P [] ys all = all
 all-back P (x ∷ xs) ys all = all-back P xs ys (All-tail P x (xs ++ ys) all)
-
-reversed-cons : {X : Type 0} (x : X) (xs : List X) → reverse (x ∷ xs) ≡ reverse xs ++ x ∷ []
-reversed-cons x xs = reverse-append (x ∷ []) xs
 
 all-reversed : {X : Type 0} (P : X → Type 0) (xs : List X) → All P xs → All P (reverse xs)
 all-reversed P [] all = all
@@ -63,23 +57,10 @@ filter-none p (x ∷ xs) all =
 
 -- ---- versions
 
-abbrev versions : List KeptVersion → List ℕ
-versions kept = map (λ (one : KeptVersion). one.version) kept
-
 all-versions : (P : ℕ → Type 0) (kept : List KeptVersion) → All (λ one. P one.version) kept → All P (versions kept)
 all-versions P [] all = All-nil P
 all-versions P (one ∷ kept) all =
     All-cons P one.version (versions kept) (All-head (λ (k : KeptVersion). P k.version) one kept all) (all-versions P kept (All-tail (λ (k : KeptVersion). P k.version) one kept all))
-
--- those of two lists, the later ones first
-versions-append : (xs ys : List KeptVersion) → kept_in (xs ++ ys) ≡ reverse (versions ys) ++ kept_in xs
-versions-append xs ys =
-    ap (λ vs. reverse vs ++ 0 ∷ []) (map-append (λ (one : KeptVersion). one.version) xs ys)
-    ∙ (ap (λ vs. vs ++ 0 ∷ []) (reverse-append (versions xs) (versions ys)) ∙ append_assoc (reverse (versions ys)) (reverse (versions xs)) (0 ∷ []))
-
--- those of a list with one more
-pub kept-one-more : (xs : List KeptVersion) (one : KeptVersion) → kept_in (xs ++ one ∷ []) ≡ one.version ∷ kept_in xs
-kept-one-more xs one = versions-append xs (one ∷ [])
 
 -- what holds of 0 and of all kept versions holds of all
 all-kept : (P : ℕ → Type 0) (kept : List KeptVersion) → P 0 → All (λ one. P one.version) kept → All P (kept_in kept)
@@ -278,11 +259,6 @@ kept-fault {X} before mid room edit result same fault roomy is name made =
     subst (λ (r : Result X EditFault). MakesUnlessMemory true before edit r mid) (sym (is ∙ ap (λ (f : EditFault). Err f) name))
     (kept-by (lacks_memory fault) before mid room edit fault roomy made)
 
--- a grid of more receivers than a scene holds
-pub large-refused : (grid : Grid) (book : Book) → nat_lt 4096 (grid.columns * grid.rows) ≡ true → IsErr (apply_of (edits.Grid grid) book)
-unfolding apply_of grid_of
-large-refused grid book h = rw h refl
-
 unaccepted : (r : Result (Book × Option Part) EditFault) → IsErr r → display_of_edit r ≡ silent → ⊥
 unaccepted (Ok after) err h = cc
 unaccepted (Err fault) err h = cc
@@ -295,53 +271,3 @@ never-kept before mid edit (Ok done) never made =
 never-kept before mid edit (Err fault) never made = kept-by (lacks_memory fault) before mid before.kept edit fault refl (remade (lacks_memory fault) made) where
   remade : (lacks : Bool) → MakesOrLacks lacks false before edit fault mid → MakesOrLacks lacks false (keeping before before.kept) edit fault mid
   remade lacks m = m
-
--- ---- taken off the end
-
-pub later-parts : (kept left later : List KeptVersion) (one : KeptVersion) → kept ≡ left ++ one ∷ [] → kept ++ later ≡ left ++ one ∷ later
-later-parts kept left later one is = ap (λ (ks : List KeptVersion). ks ++ later) is ∙ append_assoc left (one ∷ []) later
-
-pub later-edits : (later : List KeptVersion) (one : KeptVersion)
-    → flat_map (λ (k : KeptVersion). k.back) (reverse later) ++ one.back ≡ flat_map (λ (k : KeptVersion). k.back) (reverse (one ∷ later))
-later-edits later one =
-    sym (ap (flat_map (λ (k : KeptVersion). k.back)) (reversed-cons one later)
-    ∙ (flat_map-append (λ (k : KeptVersion). k.back) (reverse later) (one ∷ [])
-    ∙ ap (λ (es : List Edit). flat_map (λ (k : KeptVersion). k.back) (reverse later) ++ es) (append-nil one.back)))
-
--- ---- whether a version is kept
-
-kept-any-of : (version : ℕ) (kept : List KeptVersion) → list_any (λ v. v == version) (versions kept) ≡ list_any (λ (one : KeptVersion). one.version == version) kept
-kept-any-of version [] = refl
-kept-any-of version (one ∷ kept) = ap (λ b. (one.version == version) || b) (kept-any-of version kept)
-
-any-reversed : (p : ℕ → Bool) (xs : List ℕ) → list_any p (reverse xs) ≡ list_any p xs
-any-reversed p [] = refl
-any-reversed p (x ∷ xs) =
-    ap (list_any p) (reversed-cons x xs)
-    ∙ (list_any-append p (reverse xs) (x ∷ [])
-    ∙ (ap (λ b. b || list_any p (x ∷ [])) (any-reversed p xs) ∙ either (p x) (list_any p xs)))
-  where
-    either : (a b : Bool) → (b || (a || false)) ≡ (a || b)
-    either true true = refl
-    either true false = refl
-    either false true = refl
-    either false false = refl
-
-kept-any-all : (version : ℕ) (kept : List KeptVersion) → is_kept version (kept_in kept) ≡ (list_any (λ (one : KeptVersion). one.version == version) kept || (0 == version))
-kept-any-all version kept =
-    list_any-append (λ v. v == version) (reverse (versions kept)) (0 ∷ [])
-    ∙ (λ i. (any-reversed (λ v. v == version) (versions kept) ∙ kept-any-of version kept) i || last (0 == version) i)
-  where
-    last : (b : Bool) → (b || false) ≡ b
-    last true = refl
-    last false = refl
-
-is_other : (version : ℕ) → (version ≡ 0 → ⊥) → (0 == version) ≡ false
-is_other version h = grind (arith, nat_tests)
-
--- beside 0, those in the list
-pub others-kept : (version : ℕ) (kept : List KeptVersion) → (version ≡ 0 → ⊥) → list_any (λ (one : KeptVersion). one.version == version) kept ≡ is_kept version (kept_in kept)
-others-kept version kept other = sym (kept-any-all version kept ∙ (ap (λ b. list_any (λ (one : KeptVersion). one.version == version) kept || b) (is_other version other) ∙ no-more (list_any (λ (one : KeptVersion). one.version == version) kept))) where
-  no-more : (b : Bool) → (b || false) ≡ b
-  no-more true = refl
-  no-more false = refl

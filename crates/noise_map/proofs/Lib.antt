@@ -16,4 +16,3 @@ pub mod Crossing
 pub mod Crews
 pub mod Wholes
 pub mod Sites
-pub mod Fronts

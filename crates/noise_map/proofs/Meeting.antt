@@ -32,7 +32,8 @@ use Rattle.map_lock.specs.Settling.{is_finish, is_settling, is_look, HasNotFinis
 use Rattle.noise_map.specs.declared.lines.answer.Answer.{Answer}
 use Rattle.noise_map.specs.declared.lines.answer.Answer.TheVariants as answers
 use Rattle.noise_map.specs.declared.run.editor.Editor.{Editor}
-use Rattle.noise_map.specs.declared.lines.keeping.KeptVersion.{KeptVersion}
+use Rattle.scene_undo.specs.declared.versions.KeptVersion.{KeptVersion}
+use Rattle.scene_undo.specs.Versions.{kept_in}
 use Rattle.command_lines.specs.declared.commands.Command.{Command}
 use Rattle.command_lines.specs.declared.commands.Command.TheVariants as commands
 use Rattle.line_sources.specs.Pieces.{line_edits_of, unline_edits_of}
@@ -44,8 +45,8 @@ use Rattle.noise_map.specs.Demands.{Demand, nothing, command, demand_read, deman
 use Rattle.noise_map.specs.Effects.{Display, silent, refused, settled, known, contoured, Effect, shows, effect_of, effect_of_edits, effect_of_contour, display_of_edit, effect_of_edit, looks_asked, with_edit, journal_with}
 use Rattle.noise_map.specs.Texts.{answer_to, looked_by, settled_by, contoured_by}
 use Rattle.noise_map.specs.Ways.{look_in, looks_in, look_entry, edit_entry, lacking_edit, BreaksOff, Settles, DoesLook, Does, IsNoLook}
-use Rattle.noise_map.specs.inner.Rows.{ShowsFew}
-use Rattle.noise_map.specs.inner.Steps.{kept_in, past_of, IsKeptOf, Descends, Knows, HasGone, HasMade, HasLacked, MakesOrLacks, MakesUnlessMemory, display_behind, HasMet, HasFollowed, HasFailed, MeetsUnlessMemory, MeetsEditsUnlessMemory}
+use Rattle.noise_map.specs.inner.Answers.{ShowsFew}
+use Rattle.noise_map.specs.inner.Steps.{past_of, IsKeptOf, Descends, Knows, HasGone, HasMade, HasLacked, MakesOrLacks, MakesUnlessMemory, display_behind, HasMet, HasFollowed, HasFailed, MeetsUnlessMemory, MeetsEditsUnlessMemory}
 use Rattle.noise_map.proofs.Effects.{newest-with}
 use Rattle.noise_map.proofs.KeptVersions.{all-each, all-front, kept-with-edit}
 use Rattle.noise_map.proofs.Ways.{looks_in-append, looks_in-one, accepted-append, accepted-one, own-front}

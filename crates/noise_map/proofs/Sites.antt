@@ -1,15 +1,10 @@
 -- What the lines of a generated site come to.
-use Rattle.std.proofs.Common.{◌≡◌, ℕ, ◌+◌, ◌<◌, ◌≤◌, ◌-◌, ◌==◌, ℤ, pos, List, [], ◌∷◌, length, take, drop, map, ◌++◌, refl, sym, ap, subst, append_assoc, ◌∙◌, arith}
-use Rattle.std.specs.Prelude.{Option, Some, None, IfSome, IsSomeAnd, unwrap_or, position, Bool, true, false, nat_lt, fold, slice_get}
-use Rattle.std.proofs.lemmas.Int.{ints}
+use Rattle.std.proofs.Common.{◌≡◌, ℕ, ◌+◌, ◌<◌, ◌≤◌, ◌-◌, ◌==◌, List, [], ◌∷◌, length, take, drop, map, ◌++◌, refl, sym, ap, subst, append_assoc, ◌∙◌, arith}
+use Rattle.std.specs.Prelude.{Option, Some, None, unwrap_or, position, Bool, true, false, nat_lt, fold, slice_get}
 use Rattle.std.proofs.lemmas.List.{take_all, length-drop, length-append}
 use Rattle.std.proofs.Math.Seq.{drop-length, take-append_seam}
 use Rattle.std.proofs.lemmas.List.Sums.{fold-append}
 use Rattle.fix_interval.specs.Interval.{Interval}
-use Rattle.fix_interval.specs.Values.{ratio_of, hull_of, lesser_low, greater_high}
-use Rattle.energy_sum.proofs.Adding.{zero-is}
-use Rattle.path_calc.specs.Levels.{IsLevelEnd, IsLevel}
-use Rattle.map_text.specs.Rounding.{IsPrintable, IsPrintableLevel}
 use Rattle.map_io.specs.Lines.{lines}
 use Rattle.map_io.specs.LineLaws.{lines-line, lines-last, lines-empty}
 use Rattle.map_io.proofs.Scanning.{plain_before_feed, split_at_feed, plain_without_feed}
@@ -25,6 +20,10 @@ use Rattle.map_board.specs.Journal.{newest_scene}
 use Rattle.map_board.specs.Showing.{accepted_edits, settled_row, settled_rows}
 use Rattle.map_lock.specs.Seats.{BoardSeat, BoardEntry}
 use Rattle.map_lock.specs.Settling.{IsQuiet, is_look}
+use Rattle.map_text.specs.declared.stopped.Stopped.TheVariants as stops
+use Rattle.map_text.specs.Making.{no_level, widened, span_with, span_of_rows}
+use Rattle.map_text.specs.Taking.{TakesFront}
+use Rattle.map_text.proofs.Fronts.{row-begun}
 use Rattle.map_board.specs.Seats.{Entries}
 use Rattle.noise_map.specs.Demands.{demand_of}
 use Rattle.noise_map.specs.Effects.{Display, silent, refused, settled, known, contoured, Past, past_with, Effect, effect_of, journal_with, journal_with_all, Point, at_start, passed_line, point_after}
@@ -34,53 +33,14 @@ use Rattle.noise_map.specs.inner.Steps.{HasMet}
 use Rattle.noise_map.proofs.Ways.{looks_in-append, looks_in-one}
 use Rattle.noise_map.proofs.KeptVersions.{all-each}
 use Rattle.noise_map.proofs.Meeting.{no-looks}
-use Rattle.noise_map.specs.Making.{no_level, widened, total_in, span_in, Made, made_showing, made_with, making_of, made_after, made_by, nothing_made, site_lines, site_made, site_row, MakesRow}
-use Rattle.noise_map.specs.inner.Adding.{span_with, span_of_rows, made_with_answer}
+use Rattle.noise_map.specs.Making.{total_in, span_in, Made, made_showing, made_with, making_of, made_after, made_by, nothing_made, site_lines, site_made, site_row, MakesRow}
+use Rattle.noise_map.specs.inner.Adding.{made_with_answer}
 use Rattle.noise_map.specs.declared.run.status.Status.{Status}
 use Rattle.noise_map.specs.inner.Progress.{status_at_end, Did, HasEnded, SiteEnded}
 use Rattle.noise_map.specs.declared.run.status.Status.TheVariants as status
 use Rattle.map_io.specs.Putting.{TakesPart}
-use Rattle.noise_map.specs.declared.lines.stopped.Stopped.TheVariants as stops
-use Rattle.noise_map.specs.Taking.{TakesFront}
-use Rattle.noise_map.proofs.Fronts.{row-begun}
 use Rattle.std.specs.Option.{option_map}
 use Rattle.std.specs.Io.KnownBytes.{Appends}
-
--- ---- levels
-
-lesser : (a b : Option ℤ) → IsLevelEnd a → IsLevelEnd b → IsLevelEnd (lesser_low a b)
-lesser None b h k = absurd h
-lesser (Some x) None h k = absurd k
-lesser (Some x) (Some y) h k = grind (arith, ints)
-
-greater : (a b : Option ℤ) → IsLevelEnd a → IsLevelEnd b → IsLevelEnd (greater_high a b)
-greater None b h k = absurd h
-greater (Some x) None h k = absurd k
-greater (Some x) (Some y) h k = grind (arith, ints)
-
--- what holds two levels is a level
-pub hull-level : (a b : Interval) → IsLevel a → IsLevel b → IsLevel (hull_of a b)
-unfolding hull_of
-hull-level a b h k = record { low = lesser a.lo b.lo h.low k.low; high = greater a.hi b.hi h.high k.high }
-
-pub nothing-level : ratio_of (pos 0) 1 ≡ no_level
-nothing-level = sym zero-is
-
-pub nothing-is_level : IsLevel no_level
-nothing-is_level = record { low = (omega (arith, ints), omega (arith, ints)); high = (omega (arith, ints), omega (arith, ints)) }
-
-printable : (end : Option ℤ) → IsLevelEnd end → IsSomeAnd end IsPrintable
-printable None h = absurd h
-printable (Some z) h = (h.0, omega (arith, ints, h.1))
-
--- a level has a text
-pub level-printable : (level : Interval) → IsLevel level → IsPrintableLevel level
-level-printable level h = record { low = printable level.lo h.low; high = printable level.hi h.high }
-
--- the levels so far, or none
-pub known-level : (span : Option Interval) (default : Interval) → IfSome span IsLevel → IsLevel default → IsLevel (unwrap_or span default)
-known-level None default h k = k
-known-level (Some level) default h k = h
 
 -- ---- lines
 

@@ -7,11 +7,11 @@ use Rattle.map_io.specs.declared.reader.Stop.TheVariants.{Going, AtEnd, AfterFau
 use Rattle.map_io.specs.declared.reader.Next.{Next}
 use Rattle.map_io.specs.declared.reader.Next.TheVariants as next
 use Rattle.map_io.specs.Reading.{Reading, input_limit}
-use Rattle.noise_map.specs.declared.lines.stopped.Stopped.{Stopped}
-use Rattle.noise_map.specs.declared.lines.stopped.Stopped.TheVariants as stops
+use Rattle.map_text.specs.declared.stopped.Stopped.{Stopped}
+use Rattle.map_text.specs.declared.stopped.Stopped.TheVariants as stops
 use Rattle.noise_map.specs.declared.run.status.Status.{Status}
 use Rattle.noise_map.specs.declared.run.status.Status.TheVariants as status
-use Rattle.noise_map.specs.inner.Writing.{CausedByWriteFault}
+use Rattle.map_text.specs.Taking.{CausedByWriteFault}
 use Rattle.noise_map.specs.Outcome.{Covers, Outcome, CoversLimit, TellsFault, IsUnbroken, RunsToTheEnd, OutcomeOf, RunOutcome}
 use Rattle.map_lock.specs.Seats.{BoardSeat}
 use Rattle.noise_map.specs.Making.{Makes, MakesRow, site_lines}

@@ -11,11 +11,12 @@ use Rattle.scene_book.specs.Applying.{apply_of}
 use Rattle.scene_book.specs.Orders.{SameParts}
 use Rattle.scene_undo.specs.Scenes.{IsEdit}
 use Rattle.scene_undo.specs.Inverse.{inverse_of}
+use Rattle.scene_undo.specs.Versions.{is_kept}
 use Rattle.scene_undo.specs.Laws.{LeadTo}
 use Rattle.scene_undo.proofs.Undoing.{undo}
 use Rattle.scene_undo.proofs.Trails.{same-parts, same-parts-on, lead-through}
 use Rattle.map_board.specs.Journal.{book_after, book_after_all, scene_at, newest_scene}
-use Rattle.noise_map.specs.Effects.{Past, no_past, is_kept, undone_by, way_back, edits_back, with_edit, journal_with, journal_with_all, with_version, kept_with, kept_with_all}
+use Rattle.noise_map.specs.Effects.{Past, no_past, undone_by, way_back, edits_back, with_edit, journal_with, journal_with_all, with_version, kept_with, kept_with_all}
 use Rattle.noise_map.proofs.Journals.{IsJournal, AreTaken, IsStep, taken, version-scene, in-row, newest-behind, version-stays, last-version, journal-append, all-in, step-at, ways-edits, way-stays}
 
 -- a scene has its own parts

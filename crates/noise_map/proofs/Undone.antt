@@ -14,6 +14,7 @@ use Rattle.command_lines.specs.declared.commands.Command.TheVariants as commands
 use Rattle.command_lines.specs.declared.faults.LineFault.{LineFault}
 use Rattle.command_lines.specs.Lines.{command_of}
 use Rattle.line_sources.specs.Pieces.{line_edits_of, unline_edits_of}
+use Rattle.scene_undo.specs.Versions.{is_kept}
 use Rattle.level_contours.specs.GridNames.{first_missing_of}
 use Rattle.map_io.specs.Reading.{line_limit}
 use Rattle.map_board.specs.Journal.{scene_at, newest_scene}
@@ -23,7 +24,7 @@ use Rattle.map_board.specs.Showing.{settled_rows}
 use Rattle.path_calc.specs.Levels.{Levels}
 use Rattle.scene_undo.specs.Scenes.{IsEdit, IsScene}
 use Rattle.noise_map.specs.Demands.{Demand, nothing, refusal, command, demand_read, demand_of, is_blank}
-use Rattle.noise_map.specs.Effects.{Past, is_kept, edits_back, Effect, effect_of_edits, effect_of_contour, effect_of_undo, effect_in, effect_of, journal_with_all, kept_behind, Point, at_start, effect_at, passed_line, point_after, journal_of}
+use Rattle.noise_map.specs.Effects.{Past, edits_back, Effect, effect_of_edits, effect_of_contour, effect_of_undo, effect_in, effect_of, journal_with_all, kept_behind, Point, at_start, effect_at, passed_line, point_after, journal_of}
 use Rattle.noise_map.specs.Undone.{LeadsBack}
 use Rattle.noise_map.proofs.Journals.{version-scene}
 use Rattle.noise_map.proofs.Trails.{IsSound, sound-start, sound-edits, HasLed, undo-leads}

@@ -1,6 +1,5 @@
 -- What a line comes to behind the lines before it: the edits that are made for it, and what is shown.
-use Rattle.std.specs.Prelude.{ℕ, zero, suc, ◌+◌, Bool, true, false, ◌||◌, ◌==◌, nat_lt, nat_le, List, [], ◌∷◌, ◌++◌, length, fold, filter, flat_map, slice_get, Option, Some, None, Result, Ok, Err, if◌then◌else◌}
-use Rattle.std.specs.List.{list_any}
+use Rattle.std.specs.Prelude.{ℕ, zero, suc, ◌+◌, Bool, true, false, ◌||◌, nat_lt, nat_le, List, [], ◌∷◌, ◌++◌, length, fold, filter, flat_map, slice_get, Option, Some, None, Result, Ok, Err, if◌then◌else◌}
 use Rattle.scene_parts.specs.declared.parts.Part.{Part}
 use Rattle.scene_book.specs.Book.{Book}
 use Rattle.scene_book.specs.Applying.{apply_of}
@@ -13,6 +12,7 @@ use Rattle.command_lines.specs.declared.commands.Command.TheVariants as commands
 use Rattle.map_text.specs.declared.refusals.Refusal.{Refusal}
 use Rattle.map_text.specs.declared.refusals.Refusal.TheVariants.{Edit as OfEdit, NoSuchVersion}
 use Rattle.scene_undo.specs.Inverse.{inverse_of}
+use Rattle.scene_undo.specs.Versions.{is_kept}
 use Rattle.map_board.specs.Journal.{scene_at, newest_scene}
 use Rattle.line_sources.specs.Pieces.{line_edits_of, unline_edits_of}
 use Rattle.level_contours.specs.GridNames.{first_missing_of}
@@ -29,9 +29,6 @@ pub record Past : Type 0 where
 -- before the first line version 0 alone is kept
 abbrev pub no_past : Past
 no_past = record { journal = []; kept = 0 ∷ [] }
-
-abbrev pub is_kept : ℕ → List ℕ → Bool
-is_kept version kept = list_any (λ v. v == version) kept
 
 -- an edit undone, by the scene before it
 abbrev pub undone_by : Option Edit → Book → List Edit

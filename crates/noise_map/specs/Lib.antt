@@ -5,7 +5,6 @@ pub mod Ways
 pub mod Histories
 pub mod Undone
 pub mod Outcome
-pub mod Taking
 pub mod Making
 pub mod Status
 pub mod inner

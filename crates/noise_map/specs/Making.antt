@@ -1,35 +1,25 @@
 -- What the lines of a generated site come to, and the one row that tells it.
-use Rattle.std.specs.Prelude.{◌≡◌, ℕ, ◌+◌, ◌<◌, ◌≤◌, pos, List, [], ◌∷◌, map, take, fold, length, Option, Some, None, unwrap_or}
+use Rattle.std.specs.Prelude.{◌≡◌, ℕ, ◌+◌, ◌<◌, ◌≤◌, List, [], ◌∷◌, map, take, fold, length, Option, None, unwrap_or}
 use Rattle.std.specs.Io.KnownBytes.{Appends}
 use Rattle.fix_interval.specs.Interval.{Interval}
-use Rattle.fix_interval.specs.Values.{hull_of}
 use Rattle.scene_parts.specs.Views.{Receiver}
 use Rattle.scene_book.specs.Book.{Book}
 use Rattle.path_calc.specs.Show.{show_of}
 use Rattle.map_io.specs.Lines.{lines}
 use Rattle.map_board.specs.Journal.{newest_scene}
 use Rattle.map_lock.specs.Seats.{BoardSeat}
-use Rattle.map_text.specs.Rows.{made_row}
+use Rattle.map_text.specs.declared.making.Making.{Making}
+use Rattle.map_text.specs.declared.stopped.Stopped.TheVariants as stops
+use Rattle.map_text.specs.Making.{no_level, widened, row_of_making}
+use Rattle.map_text.specs.Taking.{TakesFront}
 use Rattle.site_maker.specs.Site.{site_text}
-use Rattle.noise_map.specs.declared.make.making.Making.{Making}
-use Rattle.noise_map.specs.declared.lines.stopped.Stopped.TheVariants as stops
 use Rattle.noise_map.specs.declared.run.status.Status.{Status}
 use Rattle.noise_map.specs.declared.run.status.Status.TheVariants as status
 use Rattle.noise_map.specs.Demands.{demand_of}
 use Rattle.noise_map.specs.Effects.{Display, silent, refused, settled, known, contoured, Past, no_past, Effect, effect_of, past_with}
 use Rattle.noise_map.specs.Histories.{HasHistory}
-use Rattle.noise_map.specs.Taking.{TakesFront}
 
 -- ---- the levels of a settle
-
--- 0 dB
-abbrev pub no_level : Interval
-no_level = record { lo = Some (pos 0); hi = Some (pos 0) }
-
--- from the least low end to the greatest high end of the levels so far and one more
-abbrev pub widened : Option Interval → Interval → Option Interval
-widened None level = Some level
-widened (Some span) level = Some (hull_of span level)
 
 -- the A-weighted long-term level of a receiver
 abbrev pub total_in : Book → Receiver → Interval
@@ -82,13 +72,6 @@ making_of made = record {
   receivers = made.receivers;
   span = made.span;
 }
-
--- The row that tells it: the last version, the number of the site, how many lines were refused, and of the last settle
--- how many receivers there are and their levels
-abbrev pub row_of_making : ℕ → ℕ → Making → List ℕ
-row_of_making number version making =
-    made_row version making.receivers number making.refused
-    (unwrap_or making.span.lo (pos 0)) (unwrap_or making.span.hi (pos 0))
 
 -- ---- sites
 

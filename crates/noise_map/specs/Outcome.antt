@@ -11,10 +11,10 @@ use Rattle.map_lock.specs.Seats.{BoardSeat}
 use Rattle.noise_map.specs.declared.run.status.Status.{Status}
 use Rattle.noise_map.specs.declared.run.status.Status.TheVariants.{Done, SomeRefused, Usage}
 use Rattle.noise_map.specs.declared.run.status.Status.TheVariants.{ReadFault, WriteFault, NoMemory, InputLimit}
-use Rattle.noise_map.specs.declared.lines.stopped.Stopped.{Stopped}
-use Rattle.noise_map.specs.declared.lines.stopped.Stopped.TheVariants as stops
+use Rattle.map_text.specs.declared.stopped.Stopped.{Stopped}
+use Rattle.map_text.specs.declared.stopped.Stopped.TheVariants as stops
 use Rattle.noise_map.specs.Effects.{point_after}
-use Rattle.noise_map.specs.Taking.{joined, IsBegun}
+use Rattle.map_text.specs.Taking.{joined, IsBegun}
 use Rattle.noise_map.specs.Texts.{text_of}
 use Rattle.noise_map.specs.Ways.{looks_in}
 use Rattle.noise_map.specs.Histories.{HasHistory}

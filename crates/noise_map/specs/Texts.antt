@@ -1,5 +1,5 @@
 -- What lines write, where their settles and looks were answered by these looks at the board.
-use Rattle.std.specs.Prelude.{ℕ, ◌+◌, Bool, true, false, List, [], ◌∷◌, ◌++◌, length, map, slice_get, slice_index, flat_map, Option, Some, None}
+use Rattle.std.specs.Prelude.{ℕ, ◌+◌, List, [], ◌∷◌, ◌++◌, length, map, slice_get, Option, Some, None}
 use Rattle.command_words.specs.declared.line.CommandLine.{CommandLine}
 use Rattle.command_lines.specs.Views.{Contour}
 use Rattle.map_board.specs.declared.looks.LookAll.{LookAll}
@@ -10,10 +10,9 @@ use Rattle.cell_loops.specs.Plane.{plane_of}
 use Rattle.cell_loops.specs.Boundary.{loops_of, points_of}
 use Rattle.level_contours.specs.Looking.{cells_of}
 use Rattle.level_contours.specs.Texts.{contour_rows}
-use Rattle.map_text.specs.declared.heads.Head.{Head}
 use Rattle.map_text.specs.declared.heads.Head.TheVariants.{Settle, Look}
-use Rattle.map_text.specs.Rows.{head_row, refused_row, counts_row}
-use Rattle.map_text.specs.Looks.{receiver_rows}
+use Rattle.map_text.specs.Rows.{refused_row}
+use Rattle.map_text.specs.Looks.{look_rows, counts_rows}
 use Rattle.noise_map.specs.declared.lines.answer.Answer.{Answer}
 use Rattle.noise_map.specs.declared.lines.answer.Answer.TheVariants.{Nothing, Refused, Settled, Looked, Contoured}
 use Rattle.noise_map.specs.Effects.{Display, silent, refused, settled, known, contoured, Point, at_start, effect_at, passed_line}
@@ -41,19 +40,6 @@ answer_to known look = looked_by look
 answer_to (contoured contour) look = contoured_by contour look
 
 -- ---- rows
-
--- the rows of a look: its head, and those of each receiver, those of bands among them where they are asked for
-unfoldable pub look_rows : Head → Bool → LookAll → List (List ℕ)
-look_rows head bands look =
-    head_row head look.version (length look.rows) ∷ flat_map (receiver_rows bands look.version) look.rows
-
--- the row of counts behind those of a settle, where it is asked for
-abbrev pub counts_rows : Bool → LookAll → List (List ℕ)
-counts_rows false look = []
-counts_rows true look =
-    counts_row look.version (length look.rows) (slice_index look.counts 0) (slice_index look.counts 1)
-    (slice_index look.counts 2) (slice_index look.counts 3)
-    ∷ []
 
 -- the loops of a family round the cells that a look shows, each by the corners at which it turns
 abbrev pub loops_in : Contour → LookAll → Family → List (List Corner)

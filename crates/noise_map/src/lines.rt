@@ -1,29 +1,26 @@
 //! The lines of an input, one after another.
 ghost use Rattle.std.specs.Prelude.{◌≡◌, ℕ, List, [], IfOk};
+ghost use Rattle.map_text.specs.Taking.{Takes, CausedByWriteFault};
 ghost use Rattle.map_lock.specs.Settling.{HasNotFinished};
 ghost use Rattle.noise_map.specs.Demands.{demand_of};
 ghost use Rattle.noise_map.specs.Texts.{rows_of};
-ghost use Rattle.noise_map.specs.inner.Rows.{ShowsFew};
-ghost use Rattle.noise_map.specs.inner.Writing.{Takes, CausedByWriteFault};
+ghost use Rattle.noise_map.specs.inner.Answers.{ShowsFew};
 ghost use Rattle.noise_map.specs.inner.Steps.{Knows, MeetsUnlessMemory};
 ghost use Rattle.noise_map.specs.inner.Progress.{ending_of, status_of, IsLineOf, IsTextOf, HasWritten, HasEnded, Ended};
 ghost use Rattle.noise_map.specs.Outcome.{TellsFault};
 
 pub(crate) mod answer;
-pub(crate) mod keeping;
-pub(crate) mod rows;
+pub(crate) mod contours;
 pub(crate) mod step;
-pub(crate) mod stopped;
 
 use crate::lines::answer::Answer;
-use crate::lines::rows::Rows;
+use crate::lines::contours::write_contours;
 use crate::lines::step::{Shared, refuse_long};
-use crate::lines::stopped::Stopped;
 use crate::run::editor::Editor;
 use crate::run::status::{Ending, Status, status_at_end};
 use command_words::CommandLine;
 use map_io::{Gate, LineReader, Next, Sink, Source};
-use map_text::{Head, RowWriter};
+use map_text::{Head, RowWriter, Rows, Stopped};
 use scene_parts::NoMemory;
 use std::sync::Wait;
 use std::thread::Threads;
@@ -74,7 +71,7 @@ fn show<K: Sink>(
         Answer::Refused(fault) => rows.refuse(version, number, fault),
         Answer::Settled(look) => rows.settle(look),
         Answer::Looked(look) => rows.look(Head::Look, look),
-        Answer::Contoured(contour, look) => rows.contours(contour, look),
+        Answer::Contoured(contour, look) => write_contours(&mut rows, contour, look),
     }
 }
 

@@ -4,18 +4,18 @@ ghost use Rattle.std.specs.Option.{option_map};
 ghost use Rattle.path_calc.specs.Levels.{IsLevel};
 ghost use Rattle.map_lock.specs.Settling.{HasNotFinished};
 ghost use Rattle.noise_map.specs.inner.FirstLine.{IsFirstLine};
-ghost use Rattle.noise_map.specs.inner.Adding.{AddsLine};
+ghost use Rattle.noise_map.specs.inner.Adding.{made_with_answer, AddsLine};
+ghost use Rattle.noise_map.specs.inner.Answers.{ShowsFew};
 ghost use Rattle.noise_map.specs.Outcome.{TellsFault};
 ghost use Rattle.noise_map.specs.inner.Steps.{Knows};
 ghost use Rattle.noise_map.specs.inner.Progress.{HasEnded, SiteEnded};
 
-pub(crate) mod making;
-
+use crate::lines::answer::Answer;
 use crate::lines::step::Shared;
-use crate::make::making::Making;
 use crate::run::editor::Editor;
 use crate::run::status::{Ending, Status, status_at_end};
 use map_io::{Gate, Sink, put_all};
+use map_text::Making;
 use scene_parts::NoMemory;
 use site_maker::site;
 use std::sync::Wait;
@@ -41,6 +41,21 @@ fn first_line(bytes: &[u8]) -> Option<(&[u8], &[u8])>
     }
 }
 
+/// Adds what a line has done.
+fn add(making: &mut Making, answer: &Answer)
+    requires refused { making.old.refused < 2 ^ 64 - 1 }
+    requires few { ShowsFew answer.now }
+    requires level { IsLevel making.old.span }
+    ensures made { making.new ≡ made_with_answer making.old answer.now }
+    ensures level { IsLevel making.new.span }
+{
+    match answer {
+        Answer::Nothing | Answer::Looked(_) | Answer::Contoured(_, _) => {}
+        Answer::Refused(_) => making.refuse(),
+        Answer::Settled(look) => making.settle(look),
+    }
+}
+
 /// Does one line of a site, and adds what it has done.
 fn make_line<R: Threads + Wait + Sync, G: Gate>(
     shared: &Shared<R, G>,
@@ -57,7 +72,7 @@ fn make_line<R: Threads + Wait + Sync, G: Gate>(
     ensures level { IsLevel making.new.span }
 {
     let answer = shared.any_line(editor, line)?;
-    making.add(&answer);
+    add(making, &answer);
     Ok(())
 }
 

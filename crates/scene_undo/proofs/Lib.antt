@@ -7,3 +7,5 @@ pub mod Undoing
 pub mod Trails
 pub mod Checked
 pub mod Agreeing
+pub mod KeptVersions
+pub mod Crossing

@@ -1,3 +1,4 @@
 pub mod Inverse
 pub mod Scenes
 pub mod Laws
+pub mod Versions

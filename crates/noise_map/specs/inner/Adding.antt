@@ -1,26 +1,13 @@
 -- What one more line adds to what the lines of a generated site come to, as the run keeps it.
-use Rattle.std.specs.Prelude.{◌≡◌, ℕ, ◌+◌, List, fold, length, Option, None, unwrap_or, Result, Ok, Err}
-use Rattle.fix_interval.specs.Interval.{Interval}
-use Rattle.map_board.specs.declared.answers.Shown.{Shown}
-use Rattle.map_board.specs.declared.answers.Shown.TheVariants.{Current}
-use Rattle.map_board.specs.declared.looks.LookRow.{LookRow}
-use Rattle.noise_map.specs.declared.make.making.Making.{Making}
+use Rattle.std.specs.Prelude.{◌≡◌, ℕ, ◌+◌, List, length, Result, Ok, Err}
+use Rattle.map_text.specs.declared.making.Making.{Making}
+use Rattle.map_text.specs.Making.{span_of_rows}
 use Rattle.noise_map.specs.declared.lines.answer.Answer.{Answer}
 use Rattle.noise_map.specs.declared.lines.answer.Answer.TheVariants.{Nothing, Refused, Settled, Looked, Contoured}
 use Rattle.noise_map.specs.declared.run.editor.Editor.{Editor}
 use Rattle.noise_map.specs.Demands.{demand_of}
 use Rattle.noise_map.specs.Effects.{effect_of}
-use Rattle.noise_map.specs.Making.{no_level, widened}
 use Rattle.noise_map.specs.inner.Steps.{past_of, HasMet, HasFollowed, HasFailed}
-
--- the levels so far and those of one more row that is current
-abbrev pub span_with : Option Interval → Shown → Option Interval
-span_with span (Current levels) = widened span levels.total
-span_with span shown = span
-
--- those of all rows that are current, and 0 dB where there is none
-unfoldable pub span_of_rows : List LookRow → Interval
-span_of_rows rows = unwrap_or (fold (λ span (row : LookRow). span_with span row.shown) None rows) no_level
 
 -- what one more answer adds
 abbrev pub made_with_answer : Making → Answer → Making

@@ -15,14 +15,14 @@ use Rattle.noise_map.specs.declared.lines.answer.Answer.{Answer}
 use Rattle.noise_map.specs.declared.run.editor.Editor.{Editor}
 use Rattle.noise_map.specs.declared.run.status.Status.{Status}
 use Rattle.noise_map.specs.declared.run.status.Status.TheVariants as status
-use Rattle.noise_map.specs.declared.lines.stopped.Stopped.{Stopped}
-use Rattle.noise_map.specs.declared.lines.stopped.Stopped.TheVariants as stops
+use Rattle.map_text.specs.declared.stopped.Stopped.{Stopped}
+use Rattle.map_text.specs.declared.stopped.Stopped.TheVariants as stops
 use Rattle.noise_map.specs.Demands.{demand_of}
 use Rattle.noise_map.specs.Effects.{effect_of, point_after}
 use Rattle.noise_map.specs.Texts.{rows_of, text_of}
 use Rattle.noise_map.specs.Ways.{Way, looks_in}
 use Rattle.noise_map.specs.Histories.{IsWay, finish_entry}
-use Rattle.noise_map.specs.Taking.{joined, TakesFront}
+use Rattle.map_text.specs.Taking.{joined, TakesFront}
 use Rattle.noise_map.specs.inner.Steps.{past_of, HasMet, HasFollowed, HasFailed, is_refusal}
 use Rattle.noise_map.specs.Outcome.{Covers, Writes, TellsRefused}
 use Rattle.noise_map.specs.Making.{MakesRow, site_lines}

@@ -1,5 +1,5 @@
 -- What one line does at the board, as the run's own functions see it.
-use Rattle.std.specs.Prelude.{◌≡◌, ◌≤◌, ◌<◌, ◌⊎◌, ℕ, Bool, true, false, List, [], ◌∷◌, ◌++◌, length, map, flat_map, reverse, take, slice_get, All, IsSomeAnd, Result, Ok, Err}
+use Rattle.std.specs.Prelude.{◌≡◌, ◌≤◌, ◌<◌, ◌⊎◌, ℕ, Bool, true, false, List, [], ◌∷◌, ◌++◌, length, take, slice_get, All, IsSomeAnd, Result, Ok, Err}
 use Rattle.scene_book.specs.Applying.{apply_of, lacks_memory}
 use Rattle.scene_book.specs.declared.edits.Edit.{Edit}
 use Rattle.scene_book.specs.declared.edits.EditFault.{EditFault}
@@ -13,16 +13,13 @@ use Rattle.map_lock.specs.Settling.{HasNotFinished}
 use Rattle.noise_map.specs.declared.lines.answer.Answer.{Answer}
 use Rattle.noise_map.specs.declared.lines.answer.Answer.TheVariants.{Refused}
 use Rattle.noise_map.specs.declared.run.editor.Editor.{Editor}
-use Rattle.noise_map.specs.declared.lines.keeping.KeptVersion.{KeptVersion}
+use Rattle.scene_undo.specs.declared.versions.KeptVersion.{KeptVersion}
+use Rattle.scene_undo.specs.Versions.{kept_in}
 use Rattle.noise_map.specs.Demands.{Demand}
 use Rattle.noise_map.specs.Effects.{Display, silent, refused, Past, way_back, Effect, display_of_edit, effect_of_edits, effect_of, looks_asked, journal_with, journal_with_all, kept_with, kept_with_all, past_with}
 use Rattle.noise_map.specs.Texts.{answer_to}
-use Rattle.noise_map.specs.inner.Rows.{ShowsFew}
+use Rattle.noise_map.specs.inner.Answers.{ShowsFew}
 use Rattle.noise_map.specs.Ways.{edit_entry, edit_entries, lacking_edit, Does, Fails, looks_in}
-
--- the versions that an editor has kept, the newest first, and 0 behind them
-abbrev pub kept_in : List KeptVersion → List ℕ
-kept_in kept = reverse (map (λ (one : KeptVersion). one.version) kept) ++ 0 ∷ []
 
 -- what the lines so far have left to an editor
 abbrev pub past_of : Editor → Past
@@ -152,22 +149,6 @@ abbrev pub MeetsEditsUnlessMemory : {E : Type 0} → Editor → Result (List Edi
 MeetsEditsUnlessMemory before edits (Ok answer) after =
     HasMet before.seat (effect_of_edits edits) answer after.seat × HasFollowed before (effect_of_edits edits) after
 MeetsEditsUnlessMemory before edits (Err want) after = HasFailed before.seat (effect_of_edits edits) after.seat
-
--- ---- kept versions
-
--- no version is behind another one: none, or the last of these is not
-abbrev pub EndsUpTo : ℕ → List KeptVersion → Type 0
-EndsUpTo to kept =
-    (kept ≡ [])
-    ⊎ ((front : List KeptVersion) × (last : KeptVersion) × (kept ≡ front ++ last ∷ []) × (last.version ≤ to))
-
--- The versions after one were taken out, and these are the edits that undo theirs, the last version first.
-pub record IsCut (to : ℕ) (before after : List KeptVersion) (edits : List Edit) : Type 0 where
-  pub later : List KeptVersion
-  pub parts : before ≡ after ++ later
-  pub behind : All (λ one. to < one.version) later
-  pub ends : EndsUpTo to after
-  pub edits_are : edits ≡ flat_map (λ (one : KeptVersion). one.back) (reverse later)
 
 -- ---- answers
 

@@ -4,10 +4,10 @@ ghost use Rattle.scene_book.specs.Applying.{lacks_memory};
 ghost use Rattle.map_board.specs.Journal.{book_after};
 ghost use Rattle.noise_map.specs.inner.Steps.{Knows};
 
-use crate::lines::keeping::KeptVersion;
 use map_lock::EditorSeat;
 use scene_book::{Edit, EditFault, Scene};
 use scene_parts::NoMemory;
+use scene_undo::KeptVersion;
 use std::alloc::Global;
 
 /// The editor of a run.

@@ -1,4 +1,4 @@
-use Rattle.noise_map.proofs.Fronts.{front-as}
+use Rattle.map_text.proofs.Fronts.{front-as}
 use Rattle.std.proofs.Common.{inl, inr}
 use Rattle.std.proofs.KnownBytes.{Appends-nil}
 use Rattle.std.proofs.lemmas.Result.{err_from_is_err_and}

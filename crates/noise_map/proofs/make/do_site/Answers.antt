@@ -4,14 +4,15 @@ use Rattle.std.specs.Prelude.{Some}
 use Rattle.std.specs.Io.KnownBytes.{Appends}
 use Rattle.map_io.specs.Lines.{lines}
 use Rattle.map_io.specs.LineLaws.{lines-empty}
-use Rattle.noise_map.specs.declared.make.making.Making.{Making}
+use Rattle.map_text.specs.declared.making.Making.{Making}
 use Rattle.noise_map.specs.declared.run.status.Status.{Status}
 use Rattle.noise_map.specs.declared.run.status.Status.TheVariants as status
 use Rattle.noise_map.specs.Demands.{demand_of}
 use Rattle.noise_map.specs.Effects.{Past, effect_of}
 use Rattle.noise_map.specs.inner.Steps.{past_of}
 use Rattle.noise_map.specs.inner.FirstLine.{IsFirstLine}
-use Rattle.noise_map.specs.Making.{making_of, made_by, made_after, made_with, site_made, site_lines, site_row, row_of_making}
+use Rattle.map_text.specs.Making.{row_of_making}
+use Rattle.noise_map.specs.Making.{making_of, made_by, made_after, made_with, site_made, site_lines, site_row}
 use Rattle.noise_map.specs.inner.Adding.{made_with_answer}
 use Rattle.noise_map.specs.inner.Progress.{Did, HasEnded, SiteEnded}
 use Rattle.noise_map.proofs.Doing.{comes_to, did-more, failed-way}

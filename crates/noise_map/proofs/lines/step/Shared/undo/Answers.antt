@@ -1,8 +1,7 @@
 use Rattle.std.proofs.Common.{◌≡◌, true, false, List, sym, ap, ◌∙◌}
 use Rattle.std.proofs.lemmas.Result.{err_from_is_err_and}
-use Rattle.noise_map.specs.declared.lines.keeping.KeptVersion.{KeptVersion}
-use Rattle.noise_map.specs.Effects.{is_kept}
-use Rattle.noise_map.specs.inner.Steps.{kept_in}
+use Rattle.scene_undo.specs.declared.versions.KeptVersion.{KeptVersion}
+use Rattle.scene_undo.specs.Versions.{is_kept, kept_in}
 use Rattle.noise_map.proofs.Meeting.{never-tried}
 use Rattle.noise_map.proofs.KeptVersions.{was-cut}
 use Rattle.noise_map.proofs.EditLists.{undo-refused, undo-met, undo-failed}
