@@ -8,3 +8,5 @@ pub mod Routing
 pub mod Sound
 pub mod Shares
 pub mod SimpleMethod
+pub mod PlacesOn
+pub mod Windings

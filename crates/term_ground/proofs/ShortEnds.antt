@@ -1,5 +1,5 @@
 -- Quantities whose ends are kept in 64 bits are those of the table of enclosures.
-use Rattle.std.proofs.Common.{◌≡◌, ℕ, ◌+◌, ◌*◌, ◌/◌, ◌%◌, ◌<◌, ◌≤◌, ◌^◌, ℤ, pos, negsuc, neg_ℤ, ◌+ℤ◌, ◌-ℤ◌, ◌*ℤ◌, ◌≤ℤ◌, ◌<ℤ◌, to_z, of_z, refl, sym, ap, subst, arith}
+use Rattle.std.proofs.Common.{◌≡◌, ◌∙◌, ℕ, ◌+◌, ◌*◌, ◌/◌, ◌%◌, ◌<◌, ◌≤◌, ◌^◌, ℤ, pos, negsuc, neg_ℤ, ◌+ℤ◌, ◌-ℤ◌, ◌*ℤ◌, ◌≤ℤ◌, ◌<ℤ◌, to_z, of_z, refl, sym, ap, subst, arith}
 use Rattle.std.specs.Prelude.{Option, Some, None, unsigned_abs}
 use Rattle.std.specs.Int.{w64, w128, div_ceil, int_min, int_max}
 use Rattle.std.proofs.lemmas.Int.{ints, clamps}
@@ -8,8 +8,8 @@ use Rattle.std.proofs.lemmas.Nat.{div-add-mod'}
 use Rattle.fix_interval.specs.Interval.{Interval, IsInterval, IsEnd}
 use Rattle.fix_interval.specs.Units.{unit, unit-is}
 use Rattle.fix_interval.specs.Round.{floor_of, ceil_of, floor_quotient, ceil_quotient}
-use Rattle.fix_interval.specs.Values.{ratio_of, sum_of_ends, add_of, neg_of, mul_of, div_of, max_of, min_of, quotient_of_ends}
-use Rattle.fix_interval.proofs.Dividing.{least_by_positive, least_by_positive_negative, greatest_by_positive, greatest_by_positive_negative, units-not_negative, units-negative, quotient_of_ends-positive, IsInterval-quotient_by_positive}
+use Rattle.fix_interval.specs.Values.{ratio_of, sum_of_ends, add_of, neg_of, sub_of, mul_of, div_of, max_of, min_of, quotient_of_ends}
+use Rattle.fix_interval.proofs.Dividing.{least_by_positive, least_by_positive_negative, greatest_by_positive, greatest_by_positive_negative, units-not_negative, units-negative, quotient_of_ends-positive, quotient_of_ends-negative, IsInterval-quotient_by_positive}
 use Rattle.fix_interval.proofs.Multiplying.{end_of-small}
 use Rattle.fix_interval.proofs.Ratios.{passed, ratio_of-small, unsigned_abs-units}
 use Rattle.fix_interval.proofs.WholeFactors.{within-64}
@@ -54,6 +54,72 @@ beyond-passed p e s r h k l is =
 
 pub end-passed : (z e : ℤ) → unsigned_abs z < 2 ^ 63 → e ≡ to_z w64 (of_z w64 z) → to_z w128 (of_z w128 e) ≡ z
 end-passed z e h is = rw (is, within-64 z h, passed z (omega (arith, h)))
+
+-- ---- sums
+
+sum-short : (al ah bl bh : ℤ) → unsigned_abs al < 2 ^ 62 → unsigned_abs ah < 2 ^ 62 → unsigned_abs bl < 2 ^ 62 → unsigned_abs bh < 2 ^ 62
+    → record { lo = Some (al +ℤ bl); hi = Some (ah +ℤ bh) } ≡ add_of (record { lo = Some al; hi = Some ah }) (record { lo = Some bl; hi = Some bh })
+unfolding add_of
+sum-short al ah bl bh h k l m =
+    rw (end_of-small (al +ℤ bl) (omega (arith, ints, h, l)), end_of-small (ah +ℤ bh) (omega (arith, ints, k, m))) refl
+
+rest-short : (al ah bl bh : ℤ) → unsigned_abs al < 2 ^ 62 → unsigned_abs ah < 2 ^ 62 → unsigned_abs bl < 2 ^ 62 → unsigned_abs bh < 2 ^ 62
+    → record { lo = Some (al -ℤ bh); hi = Some (ah -ℤ bl) } ≡ sub_of (record { lo = Some al; hi = Some ah }) (record { lo = Some bl; hi = Some bh })
+unfolding add_of neg_of
+rest-short al ah bl bh h k l m =
+    let low : al -ℤ bh ≡ al +ℤ neg_ℤ bh = omega (arith, ints) in
+    let high : ah -ℤ bl ≡ ah +ℤ neg_ℤ bl = omega (arith, ints) in
+    rw (
+      low,
+      high,
+      end_of-small (al +ℤ neg_ℤ bh) (omega (arith, ints, h, m)),
+      end_of-small (ah +ℤ neg_ℤ bl) (omega (arith, ints, k, l)),
+    )
+    refl
+
+-- as the code passes the ends
+pub sum-passed : (al ah bl bh : ℤ) → unsigned_abs al < 2 ^ 62 → unsigned_abs ah < 2 ^ 62 → unsigned_abs bl < 2 ^ 62 → unsigned_abs bh < 2 ^ 62
+    → record {
+      lo = Some (to_z w64 (of_z w64 (to_z w64 (of_z w64 al) +ℤ to_z w64 (of_z w64 bl))));
+      hi = Some (to_z w64 (of_z w64 (to_z w64 (of_z w64 ah) +ℤ to_z w64 (of_z w64 bh))));
+    } ≡ add_of (record { lo = Some al; hi = Some ah }) (record { lo = Some bl; hi = Some bh })
+sum-passed al ah bl bh h k l m =
+    rw (
+      within-64 al (omega (arith, h)),
+      within-64 ah (omega (arith, k)),
+      within-64 bl (omega (arith, l)),
+      within-64 bh (omega (arith, m)),
+      within-64 (al +ℤ bl) (omega (arith, ints, h, l)),
+      within-64 (ah +ℤ bh) (omega (arith, ints, k, m)),
+    )
+    (sum-short al ah bl bh h k l m)
+
+pub rest-passed : (al ah bl bh : ℤ) → unsigned_abs al < 2 ^ 62 → unsigned_abs ah < 2 ^ 62 → unsigned_abs bl < 2 ^ 62 → unsigned_abs bh < 2 ^ 62
+    → record {
+      lo = Some (to_z w64 (of_z w64 (to_z w64 (of_z w64 al) -ℤ to_z w64 (of_z w64 bh))));
+      hi = Some (to_z w64 (of_z w64 (to_z w64 (of_z w64 ah) -ℤ to_z w64 (of_z w64 bl))));
+    } ≡ sub_of (record { lo = Some al; hi = Some ah }) (record { lo = Some bl; hi = Some bh })
+rest-passed al ah bl bh h k l m =
+    rw (
+      within-64 al (omega (arith, h)),
+      within-64 ah (omega (arith, k)),
+      within-64 bl (omega (arith, l)),
+      within-64 bh (omega (arith, m)),
+      within-64 (al -ℤ bh) (omega (arith, ints, h, m)),
+      within-64 (ah -ℤ bl) (omega (arith, ints, k, l)),
+    )
+    (rest-short al ah bl bh h k l m)
+
+-- ---- parts
+
+pub part-within : (p e s r : ℤ) → e ≤ℤ pos (2 ^ 32) → pos 0 ≤ℤ s → r ≡ int_max (pos 0) (int_min p e +ℤ neg_ℤ s) → (pos 0 ≤ℤ r) × (r ≤ℤ pos (2 ^ 32))
+part-within p e s r h k is = (omega (arith, ints, clamps, is, h, k), omega (arith, ints, clamps, is, h, k))
+
+pub within-short : (r : ℤ) → (pos 0 ≤ℤ r) × (r ≤ℤ pos (2 ^ 32)) → unsigned_abs r < 2 ^ 62
+within-short r (h, k) = omega (arith, ints, h, k)
+
+pub within-passed : (r : ℤ) → (pos 0 ≤ℤ r) × (r ≤ℤ pos (2 ^ 32)) → to_z w64 (of_z w64 r) ≡ r
+within-passed r (h, k) = within-64 r (omega (arith, ints, h, k))
 
 -- ---- quotients
 
@@ -182,10 +248,21 @@ nothing-over wl wh p o =
     )
     refl
 
-pub nothing-found : (dl dh wl wh : ℤ) → pos 0 <ℤ wl → wl ≤ℤ wh
-    → div_of (mul_of (record { lo = Some dl; hi = Some dh }) no_length) (record { lo = Some wl; hi = Some wh }) ≡ no_length
-unfolding mul_of div_of unit
-nothing-found dl dh wl wh p o = rw (no-product dl, no-product dh) (nothing-over wl wh p o)
+nothing-under : (wl wh : ℤ) → wh <ℤ pos 0 → wl ≤ℤ wh → quotient_of_ends (pos 0) (pos 0) wl wh ≡ no_length
+nothing-under wl wh n o =
+    quotient_of_ends-negative (pos 0) (pos 0) wl wh n o (omega arith) (omega arith)
+    ∙ nothing-over (neg_ℤ wh) (neg_ℤ wl) (omega (arith, ints, n)) (omega (arith, ints, o))
+
+module _ (dl dh wl wh : ℤ) where
+  pub nothing-above : pos 0 <ℤ wl → wl ≤ℤ wh
+      → div_of (mul_of (record { lo = Some dl; hi = Some dh }) no_length) (record { lo = Some wl; hi = Some wh }) ≡ no_length
+  unfolding mul_of div_of unit
+  nothing-above p o = rw (no-product dl, no-product dh) (nothing-over wl wh p o)
+
+  pub nothing-below : wh <ℤ pos 0 → wl ≤ℤ wh
+      → div_of (mul_of (record { lo = Some dl; hi = Some dh }) no_length) (record { lo = Some wl; hi = Some wh }) ≡ no_length
+  unfolding mul_of div_of unit
+  nothing-below n o = rw (no-product dl, no-product dh) (nothing-under wl wh n o)
 
 pub sum-kept : (i : Interval) → IsInterval i → add_of i no_length ≡ i
 unfolding add_of

@@ -24,7 +24,7 @@ use Rattle.path_shape.specs.Outlines.{place_form, before, signed, counted, lengt
 use Rattle.path_shape.specs.Stretches.{part_of}
 use Rattle.term_ground.specs.Zones.{met_zones}
 use Rattle.path_shape.specs.inner.Stretches.{walked}
-use Rattle.term_ground.specs.inner.Walks.{of_stretches, lengths_along, nothing, advanced, known_term, summed}
+use Rattle.term_ground.specs.inner.Walks.{of_stretches, lengths_along, nothing, advanced, known_term, with_term_of, summed}
 
 advanced-step : (first rest all : Interval → Stretch → Interval) → ((quantity : Interval) (stretch : Stretch) → all quantity stretch ≡ rest (first quantity stretch) stretch)
     → (quantities : Regional) (stretches : Stretches) → advanced all quantities stretches ≡ advanced rest (advanced first quantities stretches) stretches
@@ -36,14 +36,32 @@ drop-step {X = X} x xs i e h = rw (drop-cons xs i x, add-one) (ap (λ (y : X). y
 
 -- ---- passages
 
+pub passage-next : (passage : Passage) (passages : List Passage) (lengths : Regional) (stretches : Stretches)
+    → advanced (walked (passage ∷ passages)) lengths stretches ≡ advanced (walked passages) (advanced (walked (passage ∷ [])) lengths stretches) stretches
+passage-next passage passages lengths stretches =
+    advanced-step (walked (passage ∷ [])) (walked passages) (walked (passage ∷ passages))
+    (λ length stretch. plus_all-known (Add (Known length) (counted (Known stretch.from) (Known stretch.to) passage)) (map (counted (Known stretch.from) (Known stretch.to)) passages)) lengths stretches
+
 -- passages that are counted one after another
 fold-advanced : (passages : List Passage) (lengths : Regional) (stretches : Stretches)
     → fold (λ l passage. advanced (walked (passage ∷ [])) l stretches) lengths passages ≡ advanced (walked passages) lengths stretches
 fold-advanced [] lengths stretches = refl
 fold-advanced (passage ∷ passages) lengths stretches =
     fold-advanced passages (advanced (walked (passage ∷ [])) lengths stretches) stretches
-    ∙ sym (advanced-step (walked (passage ∷ [])) (walked passages) (walked (passage ∷ passages))
-    (λ length stretch. plus_all-known (Add (Known length) (counted (Known stretch.from) (Known stretch.to) passage)) (map (counted (Known stretch.from) (Known stretch.to)) passages)) lengths stretches)
+    ∙ sym (passage-next passage passages lengths stretches)
+
+-- the lengths by those of all passages
+module _ (lengths : Regional) (stretches : Stretches) (outline : List Pt) (from : Pt) (dir : Dir)
+    (walks : lengths ≡ advanced (walked (passages_of (ring outline) from dir)) nothing stretches) where
+  pub walked-turned : int_lt (area2_of outline) (pos 0) ≡ true
+      → record { source = neg_of lengths.source; middle = neg_of lengths.middle; receiver = neg_of lengths.receiver } ≡ lengths_along outline from dir stretches
+  walked-turned h =
+      ap (λ (l : Regional). record { source = neg_of l.source; middle = neg_of l.middle; receiver = neg_of l.receiver }) walks
+      ∙ rw (← inside-turned outline from dir stretches.source h, ← inside-turned outline from dir stretches.middle h, ← inside-turned outline from dir stretches.receiver h) refl
+
+  pub walked-straight : int_lt (area2_of outline) (pos 0) ≡ false → lengths ≡ lengths_along outline from dir stretches
+  walked-straight h =
+      walks ∙ rw (← inside-straight outline from dir stretches.source h, ← inside-straight outline from dir stretches.middle h, ← inside-straight outline from dir stretches.receiver h) refl
 
 -- a fold of which each step counts a passage
 module _ (R : Regional → Passage → Regional → Type 0) (stretches : Stretches) (outline : List Pt) (from : Pt) (dir : Dir) (start lengths : Regional)
@@ -57,13 +75,10 @@ module _ (R : Regional → Passage → Regional → Type 0) (stretches : Stretch
 
   pub lengths-turned : int_lt (area2_of outline) (pos 0) ≡ true
       → record { source = neg_of lengths.source; middle = neg_of lengths.middle; receiver = neg_of lengths.receiver } ≡ lengths_along outline from dir stretches
-  lengths-turned h =
-      ap (λ (l : Regional). record { source = neg_of l.source; middle = neg_of l.middle; receiver = neg_of l.receiver }) walks
-      ∙ rw (← inside-turned outline from dir stretches.source h, ← inside-turned outline from dir stretches.middle h, ← inside-turned outline from dir stretches.receiver h) refl
+  lengths-turned = walked-turned lengths stretches outline from dir walks
 
   pub lengths-straight : int_lt (area2_of outline) (pos 0) ≡ false → lengths ≡ lengths_along outline from dir stretches
-  lengths-straight h =
-      walks ∙ rw (← inside-straight outline from dir stretches.source h, ← inside-straight outline from dir stretches.middle h, ← inside-straight outline from dir stretches.receiver h) refl
+  lengths-straight = walked-straight lengths stretches outline from dir walks
 
 -- a passage whose place is known
 part-known : (at : Interval) (passage : Passage) (length : Interval) (stretch : Stretch) → enc (place_form passage.place) ≡ at
@@ -94,17 +109,13 @@ zone-unmet : (zone : Zone) (outside : Interval) (path : Path) (dir : Dir) (sum :
     → path.legs ≡ One dir → meets_of zone.points path.s dir whole ≡ false → summed (zone ∷ []) outside path sum stretch ≡ sum
 zone-unmet zone outside path dir sum stretch e unmet = rw (e, unmet) refl
 
--- a sum with the term of a zone
-abbrev pub with_term_of : Interval → Interval → Interval → Stretch → Interval
-with_term_of sum difference length stretch = add_of sum (div_of (mul_of difference length) (sub_of stretch.to stretch.from))
-
 pub zones-met : (zone : Zone) (outside : Interval) (path : Path) (dir : Dir) (sums : Regional) (stretches : Stretches) (difference : Interval) (lengths : Regional)
     → path.legs ≡ One dir → meets_of zone.points path.s dir whole ≡ true → difference ≡ sub_of (enc (factor zone.g)) outside
     → lengths ≡ of_stretches (λ stretch. enc (length_inside zone.points path.s dir (Known stretch.from) (Known stretch.to))) stretches
     → record {
-      source = with_term_of sums.source difference lengths.source stretches.source;
-      middle = with_term_of sums.middle difference lengths.middle stretches.middle;
-      receiver = with_term_of sums.receiver difference lengths.receiver stretches.receiver;
+      source = with_term_of sums.source difference lengths.source (sub_of stretches.source.to stretches.source.from);
+      middle = with_term_of sums.middle difference lengths.middle (sub_of stretches.middle.to stretches.middle.from);
+      receiver = with_term_of sums.receiver difference lengths.receiver (sub_of stretches.receiver.to stretches.receiver.from);
     } ≡ advanced (summed (zone ∷ []) outside path) sums stretches
 zones-met zone outside path dir sums stretches difference lengths e met d l =
     rw (l, d, zone-met zone outside path dir sums.source stretches.source e met, zone-met zone outside path dir sums.middle stretches.middle e met, zone-met zone outside path dir sums.receiver stretches.receiver e met) refl

@@ -4,6 +4,7 @@ use Rattle.std.specs.Prelude.{◌≡◌, List, map, Option, None, Some, IsSomeAn
 use Rattle.std.specs.Bool.{then_some}
 use Rattle.fix_interval.specs.Interval.{Interval}
 use Rattle.fix_interval.specs.Tree.{Tree, Known, Add, Sub, Mul, Div, enc}
+use Rattle.fix_interval.specs.Values.{add_of, mul_of, div_of}
 use Rattle.scene_geom.specs.declared.plan.Pt.{Pt}
 use Rattle.scene_geom.specs.declared.directions.direction.Dir.{Dir}
 use Rattle.scene_geom.specs.declared.fractions.fraction.Frac.{Frac}
@@ -138,6 +139,10 @@ known_term outside path stretch zone =
     (Sub (factor zone.g) (Known outside))
     (length_on_legs path.legs path.s path.r zone.points (Known stretch.from) (Known stretch.to)))
     (Sub (Known stretch.to) (Known stretch.from))
+
+-- a sum with the difference that a zone makes over a length, as a part of the width of a stretch
+abbrev pub with_term_of : Interval → Interval → Interval → Interval → Interval
+with_term_of sum difference length width = add_of sum (div_of (mul_of difference length) width)
 
 -- a sum with the terms of zones
 abbrev pub summed : List Zone → Interval → Path → Interval → Stretch → Interval

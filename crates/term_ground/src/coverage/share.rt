@@ -1,7 +1,7 @@
 //! The ground factors of the regions of a path.
 
-ghost use Rattle.std.specs.Prelude.{◌≡◌, [], ◌∷◌};
-ghost use Rattle.fix_interval.specs.Tree.{Known, Pick, Max, Min, Add, Mul, Div, enc};
+ghost use Rattle.std.specs.Prelude.{◌≡◌, [], ◌∷◌, IfSome};
+ghost use Rattle.fix_interval.specs.Tree.{Known, Pick, Max, Min, enc};
 ghost use Rattle.path_shape.specs.Shape.{IsPath};
 ghost use Rattle.path_shape.specs.declared.path.Path.{Path};
 ghost use Rattle.path_shape.specs.Forms.{zero_form, one_form};
@@ -9,17 +9,22 @@ ghost use Rattle.term_ground.specs.Lengths as form;
 ghost use Rattle.term_ground.specs.Regions.{share_of, known_share};
 ghost use Rattle.term_ground.specs.Regions as regions;
 ghost use Rattle.term_ground.specs.declared.legs.region.Region.TheVariants.{Source, Middle, Receiver};
-ghost use Rattle.term_ground.specs.inner.Walks.{IsRoute, with_zones, same};
+ghost use Rattle.term_ground.specs.inner.Extents.{by_ends};
+ghost use Rattle.term_ground.specs.inner.Lines.{IsLine};
+ghost use Rattle.term_ground.specs.inner.Walks.{IsRoute, with_zones, with_term_of, same};
 ghost use Rattle.term_ground.specs.inner.Widths as wide;
 
 use crate::coverage::covering::lengths_on;
 use crate::coverage::lengths::factor;
-use crate::extents::quotients::{is_nothing, is_short_part, kept, over_width};
+use crate::coverage::line::Line;
+use crate::coverage::walk::walk;
+use crate::extents::extent::Extent;
+use crate::extents::quotients::{divides, is_nothing, kept, over_width};
 use crate::legs::leg::Route;
 use crate::legs::region::Region;
 use crate::legs::route::route_of;
 use crate::legs::stretch::{Regional, middle_from, widths_of};
-use fix_interval::{Iv, add, exact, less, max, min, mul, pick, sub};
+use fix_interval::{Iv, add, div, exact, less, max, min, mul, pick, sub};
 use path_shape::Path;
 use scene_parts::Zone;
 
@@ -81,17 +86,91 @@ fn sums(zones: &[Zone], outside: Iv, path: &Path) -> Regional
     requires { IsPath path.now }
     ensures { result ≡ with_zones zones.now outside path.now (same outside) }
 {
+    match Line::of(path) {
+        Some(line) => sums_along(zones, outside, path, &line),
+        None => sums_by_legs(zones, outside, path),
+    }
+}
+
+/// The same on a direct path whose regions 64 bits hold.
+fn sums_along(zones: &[Zone], outside: Iv, path: &Path, line: &Line) -> Regional
+    requires path { IsPath path.now }
+    requires line { IsLine line.now path.now }
+    ensures { result ≡ with_zones zones.now outside path.now (same outside) }
+{
     let mut total = alike(outside);
-    let route = route_of(path);
-    let widths = widths_of(&route.stretches);
     for zone in zones {
-        total = with_zone(total, zone, outside, &route, &widths);
+        total = with_zone(total, zone, outside, path, line);
     }
     total
 }
 
 /// The sums with what a zone adds to them, which is nothing where it doesn't meet the path.
-fn with_zone(
+#[inline(always)]
+fn with_zone(total: Regional, zone: &Zone, outside: Iv, path: &Path, line: &Line) -> Regional
+    requires path { IsPath path.now }
+    requires line { IsLine line.now path.now }
+    ensures { result ≡ with_zones (zone.now ∷ []) outside path.now total }
+{
+    match with_zone_along(&total, zone, outside, line) {
+        Some(sums) => sums,
+        None => with_any_zone(total, zone, outside, path),
+    }
+}
+
+/// The same. None where 64 bits don't hold it.
+#[inline(always)]
+fn with_zone_along(total: &Regional, zone: &Zone, outside: Iv, line: &Line) -> Option<Regional>
+    ensures { IfSome result (λ sums. (path : Path) → IsLine line.now path
+        → sums ≡ with_zones (zone.now ∷ []) outside path total.now) }
+{
+    let outline = zone.points.items();
+    let crossed = walk(outline, line)?;
+    if !crossed.is_met() {
+        return Some(*total);
+    }
+    let difference = Extent::of(sub(factor(zone.g), outside))?;
+    let lengths = crossed.held(outline);
+    let widths = line.widths;
+    Some(Regional {
+        source: with_term(total.source, difference, lengths.source, widths.source),
+        middle: with_term(total.middle, difference, lengths.middle, widths.middle),
+        receiver: with_term(
+            total.receiver,
+            difference,
+            lengths.receiver,
+            widths.receiver,
+        ),
+    })
+}
+
+/// The same, whatever 64 bits hold.
+#[cold]
+#[inline(never)]
+fn with_any_zone(total: Regional, zone: &Zone, outside: Iv, path: &Path) -> Regional
+    requires { IsPath path.now }
+    ensures { result ≡ with_zones (zone.now ∷ []) outside path.now total }
+{
+    let route = route_of(path);
+    with_zone_by_legs(total, zone, outside, &route, &widths_of(&route.stretches))
+}
+
+/// The sums by the legs of any path.
+fn sums_by_legs(zones: &[Zone], outside: Iv, path: &Path) -> Regional
+    requires { IsPath path.now }
+    ensures { result ≡ with_zones zones.now outside path.now (same outside) }
+{
+    let mut total = alike(outside);
+    let route = route_of(path);
+    let widths = widths_of(&route.stretches);
+    for zone in zones {
+        total = with_zone_by_legs(total, zone, outside, &route, &widths);
+    }
+    total
+}
+
+/// The sums with what a zone adds to them by the legs of a path.
+fn with_zone_by_legs(
     total: Regional,
     zone: &Zone,
     outside: Iv,
@@ -107,9 +186,9 @@ fn with_zone(
     };
     let difference = sub(factor(zone.g), outside);
     Regional {
-        source: with_term(total.source, difference, lengths.source, widths.source),
-        middle: with_term(total.middle, difference, lengths.middle, widths.middle),
-        receiver: with_term(
+        source: with_any_term(total.source, difference, lengths.source, widths.source),
+        middle: with_any_term(total.middle, difference, lengths.middle, widths.middle),
+        receiver: with_any_term(
             total.receiver,
             difference,
             lengths.receiver,
@@ -119,11 +198,31 @@ fn with_zone(
 }
 
 /// A sum with the term of a zone: the difference that it makes over a length, as a part of the width of the stretch.
-fn with_term(sum: Iv, difference: Iv, length: Iv, width: Iv) -> Iv
-    ensures { result ≡ enc (Add (Known sum) (Div (Mul (Known difference) (Known length)) (Known width))) }
+fn with_any_term(sum: Iv, difference: Iv, length: Iv, width: Iv) -> Iv
+    ensures { result ≡ with_term_of sum difference length width }
 {
-    if is_nothing(length) && is_short_part(difference, width) {
+    match (
+        Extent::of(difference),
+        Extent::of(length),
+        Extent::of(width),
+    ) {
+        (Some(difference), Some(length), Some(width)) => {
+            with_term(sum, difference, length, width)
+        }
+        _ => add(sum, div(mul(difference, length), width)),
+    }
+}
+
+/// The same in 64 bits.
+#[inline(always)]
+fn with_term(sum: Iv, difference: Extent, length: Extent, width: Extent) -> Iv
+    ensures { result ≡ with_term_of sum (by_ends difference) (by_ends length) (by_ends width) }
+{
+    if is_nothing(length) && divides(width) {
         return kept(sum);
     }
-    add(sum, over_width(mul(difference, length), width))
+    add(
+        sum,
+        over_width(mul(difference.interval(), length.interval()), width),
+    )
 }

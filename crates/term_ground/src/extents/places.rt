@@ -1,15 +1,19 @@
 //! Places on a path in 64 bits.
 
-ghost use Rattle.std.specs.Prelude.{◌≡◌, ◌<◌, ◌≤◌, ◌*◌, ◌/◌, ◌^◌, IfSome, pos};
+ghost use Rattle.std.specs.Prelude.{◌≡◌, ◌<◌, ◌≤◌, ◌≤ℤ◌, ◌*◌, ◌/◌, ◌^◌, IfSome, pos, unsigned_abs};
 ghost use Rattle.std.specs.Int.{div_ceil};
 ghost use Rattle.fix_interval.specs.Tree.{enc};
 ghost use Rattle.fix_interval.specs.Values.{ratio_of};
 ghost use Rattle.path_shape.specs.Outlines.{place_form};
-ghost use Rattle.term_ground.specs.inner.Extents.{by_ends};
+ghost use Rattle.term_ground.specs.inner.Extents.{by_ends, IsPlaceOn};
 
+use crate::extents::ONE;
 use crate::extents::extent::Extent;
 use path_shape::place;
 use scene_geom::Frac;
+
+/// Numerators stay below this absolute value.
+const NUMERATOR_LIMIT: i128 = 1 << 62;
 
 /// A divisor below this number times 2^16 fits 64 bits.
 const DIVISOR_LIMIT: i128 = 1 << 48;
@@ -35,12 +39,44 @@ fn any_place(at: Frac) -> Option<Extent>
     Extent::of(place(at))
 }
 
+/// A place as it counts on a path: as its start where it lies before it, and as its end where it lies behind it. None
+/// where it is too long for 64 bits.
+#[inline(always)]
+pub(crate) fn place_on(at: Frac) -> Option<Extent>
+    ensures { IfSome result (λ place. IsPlaceOn place (enc (place_form at))) }
+{
+    if -NUMERATOR_LIMIT < at.n && at.n < NUMERATOR_LIMIT && at.d < DIVISOR_LIMIT {
+        Some(short_place(at.n as i64, at.d as u64))
+    } else {
+        None
+    }
+}
+
+/// The same of a short fraction, without a division where it lies beyond the path.
+#[inline(always)]
+fn short_place(n: i64, d: u64) -> Extent
+    requires numerator { unsigned_abs n < 2 ^ 62 }
+    requires positive { 0 < d }
+    requires divisor { d < 2 ^ 48 }
+    ensures { IsPlaceOn result (ratio_of n d) }
+{
+    if n <= 0 {
+        return Extent { lo: 0, hi: 0 };
+    }
+    if d <= n.unsigned_abs() {
+        return Extent { lo: ONE, hi: ONE };
+    }
+    inner_place(n.unsigned_abs(), d)
+}
+
 /// A place between both ends of the path.
 #[inline(always)]
 fn inner_place(n: u64, d: u64) -> Extent
     requires before { n < d }
     requires short { d < 2 ^ 48 }
-    ensures { by_ends result ≡ ratio_of (pos n) d }
+    ensures value { by_ends result ≡ ratio_of (pos n) d }
+    ensures low { pos 0 ≤ℤ result.lo }
+    ensures high { result.hi ≤ℤ pos (2 ^ 32) }
 {
     let (lo, hi) = in_units(n, d);
     Extent {

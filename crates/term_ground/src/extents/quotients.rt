@@ -15,21 +15,19 @@ const DIVIDEND_LIMIT: u64 = 1 << 32;
 
 /// Whether a length is exactly 0, as that of a zone which lies before a region is.
 #[inline(always)]
-pub(crate) fn is_nothing(length: Iv) -> bool
-    ensures { result ≡ true → length ≡ no_length }
+pub(crate) fn is_nothing(length: Extent) -> bool
+    ensures { result ≡ true → by_ends length ≡ no_length }
 {
-    length.lo() == 0 && length.hi() == 0
+    length.lo == 0 && length.hi == 0
 }
 
-/// Whether a difference and a width are short and the width is above 0, so that no length makes no term of them.
+/// Whether a width isn't 0, so that no length makes no term over it.
 #[inline(always)]
-pub(crate) fn is_short_part(difference: Iv, width: Iv) -> bool
-    ensures { result ≡ true → div_of (mul_of difference no_length) width ≡ no_length }
+pub(crate) fn divides(width: Extent) -> bool
+    ensures { result ≡ true → (difference : Extent)
+        → div_of (mul_of (by_ends difference) no_length) (by_ends width) ≡ no_length }
 {
-    match (Extent::of(difference), Extent::of(width)) {
-        (Some(_), Some(by)) => 0 < by.lo,
-        _ => false,
-    }
+    0 < width.lo || width.hi < 0
 }
 
 /// A sum to which no length adds anything.
@@ -43,12 +41,12 @@ pub(crate) fn kept(sum: Iv) -> Iv
 /// The quotient of two quantities, as `div` gives it. Where the first lies between -1 and 1 and the second is above 0, as
 /// the width of a stretch is, it is one short division an end.
 #[inline(always)]
-pub(crate) fn over_width(x: Iv, width: Iv) -> Iv
-    ensures { result ≡ div_of x width }
+pub(crate) fn over_width(x: Iv, width: Extent) -> Iv
+    ensures { result ≡ div_of x (by_ends width) }
 {
-    match (Extent::of(x), Extent::of(width)) {
-        (Some(part), Some(by)) if 0 < by.lo && is_dividend(part) => short_quotient(part, by),
-        _ => any_quotient(x, width),
+    match Extent::of(x) {
+        Some(part) if 0 < width.lo && is_dividend(part) => short_quotient(part, width),
+        _ => any_quotient(x, width.interval()),
     }
 }
 

@@ -1,6 +1,6 @@
 use Rattle.std.proofs.Common.{◌≡◌, drop}
 use Rattle.term_ground.specs.inner.Walks.{advanced, summed, same, stretches_of}
-use Rattle.term_ground.proofs.coverage.share.sums.Given as goal
+use Rattle.term_ground.proofs.coverage.share.sums_by_legs.Given as goal
 
 abbrev pub invariant-loop-zone : goal.invariant-loop-zone
 invariant-loop-zone l =
