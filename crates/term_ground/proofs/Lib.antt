@@ -10,3 +10,4 @@ pub mod Shares
 pub mod SimpleMethod
 pub mod PlacesOn
 pub mod Windings
+pub mod Lengths

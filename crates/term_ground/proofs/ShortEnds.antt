@@ -131,7 +131,7 @@ pub greatest-passed : (u bl bh r : ℤ) → unsigned_abs u < 2 ^ 32 → r ≡ in
     → r ≡ int_max (ceil_quotient (u *ℤ pos unit) bl) (ceil_quotient (u *ℤ pos unit) bh)
 greatest-passed u bl bh r h is = rw (within-64 u (omega (arith, h))) at is
 
-floor-positive : (x : ℤ) (d : ℕ) → pos 0 ≤ℤ x → floor_of x d ≡ pos (unsigned_abs x / d)
+pub floor-positive : (x : ℤ) (d : ℕ) → pos 0 ≤ℤ x → floor_of x d ≡ pos (unsigned_abs x / d)
 floor-positive (pos a) d h = refl
 floor-positive (negsuc a) d h = absurd (omega (arith, ints))
 
@@ -264,6 +264,9 @@ module _ (dl dh wl wh : ℤ) where
   unfolding mul_of div_of unit
   nothing-below n o = rw (no-product dl, no-product dh) (nothing-under wl wh n o)
 
+pub ends-interval : (lo hi : ℤ) → unsigned_abs lo < 2 ^ 62 → unsigned_abs hi < 2 ^ 62 → lo ≤ℤ hi → IsInterval (record { lo = Some lo; hi = Some hi })
+ends-interval lo hi h k o = record { low_end = omega (arith, h); high_end = omega (arith, k); ordered = o }
+
 pub sum-kept : (i : Interval) → IsInterval i → add_of i no_length ≡ i
 unfolding add_of
 sum-kept i is = both i.lo i.hi is.low_end is.high_end where
@@ -306,6 +309,9 @@ module _ (n d : ℕ) (positive : 0 < d) where
 
   pub place-up : 0 < second % d → div_ceil (n * 2 ^ 32) d ≡ first / d * 65536 + second / d + 1
   place-up h = omega (arith, place-rest, place-down, h)
+
+  pub place-up-any : first / d * 65536 + div_ceil second d ≡ div_ceil (n * 2 ^ 32) d
+  place-up-any = omega (arith, place-rest, place-down, positive)
 
 place-found : (n d down up : ℕ) → n < d → d < 2 ^ 48 → down ≡ n * 2 ^ 32 / d → up ≡ div_ceil (n * 2 ^ 32) d
     → record { lo = Some (pos down); hi = Some (pos up) } ≡ ratio_of (pos n) d

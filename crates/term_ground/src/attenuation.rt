@@ -15,8 +15,9 @@ ghost use Rattle.term_ground.specs.Ground as form;
 use crate::amounts::amount::Amount;
 use crate::coverage::share::shares;
 use crate::decays::{Decays, Growths, decays_at, growths_over};
+use crate::extents::quotients::over_length;
 use crate::legs::stretch::{Regional, middle_from};
-use fix_interval::{Iv, Truth, add, div, exact, less, mul, pick, sub};
+use fix_interval::{Iv, Truth, add, exact, less, mul, pick, sub};
 use path_shape::Path;
 use scene_parts::Zone;
 
@@ -199,7 +200,7 @@ fn middle_part(path: &Path) -> Iv
     let from = middle_from(path);
     match less(from, path.dp) {
         Truth::Never => exact(0),
-        longer => pick(longer, sub(exact(1), div(from, path.dp)), exact(0)),
+        longer => pick(longer, sub(exact(1), over_length(from, path.dp)), exact(0)),
     }
 }
 

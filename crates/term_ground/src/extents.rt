@@ -66,7 +66,7 @@ impl Extent {
 
     /// The sum. None where an end is too long.
     #[inline(always)]
-    fn plus(self, other: Extent) -> Option<Extent>
+    pub(crate) fn plus(self, other: Extent) -> Option<Extent>
         ensures { IfSome result (λ sum. by_ends sum ≡ add_of (by_ends self) (by_ends other)) }
     {
         Extent::between(self.lo + other.lo, self.hi + other.hi)
@@ -123,6 +123,17 @@ impl Extents {
                 receiver,
             }),
             _ => None,
+        }
+    }
+
+    /// As intervals.
+    pub(crate) fn intervals(self) -> Regional
+        ensures { result ≡ regional_of self }
+    {
+        Regional {
+            source: self.source.interval(),
+            middle: self.middle.interval(),
+            receiver: self.receiver.interval(),
         }
     }
 }

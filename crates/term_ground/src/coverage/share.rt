@@ -2,6 +2,7 @@
 
 ghost use Rattle.std.specs.Prelude.{◌≡◌, [], ◌∷◌, IfSome};
 ghost use Rattle.fix_interval.specs.Tree.{Known, Pick, Max, Min, enc};
+ghost use Rattle.fix_interval.specs.Values.{sub_of};
 ghost use Rattle.path_shape.specs.Shape.{IsPath};
 ghost use Rattle.path_shape.specs.declared.path.Path.{Path};
 ghost use Rattle.path_shape.specs.Forms.{zero_form, one_form};
@@ -9,7 +10,7 @@ ghost use Rattle.term_ground.specs.Lengths as form;
 ghost use Rattle.term_ground.specs.Regions.{share_of, known_share};
 ghost use Rattle.term_ground.specs.Regions as regions;
 ghost use Rattle.term_ground.specs.declared.legs.region.Region.TheVariants.{Source, Middle, Receiver};
-ghost use Rattle.term_ground.specs.inner.Extents.{by_ends};
+ghost use Rattle.term_ground.specs.inner.Extents.{by_ends, regional_of};
 ghost use Rattle.term_ground.specs.inner.Lines.{IsLine};
 ghost use Rattle.term_ground.specs.inner.Walks.{IsRoute, with_zones, with_term_of, same};
 ghost use Rattle.term_ground.specs.inner.Widths as wide;
@@ -17,9 +18,9 @@ ghost use Rattle.term_ground.specs.inner.Widths as wide;
 use crate::coverage::covering::lengths_on;
 use crate::coverage::lengths::factor;
 use crate::coverage::line::Line;
-use crate::coverage::walk::walk;
-use crate::extents::extent::Extent;
-use crate::extents::quotients::{divides, is_nothing, kept, over_width};
+use crate::coverage::walk::{lies_beside, walk};
+use crate::extents::extent::{Extent, Extents};
+use crate::extents::quotients::{divides, is_nothing, over_width};
 use crate::legs::leg::Route;
 use crate::legs::region::Region;
 use crate::legs::route::route_of;
@@ -86,73 +87,87 @@ fn sums(zones: &[Zone], outside: Iv, path: &Path) -> Regional
     requires { IsPath path.now }
     ensures { result ≡ with_zones zones.now outside path.now (same outside) }
 {
-    match Line::of(path) {
-        Some(line) => sums_along(zones, outside, path, &line),
+    match short_sums(zones, outside, path) {
+        Some(sums) => sums,
         None => sums_by_legs(zones, outside, path),
     }
 }
 
-/// The same on a direct path whose regions 64 bits hold.
-fn sums_along(zones: &[Zone], outside: Iv, path: &Path, line: &Line) -> Regional
-    requires path { IsPath path.now }
-    requires line { IsLine line.now path.now }
-    ensures { result ≡ with_zones zones.now outside path.now (same outside) }
+/// The same on a direct path. None where 64 bits don't hold it.
+fn short_sums(zones: &[Zone], outside: Iv, path: &Path) -> Option<Regional>
+    requires { IsPath path.now }
+    ensures { IfSome result (λ sums. sums ≡ with_zones zones.now outside path.now (same outside)) }
 {
-    let mut total = alike(outside);
+    let line = Line::of(path)?;
+    let sums = sums_along(zones, Extent::of(outside)?, &line)?;
+    Some(sums.intervals())
+}
+
+/// The same along a line.
+fn sums_along(zones: &[Zone], outside: Extent, line: &Line) -> Option<Extents>
+    ensures { IfSome result (λ sums. (path : Path) → IsLine line.now path → regional_of sums
+        ≡ with_zones zones.now (by_ends outside) path (same (by_ends outside))) }
+{
+    let mut total = Extents {
+        source: outside,
+        middle: outside,
+        receiver: outside,
+    };
     for zone in zones {
-        total = with_zone(total, zone, outside, path, line);
+        total = with_zone(total, zone, outside, line)?;
     }
-    total
+    Some(total)
 }
 
 /// The sums with what a zone adds to them, which is nothing where it doesn't meet the path.
 #[inline(always)]
-fn with_zone(total: Regional, zone: &Zone, outside: Iv, path: &Path, line: &Line) -> Regional
-    requires path { IsPath path.now }
-    requires line { IsLine line.now path.now }
-    ensures { result ≡ with_zones (zone.now ∷ []) outside path.now total }
-{
-    match with_zone_along(&total, zone, outside, line) {
-        Some(sums) => sums,
-        None => with_any_zone(total, zone, outside, path),
-    }
-}
-
-/// The same. None where 64 bits don't hold it.
-#[inline(always)]
-fn with_zone_along(total: &Regional, zone: &Zone, outside: Iv, line: &Line) -> Option<Regional>
-    ensures { IfSome result (λ sums. (path : Path) → IsLine line.now path
-        → sums ≡ with_zones (zone.now ∷ []) outside path total.now) }
+fn with_zone(total: Extents, zone: &Zone, outside: Extent, line: &Line) -> Option<Extents>
+    ensures { IfSome result (λ sums. (path : Path) → IsLine line.now path → regional_of sums
+        ≡ with_zones (zone.now ∷ []) (by_ends outside) path (regional_of total)) }
 {
     let outline = zone.points.items();
+    if lies_beside(outline, line) {
+        return Some(total);
+    }
     let crossed = walk(outline, line)?;
     if !crossed.is_met() {
-        return Some(*total);
+        return Some(total);
     }
-    let difference = Extent::of(sub(factor(zone.g), outside))?;
+    let difference = difference(zone.g, outside)?;
     let lengths = crossed.held(outline);
     let widths = line.widths;
-    Some(Regional {
-        source: with_term(total.source, difference, lengths.source, widths.source),
-        middle: with_term(total.middle, difference, lengths.middle, widths.middle),
+    Some(Extents {
+        source: with_term(total.source, difference, lengths.source, widths.source)?,
+        middle: with_term(total.middle, difference, lengths.middle, widths.middle)?,
         receiver: with_term(
             total.receiver,
             difference,
             lengths.receiver,
             widths.receiver,
-        ),
+        )?,
     })
 }
 
-/// The same, whatever 64 bits hold.
-#[cold]
-#[inline(never)]
-fn with_any_zone(total: Regional, zone: &Zone, outside: Iv, path: &Path) -> Regional
-    requires { IsPath path.now }
-    ensures { result ≡ with_zones (zone.now ∷ []) outside path.now total }
+/// By how much a ground factor of so many hundredths differs from that outside of zones.
+#[inline(always)]
+fn difference(g: u8, outside: Extent) -> Option<Extent>
+    ensures { IfSome result (λ difference. by_ends difference
+        ≡ sub_of (enc (form.factor g)) (by_ends outside)) }
 {
-    let route = route_of(path);
-    with_zone_by_legs(total, zone, outside, &route, &widths_of(&route.stretches))
+    Extent::of(factor(g))?.less(outside)
+}
+
+/// A sum with the term of a zone: the difference that it makes over a length, as a part of the width of the stretch.
+#[inline(always)]
+fn with_term(sum: Extent, difference: Extent, length: Extent, width: Extent) -> Option<Extent>
+    ensures { IfSome result (λ after. by_ends after
+        ≡ with_term_of (by_ends sum) (by_ends difference) (by_ends length) (by_ends width)) }
+{
+    if is_nothing(length) && divides(width) {
+        return Some(sum);
+    }
+    let product = mul(difference.interval(), length.interval());
+    sum.plus(Extent::of(over_width(product, width))?)
 }
 
 /// The sums by the legs of any path.
@@ -197,32 +212,14 @@ fn with_zone_by_legs(
     }
 }
 
-/// A sum with the term of a zone: the difference that it makes over a length, as a part of the width of the stretch.
+/// A sum with the term of a zone, whatever the ends.
 fn with_any_term(sum: Iv, difference: Iv, length: Iv, width: Iv) -> Iv
     ensures { result ≡ with_term_of sum difference length width }
 {
-    match (
-        Extent::of(difference),
-        Extent::of(length),
-        Extent::of(width),
-    ) {
-        (Some(difference), Some(length), Some(width)) => {
-            with_term(sum, difference, length, width)
+    match (Extent::of(length), Extent::of(width)) {
+        (Some(length), Some(width)) => {
+            add(sum, over_width(mul(difference, length.interval()), width))
         }
         _ => add(sum, div(mul(difference, length), width)),
     }
-}
-
-/// The same in 64 bits.
-#[inline(always)]
-fn with_term(sum: Iv, difference: Extent, length: Extent, width: Extent) -> Iv
-    ensures { result ≡ with_term_of sum (by_ends difference) (by_ends length) (by_ends width) }
-{
-    if is_nothing(length) && divides(width) {
-        return kept(sum);
-    }
-    add(
-        sum,
-        over_width(mul(difference.interval(), length.interval()), width),
-    )
 }

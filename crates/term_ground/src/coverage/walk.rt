@@ -1,13 +1,14 @@
 //! A walk round an outline: where it crosses the line of a direct path, and how much of each region it holds.
 
-ghost use Rattle.std.specs.Prelude.{◌≡◌, ◌<◌, ◌≤◌, ◌^◌, ◌+ℤ◌, IfSome, pos, false, not, ◌||◌, unsigned_abs};
-ghost use Rattle.std.specs.List.{FoldsTo};
+ghost use Rattle.std.specs.Prelude.{◌≡◌, ◌<◌, ◌≤◌, ◌^◌, ◌+ℤ◌, IfSome, pos, true, false, not, ◌||◌, unsigned_abs};
+ghost use Rattle.std.specs.Bool.{beq};
+ghost use Rattle.std.specs.List.{FoldsTo, list_all};
 ghost use Rattle.std.specs.Option.{option_to_list};
 ghost use Rattle.std.specs.Ordering.{int_eq};
 ghost use Rattle.scene_geom.specs.Crossing.{is_left, passage_of};
 ghost use Rattle.scene_geom.specs.Direction.{direct};
 ghost use Rattle.scene_geom.specs.Fraction.{is_inside};
-ghost use Rattle.scene_geom.specs.Outline.{turn_of};
+ghost use Rattle.scene_geom.specs.Outline.{turn_of, meets_of};
 ghost use Rattle.scene_geom.specs.Point.{from_to};
 ghost use Rattle.path_shape.specs.Outlines.{whole};
 ghost use Rattle.term_ground.specs.inner.Lines.{Adds, IsWalk};
@@ -136,6 +137,30 @@ fn turn(passage: Passage) -> i64
     } else {
         -1
     }
+}
+
+/// Whether all corners of an outline are on one hand of the line of a path, so that it doesn't meet the path.
+pub(crate) fn lies_beside(outline: &[Pt], line: &Line) -> bool
+    ensures { result ≡ true
+        → meets_of outline.now line.now.s (direct line.now.s line.now.r) whole ≡ false }
+{
+    let Some((first, rest)) = outline.split_first() else {
+        return true;
+    };
+    are_on_hand(rest, line, line.leaves_left(*first))
+}
+
+/// Whether all corners are on the left of the line, or all aren't.
+fn are_on_hand(corners: &[Pt], line: &Line, left: bool) -> bool
+    ensures { result
+        ≡ list_all (λ c. beq (is_left line.now.s (from_to line.now.s line.now.r) c) left) corners.now }
+{
+    for corner in corners {
+        if line.leaves_left(*corner) != left {
+            return false;
+        }
+    }
+    true
 }
 
 /// What the sides of an outline come to that cross the line of a path. None where 64 bits don't hold it.

@@ -7,7 +7,8 @@ ghost use Rattle.term_ground.specs.inner.Walks.{stretches_of};
 ghost use Rattle.term_ground.specs.inner.Widths as wide;
 
 use crate::coverage::lengths::thirty;
-use fix_interval::{Iv, div, exact, min, sub};
+use crate::extents::quotients::over_length;
+use fix_interval::{Iv, exact, min, sub};
 use path_shape::{Path, Stretch};
 
 /// The stretches that are the regions of a path.
@@ -31,8 +32,8 @@ pub(crate) fn regions_of(path: &Path) -> Stretches
     ensures { result ≡ stretches_of path.now }
 {
     let one = exact(1);
-    let by_source = div(thirty(path.hs.into()), path.dp);
-    let by_receiver = div(thirty(path.hr.into()), path.dp);
+    let by_source = over_length(thirty(path.hs.into()), path.dp);
+    let by_receiver = over_length(thirty(path.hr.into()), path.dp);
     Stretches {
         source: Stretch {
             from: exact(0),
