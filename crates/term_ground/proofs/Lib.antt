@@ -11,3 +11,4 @@ pub mod SimpleMethod
 pub mod PlacesOn
 pub mod Windings
 pub mod Lengths
+pub mod Passages

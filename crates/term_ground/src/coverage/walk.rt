@@ -22,7 +22,7 @@ use crate::coverage::line::Line;
 use crate::extents::extent::{Extent, Extents};
 use crate::extents::places::place_on;
 use path_shape::turns_right;
-use scene_geom::{Frac, Passage, Pt, Side, dir_of, passes};
+use scene_geom::{Frac, Passage, Pt, Side};
 
 /// A winding stays below this absolute value.
 const WINDING_LIMIT: u64 = 1 << 62;
@@ -208,7 +208,7 @@ fn at_side(
     if from_left == to_left {
         return Some(crossed);
     }
-    match passes(side, line.s, dir_of(line.s, line.r)) {
+    match line.passage(side) {
         None => Some(crossed),
         Some(passage) => crossed.with(passage, line),
     }
