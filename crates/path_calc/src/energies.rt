@@ -33,10 +33,10 @@ pub(crate) struct Energies {
 /// once.
 pub(crate) fn path_energies(paths: &Paths, from: &PreparedSource) -> Energies
     requires { AreInRange paths.now }
-    ensures bands { (book : Book) (s : Source) (r : Receiver) → ArePaths paths.now book s r → from.now ≡ prepared_of s
-        → result.bands ≡ (bundle_of book s r).energy }
-    ensures long { (book : Book) (s : Source) (r : Receiver) → ArePaths paths.now book s r → from.now ≡ prepared_of s
-        → result.long ≡ (bundle_of book s r).long }
+    ensures bands { (book : Book) (s : Source) (r : Receiver) → ArePaths paths.now book s r
+        → from.now ≡ prepared_of s → result.bands ≡ (bundle_of book s r).energy }
+    ensures long { (book : Book) (s : Source) (r : Receiver) → ArePaths paths.now book s r
+        → from.now ≡ prepared_of s → result.long ≡ (bundle_of book s r).long }
     ensures bands_bounds { All (IsSumOf most_sounds) result.bands }
     ensures long_bounds { IsSumOf (8 * most_sounds) result.long }
 {

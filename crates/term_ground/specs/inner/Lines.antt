@@ -32,7 +32,8 @@ pub record Adds (line : Line) (crossed : Crossed) (passage : Passage) (after : C
 
 -- what all sides of an outline come to
 pub record IsWalk (line : Line) (outline : List Pt) (crossed : Crossed) : Type 0 where
-  pub met : (crossed.between || not (int_eq crossed.winding (pos 0))) ≡ meets_of outline line.s (direct line.s line.r) whole
+  pub met : (crossed.between || not (int_eq crossed.winding (pos 0)))
+      ≡ meets_of outline line.s (direct line.s line.r) whole
   pub lengths : (stretches : Stretches) → AreSections line.sections stretches
       → regional_of crossed.lengths
       ≡ advanced (walked (passages_of (ring outline) line.s (direct line.s line.r))) nothing stretches
