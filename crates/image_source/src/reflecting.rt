@@ -53,9 +53,7 @@ fn faces(o: &Obstacle, side: Side, p: Pt) -> bool
 {
     match o.shape {
         Shape::Barrier => true,
-        Shape::Building => {
-            opposite(orient(side.from, side.to, p), area2(o.points.items()))
-        }
+        Shape::Building => opposite(orient(side.from, side.to, p), area2(o.points.items())),
     }
 }
 
