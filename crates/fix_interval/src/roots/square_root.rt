@@ -84,20 +84,45 @@ pub(crate) fn root_down(n: u128) -> u64
     }
 }
 
-/// The root of a number, rounded up. It is found soonest where it is at most two above `near`, which may be
-/// any number.
+/// The root of a number, rounded up. It is found soonest where it isn't far above `near`, which may be any number.
 pub(crate) fn root_up(n: u128, near: u64) -> u128
     ensures value { result ≡ ceil_root n }
     ensures limited { result ≤ 2 ^ 64 }
 {
-    let near = u128::from(near);
-    let square = near * near;
-    match n.checked_sub(square) {
-        Some(0) => near,
-        Some(rest) if rest <= 2 * near + 1 => near + 1,
-        Some(rest) if rest <= 4 * near + 4 => near + 2,
+    let start = u128::from(near);
+    match n.checked_sub(start * start) {
+        Some(0) => start,
+        Some(rest) if rest <= WORD => root_above(n, steps_on(near, rest as u64)),
         _ => rounded_up(n),
     }
+}
+
+/// The root of a number, rounded up. It is found soonest where this is the number below it.
+fn root_above(n: u128, below: u64) -> u128
+    ensures value { result ≡ ceil_root n }
+    ensures limited { result ≤ 2 ^ 64 }
+{
+    if is_next(n, below) {
+        u128::from(below) + 1
+    } else {
+        rounded_up(n)
+    }
+}
+
+/// Whether the root of a number, rounded up, is the next number after this.
+fn is_next(n: u128, below: u64) -> bool
+    ensures { IsTrue result ↔ ((below * below < n) × (n ≤ (below + 1) * (below + 1))) }
+{
+    let below = u128::from(below);
+    let square = below * below;
+    square < n && n - square <= 2 * below + 1
+}
+
+/// A number that is nearly always one below the root rounded up: so many steps behind one that is near, as what the square of
+/// that leaves of the number takes, of twice the root each.
+#[inline(always)]
+fn steps_on(near: u64, rest: u64) -> u64 {
+    near.wrapping_add((rest >> 1) / near.max(1))
 }
 
 /// The root of a number, rounded up from the one rounded down.
