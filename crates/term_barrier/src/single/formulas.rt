@@ -10,7 +10,7 @@ ghost use Rattle.term_barrier.specs.inner.Prepared as prepared;
 use crate::pair::apart::Apart;
 use enclose_exp::exp_neg;
 use enclose_log::lg;
-use fix_interval::{Iv, add, div, exact, less, max, min, mul, over, pick, root, sub};
+use fix_interval::{Iv, Truth, add, div, exact, less, max, min, mul, over, pick, root, sub};
 use scene_geom::Band;
 
 /// By how much a way that is `length` long across edges, and at a right angle to that as long as `square` says, is longer
@@ -27,10 +27,14 @@ pub(crate) fn path_difference(length: Iv, square: Iv, d: Iv) -> Iv
 pub(crate) fn k_met(d_ss: Iv, d_sr: Iv, d: Iv, z: Iv) -> Iv
     ensures { result ≡ enc (form.k_met (Known d_ss) (Known d_sr) (Known d) (Known z)) }
 {
-    let zero = exact(0);
+    let longer = less(exact(0), z);
+    // an edge below the line of sight has none, so that nothing is divided
+    if let Truth::Never = longer {
+        return exact(1);
+    }
     let quotient = div(mul(mul(d_ss, d_sr), d), mul(exact(2), z));
-    let decay = exp_neg(max(zero, over(root(quotient), 2000)));
-    pick(less(zero, z), decay, exact(1))
+    let decay = exp_neg(max(exact(0), over(root(quotient), 2000)));
+    pick(longer, decay, exact(1))
 }
 
 /// (C_2 / λ) z, of a single edge.
