@@ -3,7 +3,7 @@ ghost use Rattle.std.specs.Prelude.{◌≡◌, ◌<◌, ◌==◌, true, IfOk, On
 ghost use Rattle.std.specs.List.{list_any};
 ghost use Rattle.scene_book.specs.Book.{Book};
 ghost use Rattle.scene_book.specs.Applying.{apply_of};
-ghost use Rattle.scene_undo.specs.Versions.{is_kept, kept_in, IsCut};
+ghost use Rattle.scene_undo.specs.Versions.{is_kept, is_too_large, kept_in, IsCut, IsCutShort};
 
 use super::edits::Inverse;
 use scene_book::Edit;
@@ -33,7 +33,8 @@ fn is_among(kept: &[KeptVersion], version: u64) -> bool
 
 /// Whether an edit puts more receivers at once than a scene holds, so that every scene refuses it.
 pub fn never_fits(edit: &Edit) -> bool
-    ensures { result ≡ true → (book : Book) → IsErr (apply_of edit.now book) }
+    ensures value { result ≡ is_too_large edit.now }
+    ensures refused { result ≡ true → (book : Book) → IsErr (apply_of edit.now book) }
 {
     match edit {
         Edit::Grid(grid) => {
@@ -52,13 +53,14 @@ pub fn make_room(kept: &mut Vec<KeptVersion>) -> Result<(), NoMemory>
 }
 
 /// Takes the versions after one out of a list in ascending order, and gives the edits that undo theirs, the last version
-/// first. Without memory some of them may be gone.
+/// first. Without memory some of them may be gone, and no other.
 pub fn take_later(
     alloc: Global,
     kept: &mut Vec<KeptVersion>,
     version: u64,
 ) -> Result<Vec<Edit>, NoMemory>
-    ensures { IfOk result (λ edits. IsCut version kept.old.items kept.new.items edits.items) }
+    ensures cut { IfOk result (λ edits. IsCut version kept.old.items kept.new.items edits.items) }
+    ensures short { IsErr result → IsCutShort version kept.old.items kept.new.items }
 {
     let mut edits = Vec::new(alloc);
     while let Some(one) = kept.pop() {

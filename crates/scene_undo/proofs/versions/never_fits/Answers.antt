@@ -6,8 +6,8 @@ use Rattle.scene_book.specs.declared.edits.Edit.{Edit}
 use Rattle.scene_undo.proofs.KeptVersions.{large-refused}
 use Rattle.scene_undo.proofs.versions.never_fits.Goals as goal
 
-pub returns-in-Grid : goal.returns-in-Grid
-returns-in-Grid c h book =
+pub returns-in-Grid-clause-refused : goal.returns-in-Grid-clause-refused
+returns-in-Grid-clause-refused c h book =
     let grid = c.in-Grid.grid in
     let many : nat_lt 4096 (grid.columns * grid.rows) ≡ true =
     ap (λ (g : Grid). nat_lt 4096 (g.columns * g.rows)) (sym c.grid.view_is)

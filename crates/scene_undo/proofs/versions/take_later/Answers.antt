@@ -8,8 +8,8 @@ use Rattle.scene_undo.proofs.versions.take_later.Goals as goal
 pub loop-one-init : goal.loop-one-init
 loop-one-init c = ([], sym (append-nil c.args.kept.now.items), All-nil (λ (one : KeptVersion). c.args.version < one.version), c.new-edits.ensures.items)
 
-pub returns-then-one-version : goal.returns-then-one-version
-returns-then-one-version c =
+pub returns-then-one-version-clause-cut : goal.returns-then-one-version-clause-cut
+returns-then-one-version-clause-cut c =
     let cut = c.loop-one.invariant in
     record {
       later = cut.0;
@@ -29,8 +29,8 @@ loop-one-preserved c =
       c.in_ok-append.ensures.items ∙ ((λ i. cut.3 i ++ c.into_vec-back.ensures i) ∙ later-edits cut.0 one),
     )
 
-pub returns : goal.returns
-returns c =
+pub returns-clause-cut : goal.returns-clause-cut
+returns-clause-cut c =
     let cut = c.loop-one.invariant in
     let left = c.pop.new.self.items in
     let same : c.loop-one.kept.items ≡ left = c.in_default.ensures.items ∙ append-nil left in
