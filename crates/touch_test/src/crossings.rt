@@ -9,7 +9,7 @@ ghost use Rattle.image_source.specs.LegCuts.{place_up_to};
 ghost use Rattle.path_calc.specs.Segments.{FitsSegment};
 ghost use Rattle.touch_test.specs.Crossings as form;
 
-use crate::envelopes::Envelope;
+use crate::boxes::LineBox;
 use path_calc::Seg;
 use scene_geom::{
     Dir, Frac, Pt, Reflection, Side, crosses, dir_of, hits, lies_inside, meets, rest_after, unfold,
@@ -46,8 +46,7 @@ fn crosses_segment(obstacle: &Obstacle, segment: Seg) -> bool
 fn crosses_line(obstacle: &Obstacle, p: Pt, q: Pt) -> bool
     ensures { result ≡ list_any (λ side. form.crosses_line side p q) (sides_of obstacle.now) }
 {
-    // most obstacles lie beyond an edge of the segment's box, which a few comparisons tell
-    if Envelope::between(p, q).is_passed_by(obstacle.points.items()) {
+    if LineBox::of(p, q).is_passed_by(obstacle.points.items()) {
         return false;
     }
     for i in 0..sides(obstacle) {
@@ -101,6 +100,9 @@ fn crosses_leg(side: Side, from: Pt, dir: Dir, end: Frac) -> bool
 pub(crate) fn meets_line(outline: &[Pt], p: Pt, q: Pt) -> bool
     ensures { result ≡ form.meets_line outline.now p q }
 {
+    if LineBox::of(p, q).is_passed_by(outline) {
+        return false;
+    }
     meets(outline, p, dir_of(p, q), Frac { n: 1, d: 1 })
 }
 

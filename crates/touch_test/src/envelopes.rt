@@ -47,13 +47,6 @@ impl Envelope {
         Envelope::at(Pt::new(0, 0))
     }
 
-    /// The box round the way between two points.
-    pub(crate) fn between(p: Pt, q: Pt) -> Envelope
-        ensures { HoldsWay result p (direct p q) whole }
-    {
-        Envelope::at(q).with_line(p, q)
-    }
-
     /// The box of a single point.
     fn at(to: Pt) -> Envelope
         ensures { result.to ≡ to }

@@ -1,6 +1,7 @@
 //! Which receivers an edit touches, and the law that all others keep their levels.
 #![tactic(auto)]
 
+mod boxes;
 mod crossings;
 mod envelopes;
 mod grids;

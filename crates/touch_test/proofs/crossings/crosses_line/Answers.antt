@@ -8,6 +8,7 @@ use Rattle.touch_test.specs.Crossings.{crosses_line}
 use Rattle.path_shape.specs.Outlines.{whole}
 use Rattle.touch_test.proofs.Far.{uncrossed-way}
 use Rattle.touch_test.proofs.Lists.{passes-there, fails-too}
+use Rattle.touch_test.specs.inner.Boxes.{box_of}
 use Rattle.touch_test.proofs.crossings.crosses_line.Goals as goal
 
 pub returns-then-crosses_way : goal.returns-then-crosses_way
@@ -20,5 +21,6 @@ loop-i-preserved c =
 
 pub returns-then-is_passed_by : goal.returns-then-is_passed_by
 returns-then-is_passed_by c =
-    sym (uncrossed-way c.between.result c.args.obstacle.now.shape c.args.obstacle.now.points c.args.p (direct c.args.p c.args.q) whole c.between.ensures
-    (ap (lies_beyond c.between.result) (sym (c.items.ensures ∙ ap (λ (o : Obstacle). o.points) c.obstacle.view_is)) ∙ sym c.is_passed_by.ensures ∙ c.if-is_passed_by.true))
+    let e = box_of c.of.result c.args.q in
+    sym (uncrossed-way e c.args.obstacle.now.shape c.args.obstacle.now.points c.args.p (direct c.args.p c.args.q) whole c.of.ensures
+    (ap (lies_beyond e) (sym (c.items.ensures ∙ ap (λ (o : Obstacle). o.points) c.obstacle.view_is)) ∙ sym (c.is_passed_by.ensures c.args.q) ∙ c.if-is_passed_by.true))
