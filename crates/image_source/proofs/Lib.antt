@@ -7,3 +7,4 @@ pub mod Walls
 pub mod Passing
 pub mod Meeting
 pub mod Nearby
+pub mod Listing

@@ -69,11 +69,17 @@ third true true c d e h = rw h refl
 third true false c d e h = refl
 third false b c d e h = refl
 
-pub none-struck : (o : Obstacle) (side : Side) (ends : Ends) → are_on_one_side side ends.s ends.r ≡ true
-    → ((p : Frac) → pos 0 ≤ℤ p.n → p.n ≤ℤ p.d → strikes side ends p ≡ false) → false ≡ has_mirror o side ends
-none-struck o side ends beside passes =
+-- the specular point lies on the path
+pub unstruck : (side : Side) (ends : Ends) → are_on_one_side side ends.s ends.r ≡ true → ((p : Frac) → pos 0 ≤ℤ p.n → p.n ≤ℤ p.d → strikes side ends p ≡ false)
+    → strikes side ends (specular side ends.s ends.r) ≡ false
+unstruck side ends beside passes =
     let some = signs-some (orient_of side.from side.to ends.s) (orient_of side.from side.to ends.r) beside in
     let n = over-n (pos (off_wall side ends.s)) (off_wall side ends.s + off_wall side ends.r) in
     let d = over-d (pos (off_wall side ends.s)) (off_wall side ends.s + off_wall side ends.r) (omega (arith, some.0)) in
+    passes (specular side ends.s ends.r) (rw n (omega (arith, ints))) (rw (n, d) (omega (arith, ints)))
+
+pub none-struck : (o : Obstacle) (side : Side) (ends : Ends) → are_on_one_side side ends.s ends.r ≡ true
+    → ((p : Frac) → pos 0 ≤ℤ p.n → p.n ≤ℤ p.d → strikes side ends p ≡ false) → false ≡ has_mirror o side ends
+none-struck o side ends beside passes =
     third (not (o.rho == 0)) (are_on_one_side side ends.s ends.r) (strikes side ends (specular side ends.s ends.r)) (stays_below ends o.h (specular side ends.s ends.r)) (faces o.shape o.points side ends.s)
-    (passes (specular side ends.s ends.r) (rw n (omega (arith, ints))) (rw (n, d) (omega (arith, ints))))
+    (unstruck side ends beside passes)

@@ -2,4 +2,5 @@ pub mod Mirrors
 pub mod LegCuts
 pub mod Dimensions
 pub mod Laws
+pub mod Facing
 pub mod inner

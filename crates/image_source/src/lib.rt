@@ -5,6 +5,7 @@
 #![tactic(auto)]
 
 mod dimension;
+mod facing;
 mod image;
 pub mod laws;
 mod leg;
@@ -14,6 +15,7 @@ mod reflecting;
 mod search;
 
 pub use dimension::{big_enough, big_enough_in_bands, dimension_squared, needed_squared};
+pub use facing::{FacingSide, FacingSides};
 pub use image::Mirror;
 pub use leg::Leg;
 pub use near::{leg_crossings_near, leg_cuts_near};

@@ -1,6 +1,7 @@
 //! What changes evenly along a path, at a place of it.
 ghost use Rattle.std.specs.Prelude.{◌≡◌, ◌≤◌, ◌<◌, ◌^◌, ◌*ℤ◌, ◌-ℤ◌, pos, unsigned_abs};
 ghost use Rattle.scene_geom.specs.Plan.{InPlan};
+ghost use Rattle.scene_geom.specs.Point.{orient_of};
 ghost use Rattle.image_source.specs.Mirrors.{at_place};
 ghost use Rattle.image_source.specs.Mirrors as form;
 
@@ -53,6 +54,16 @@ pub(crate) fn ahead(side: Side, p: Pt) -> i64
 {
     way(side.from.x, p.x) * way(side.from.x, side.to.x)
         - way(p.y, side.from.y) * way(side.from.y, side.to.y)
+}
+
+/// How far off the line of a side a point lies, times the side's length, in mm²: above 0 to the left of it, below 0 to the
+/// right. 64 bits hold it.
+pub(crate) fn off_line(side: Side, p: Pt) -> i64
+    ensures value { result ≡ orient_of side.from side.to p }
+    ensures within { unsigned_abs result ≤ 128000000000000 }
+{
+    way(side.from.x, side.to.x) * way(side.from.y, p.y)
+        - way(side.from.y, side.to.y) * way(side.from.x, p.x)
 }
 
 /// How far it is from one coordinate to another, in mm.

@@ -169,7 +169,8 @@ impl Job {
             return Err(NoMemory);
         };
         let receiver = self.receiver.to_receiver(alloc)?;
-        let scene = hold.indexed();
+        let facing = hold.indexed().facing_to(alloc, receiver.at)?;
+        let scene = hold.indexed_beside(&facing);
         let renewal = Renewal::of(&scene, &hold.prepared, &receiver, &self.kept, &self.marks);
         let renewed = renew(alloc, &renewal, &self.sums, self.stands_within(hold), steps)?;
         let marks = vec![in alloc; false; renewed.len()]?;

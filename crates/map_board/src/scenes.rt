@@ -2,6 +2,7 @@
 ghost use Rattle.std.specs.Prelude.{◌≡◌, true, [], All, Ok, Err, IfOk, IfErr, IfSome, OnErr, bytes_eq, map};
 ghost use Rattle.std.proofs.Props.{props};
 ghost use Rattle.std.specs.List.{list_any};
+ghost use Rattle.image_source.specs.Facing.{facing_sides};
 ghost use Rattle.path_calc.specs.Lengths.{is_within};
 ghost use Rattle.path_calc.specs.Prepared.{prepared_of};
 ghost use Rattle.path_cache.specs.Frames.{Holds};
@@ -13,7 +14,7 @@ ghost use Rattle.map_board.specs.inner.Sources.{LeavesSources, LeavesObstacles, 
 ghost use Rattle.map_board.specs.inner.Sources.{is_source as is_source_part, is_obstacle as is_obstacle_part};
 
 use path_cache::{Frame, PreparedSource, prepare};
-use path_calc::{Grid, IndexedScene};
+use path_calc::{FacingSides, Grid, IndexedScene};
 use scene_book::{Edit, EditFault, Scene};
 use scene_geom::Pt;
 use scene_parts::{NoMemory, Part};
@@ -78,6 +79,14 @@ impl PreparedScene {
             Some(grid) => IndexedScene::by(&self.scene, grid),
             None => IndexedScene::plain(&self.scene),
         }
+    }
+
+    /// The same, and with the sides of its obstacles that may reflect to a place.
+    pub(crate) fn indexed_beside<'a>(&'a self, facing: &'a FacingSides) -> IndexedScene<'a>
+        requires stands { facing.now.sides ≡ facing_sides facing.now.at self.now.scene.obstacles }
+        ensures { result ≡ self.now.scene }
+    {
+        self.indexed().beside(facing)
     }
 
     /// Whether surely each source reaches a receiver at a place.

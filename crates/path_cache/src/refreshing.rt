@@ -49,6 +49,8 @@ pub fn refresh<L: Ledger>(
     }
     let grid = grid_of(alloc, scene.obstacles())?;
     let scene = IndexedScene::by(scene, &grid);
+    let facing = scene.facing_to(alloc, receiver.at)?;
+    let scene = scene.beside(&facing);
     let renewal = Renewal::of(&scene, &prepared, receiver, kept, marks);
     refresh_prepared(alloc, &renewal, steps)
 }

@@ -76,6 +76,8 @@ pub fn refresh_sums<L: Ledger>(
     }
     let grid = grid_of(alloc, scene.obstacles())?;
     let scene = IndexedScene::by(scene, &grid);
+    let facing = scene.facing_to(alloc, receiver.at)?;
+    let scene = scene.beside(&facing);
     let renewal = Renewal::of(&scene, &prepared, receiver, kept, marks);
     refresh_sums_prepared(alloc, &renewal, sums, steps)
 }

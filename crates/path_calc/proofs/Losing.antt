@@ -1,6 +1,6 @@
--- What foliage takes off in each band.
+-- What foliage takes off in each band, and that nothing is taken off where nothing is in the way.
 use Rattle.std.proofs.Common.{◌≡◌, pos, List, length, sym, ap, ◌∙◌, subst, arith}
-use Rattle.std.specs.Prelude.{All, Option, Some, None}
+use Rattle.std.specs.Prelude.{All, Option, Some, None, slice_index_or}
 use Rattle.std.proofs.lemmas.Int.{ints}
 use Rattle.std.proofs.lemmas.List.Elements.{All-get_or}
 use Rattle.fix_interval.specs.Interval.{Interval}
@@ -14,7 +14,8 @@ use Rattle.term_barrier.specs.Limits.{IsDistance}
 use Rattle.term_foliage.specs.Foliage.{foliage_in, attenuations_over}
 use Rattle.term_foliage.proofs.Bounds.{attenuations-between}
 use Rattle.path_calc.specs.inner.Losses.{IsFoliageLoss, AreLosses, losses_along, loss_in}
-use Rattle.path_calc.specs.inner.Ranges.{IsScreened}
+use Rattle.path_calc.specs.inner.BarrierAttenuations.{attenuations_in}
+use Rattle.path_calc.specs.inner.Ranges.{IsUnscreened, IsScreened}
 use Rattle.path_calc.proofs.Eight.{at-place, place-below}
 use Rattle.path_calc.proofs.Sums.{are-small, less-nothing}
 
@@ -34,9 +35,16 @@ pub loss-between : (losses : List Interval) (band : Band) → AreLosses losses �
 loss-between losses band are =
     All-get_or IsFoliageLoss losses (place_of band) (enc (Const (pos 0) 1)) (rw are.bands (place-below band)) are.each
 
--- a level less nothing
+-- a level less nothing, past foliage and past what screens it
 pub nothing-lost : (losses : List Interval) (level : Interval) (band : Band) → IsScreened level → losses ≡ attenuations_over None → level ≡ sub_of level (loss_in losses band)
 nothing-lost losses level band small is =
     sym (less-nothing level (are-small _ _ level small (omega (arith, ints)) (omega (arith, ints))))
     ∙ ap (sub_of level) (sym (at-place (λ (b : Band). enc (Const (pos 0) 1)) (enc (Const (pos 0) 1)) band))
     ∙ ap (λ (ls : List Interval). sub_of level (loss_in ls band)) (sym is)
+
+pub nothing-screened : (bars : List Interval) (level default : Interval) (band : Band) → IsUnscreened level → bars ≡ attenuations_in None
+    → level ≡ sub_of level (slice_index_or bars (place_of band) default)
+nothing-screened bars level default band small is =
+    sym (less-nothing level (are-small _ _ level small (omega (arith, ints)) (omega (arith, ints))))
+    ∙ ap (sub_of level) (sym (at-place (λ (b : Band). enc (Const (pos 0) 1)) default band))
+    ∙ ap (λ (ls : List Interval). sub_of level (slice_index_or ls (place_of band) default)) (sym is)

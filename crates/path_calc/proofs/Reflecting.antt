@@ -2,7 +2,7 @@
 use Rattle.std.proofs.Common.{◌≡◌, ℕ, zero, suc, ◌^◌, pos, ◌≤ℤ◌, subst, ◌+◌, ◌≤◌, ◌<◌, List, [], ◌∷◌, ◌++◌, length, drop, get_or, map, filter, refl, sym, ap, ◌∙◌, arith, append_assoc, append-nil}
 use Rattle.std.specs.Prelude.{Option, Some, None, Bool, true, false, ◌&&◌, IsTrue, All, flat_map, slice_get}
 use Rattle.std.specs.List.{filter_map, list_any}
-use Rattle.std.specs.Option.{option_to_list}
+use Rattle.std.specs.Option.{option_to_list, option_and_then}
 use Rattle.std.proofs.lemmas.Int.{ints}
 use Rattle.std.proofs.lemmas.List.{drop_more, map-append, length-append, length-map}
 use Rattle.std.proofs.lemmas.List.Elements.{All-nil, All-append, All-cons}
@@ -28,6 +28,8 @@ use Rattle.scene_parts.specs.declared.screening.crossing.Crossing.{Crossing}
 use Rattle.scene_parts.specs.Crossings.{is_crossing_in}
 use Rattle.image_source.specs.declared.leg.Leg.{Leg}
 use Rattle.image_source.specs.Mirrors.{IsMirror, has_mirror, mirror_of}
+use Rattle.image_source.specs.Facing.{FacingSide, may_mirror, facing_sides}
+use Rattle.image_source.proofs.Listing.{found_of, listed-at, listed-give-all, unfaced, unmirrored}
 use Rattle.image_source.specs.LegCuts.{edge_on, edges_in, crossing_on, before_all, crossings_along, crossings_from, leg_crossings_of, is_leg_crossing_in}
 use Rattle.image_source.specs.declared.leg.Leg.TheVariants.{First, Second}
 use Rattle.image_source.proofs.Edges.{leg-crossings-are-edges}
@@ -275,3 +277,74 @@ few-paths book ends = few-of-obstacles book ends book.obstacles
 -- so are those that are found
 pub few-found : (globals : Globals) (source : PreparedSource) (book : Book) (ends : Ends) (found : List Reflected) → found ≡ map (reflected_of globals source ends) (reflected_paths book ends) → length found ≤ side_total book.obstacles
 few-found globals source book ends found is = rw (is, length-map (reflected_paths book ends) (reflected_of globals source ends)) (few-paths book ends)
+
+-- ---- paths by way of the sides that may reflect to the receiver
+
+-- the path by way of a listed side, of the obstacle of its number
+abbrev pub way_of : Book → Ends → FacingSide → Option ReflectedPath
+way_of book ends facing = found_of (reflected_in book ends) book.obstacles facing
+
+-- a listed side stands where its numbers say, of an obstacle that reflects, and lists the place of the receiver
+pub record IsWall (book : Book) (ends : Ends) (facing : FacingSide) (o : Obstacle) : Type 0 where
+  pub found : slice_get book.obstacles facing.owned.obstacle ≡ Some o
+  pub is : slice_get (sides_of o) facing.owned.index ≡ Some facing.owned.side
+  pub place : facing.at ≡ ends.r
+  pub reflects : 0 < o.rho
+
+pub wall-within : (book : Book) (ends : Ends) (list : List FacingSide) (i : ℕ) (facing : FacingSide) (os : List Obstacle) → list ≡ facing_sides ends.r book.obstacles → os ≡ book.obstacles
+    → i < length list → facing ≡ get_or list i facing → facing.owned.obstacle < length os
+wall-within book ends list i facing os are obstacles-are below is =
+    let listed = listed-at ends.r book.obstacles list i facing are below is in
+    omega (arith, slice_get_within book.obstacles facing.owned.obstacle listed.obstacle listed.found, ap length obstacles-are)
+
+pub wall-is : (book : Book) (ends : Ends) (list : List FacingSide) (i : ℕ) (facing : FacingSide) (os : List Obstacle) (o : Obstacle) → list ≡ facing_sides ends.r book.obstacles → os ≡ book.obstacles
+    → i < length list → facing ≡ get_or list i facing → o ≡ get_or os facing.owned.obstacle o → IsWall book ends facing o
+wall-is book ends list i facing os o are obstacles-are below is o-is =
+    let listed = listed-at ends.r book.obstacles list i facing are below is in
+    let same : listed.obstacle ≡ o =
+    sym (o-is ∙ ap (λ (os : List Obstacle). get_or os facing.owned.obstacle o) obstacles-are ∙ get_or_from_slice_get book.obstacles facing.owned.obstacle listed.obstacle o listed.found) in
+    record {
+      found = listed.found ∙ ap Some same;
+      is = subst (λ (o : Obstacle). slice_get (sides_of o) facing.owned.index ≡ Some facing.owned.side) same listed.is;
+      place = listed.place;
+      reflects = subst (λ (o : Obstacle). 0 < o.rho) same listed.reflects;
+    }
+
+-- what is found by way of it is what the side gives
+pub wall-gives : (book : Book) (ends : Ends) (facing : FacingSide) (o : Obstacle) → IsWall book ends facing o → way_of book ends facing ≡ reflected_in book ends o facing.owned.side
+wall-gives book ends facing o wall = ap (option_and_then (λ o. reflected_in book ends o facing.owned.side)) wall.found
+
+-- nothing, where it may not mirror the source to the receiver
+unmirrored-none : (book : Book) (ends : Ends) (o : Obstacle) (side : Side) → has_mirror o side ends ≡ false → reflected_in book ends o side ≡ None
+unmirrored-none book ends o side none = rw none refl
+
+pub wall-passed : (book : Book) (ends : Ends) (list : List FacingSide) (i : ℕ) (facing : FacingSide) → list ≡ facing_sides ends.r book.obstacles → i < length list → facing ≡ get_or list i facing
+    → may_mirror facing.owned.side ends.s facing.at ≡ false → way_of book ends facing ≡ None
+wall-passed book ends list i facing are below is none =
+    let listed = listed-at ends.r book.obstacles list i facing are below is in
+    let here : may_mirror facing.owned.side ends.s ends.r ≡ false = sym (ap (may_mirror facing.owned.side ends.s) listed.place) ∙ none in
+    ap (option_and_then (λ o. reflected_in book ends o facing.owned.side)) listed.found
+    ∙ unmirrored-none book ends listed.obstacle facing.owned.side (unmirrored listed.obstacle facing.owned.side ends here)
+
+-- what is found, and what the listed sides behind give, is the same after a side
+pub wall-added : (globals : Globals) (source : PreparedSource) (book : Book) (ends : Ends) (list : List FacingSide) (i : ℕ) (facing : FacingSide) (way : Option ReflectedPath) (found new all : List Reflected)
+    → i < length list → facing ≡ get_or list i facing → way_of book ends facing ≡ way → new ≡ found ++ map (reflected_of globals source ends) (option_to_list way)
+    → found ++ map (reflected_of globals source ends) (filter_map (way_of book ends) (drop i list)) ≡ all
+    → new ++ map (reflected_of globals source ends) (filter_map (way_of book ends) (drop (i + 1) list)) ≡ all
+wall-added globals source book ends list i facing way found new all below is gives added h =
+    let made = reflected_of globals source ends in
+    let these = option_to_list way in
+    let rest = filter_map (way_of book ends) (drop (i + 1) list) in
+    let one : drop i list ≡ facing ∷ drop (i + 1) list = drop_more list i facing below ∙ ap (λ x. x ∷ drop (i + 1) list) (sym is) in
+    let next : filter_map (way_of book ends) (drop i list) ≡ these ++ rest =
+    ap (filter_map (way_of book ends)) one ∙ filter_map-cons (way_of book ends) facing (drop (i + 1) list) ∙ ap (λ way. option_to_list way ++ rest) gives in
+    ap (λ xs. xs ++ map made rest) added
+    ∙ append_assoc found (map made these) (map made rest)
+    ∙ ap (λ xs. found ++ xs) (sym (map-append made these rest))
+    ∙ ap (λ paths. found ++ map made paths) (sym next) ∙ h
+
+-- the listed sides give all paths
+pub walls-give-all : (book : Book) (ends : Ends) (list : List FacingSide) → list ≡ facing_sides ends.r book.obstacles → filter_map (way_of book ends) list ≡ reflected_paths book ends
+walls-give-all book ends list are =
+    ap (filter_map (way_of book ends)) are
+    ∙ listed-give-all (reflected_in book ends) ends.r book.obstacles (λ o side none. unmirrored-none book ends o side (unfaced o side ends none))

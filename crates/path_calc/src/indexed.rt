@@ -1,17 +1,19 @@
-//! A scene with an index of the sides of its obstacles, or without one.
-ghost use Rattle.std.specs.Prelude.{◌≡◌, map, IfOk};
+//! A scene with an index of the sides of its obstacles, or without one, and with a list of those that may reflect to a place,
+//! or without it.
+ghost use Rattle.std.specs.Prelude.{◌≡◌, map, IfOk, IfSome};
 ghost use Rattle.scene_parts.specs.Sides.{sides_of};
 ghost use Rattle.scene_book.specs.Book.{IsWithin, NamesAreApart};
 ghost use Rattle.part_grid.specs.Numbered.{numbered};
 ghost use Rattle.sight_cut.specs.Cuts.{crossings_of};
 ghost use Rattle.image_source.specs.LegCuts.{leg_crossings_of};
+ghost use Rattle.image_source.specs.Facing.{facing_sides};
 ghost use Rattle.std.specs.List.{list_any};
 ghost use Rattle.scene_geom.specs.declared.band.Band.{Band};
 ghost use Rattle.path_calc.specs.LateralPaths.{is_in_the_way};
 ghost use Rattle.path_calc.specs.inner.Strings.{is_within};
 
 use crate::lateral::blocked::{blocking, blocking_near};
-use image_source::{Leg, Mirror, leg_crossings, leg_crossings_near};
+use image_source::{FacingSide, FacingSides, Leg, Mirror, leg_crossings, leg_crossings_near};
 use part_grid::{Found, Grid};
 use scene_book::Scene;
 use scene_geom::Pt;
@@ -23,11 +25,13 @@ use std::alloc::Global;
 use std::marker::Model;
 
 /// A scene, and an index of all sides of its obstacles, where there is one: with it a path looks only at the sides near
-/// it, and without it at all. Contracts see it as the scene.
+/// it, and without it at all. Beside it there may be a list of the sides that may reflect to a place: a path to a receiver
+/// there looks for reflections in these alone. Contracts see it as the scene.
 #[derive(Drop)]
 pub struct IndexedScene<'a> {
     scene: &'a Scene,
     grid: Option<&'a Grid>,
+    facing: Option<&'a FacingSides>,
 }
 
 impl<'a> Model for IndexedScene<'a> {
@@ -35,12 +39,16 @@ impl<'a> Model for IndexedScene<'a> {
     ghost use Rattle.scene_book.specs.Book.{Book};
     ghost use Rattle.scene_parts.specs.Sides.{sides_of};
     ghost use Rattle.part_grid.specs.Numbered.{numbered};
+    ghost use Rattle.image_source.specs.Facing.{facing_sides};
 
     ghost Value = { Book };
 
     ghost view = { λ s. s.scene.now };
 
-    ghost invariant = { λ s. IfSome s.grid (λ grid. grid.now ≡ numbered (map sides_of s.scene.now.obstacles)) };
+    ghost invariant = { λ s.
+        (IfSome s.grid (λ grid. grid.now ≡ numbered (map sides_of s.scene.now.obstacles)))
+        × (IfSome s.facing (λ facing. facing.now.sides
+        ≡ facing_sides facing.now.at s.scene.now.obstacles)) };
 }
 
 impl<'a> IndexedScene<'a> {
@@ -48,7 +56,11 @@ impl<'a> IndexedScene<'a> {
     pub fn plain(scene: &'a Scene) -> IndexedScene<'a>
         ensures { result ≡ scene.now }
     {
-        IndexedScene { scene, grid: None }
+        IndexedScene {
+            scene,
+            grid: None,
+            facing: None,
+        }
     }
 
     /// A scene with an index, which stands for its obstacles.
@@ -59,6 +71,40 @@ impl<'a> IndexedScene<'a> {
         IndexedScene {
             scene,
             grid: Some(grid),
+            facing: None,
+        }
+    }
+
+    /// The same scene, with the sides of its obstacles that may reflect to a place.
+    pub fn beside(&self, facing: &'a FacingSides) -> IndexedScene<'a>
+        requires stands { facing.now.sides ≡ facing_sides facing.now.at self.now.obstacles }
+        ensures { result ≡ self.now }
+    {
+        IndexedScene {
+            scene: self.scene,
+            grid: self.grid,
+            facing: Some(facing),
+        }
+    }
+
+    /// The sides of the obstacles that may reflect to a place. An error where there is no memory; none is taken where no
+    /// obstacle reflects.
+    pub fn facing_to(&self, alloc: Global, at: Pt) -> Result<FacingSides, NoMemory>
+        ensures { IfOk result (λ facing. facing
+            ≡ record { at = at; sides = facing_sides at self.now.obstacles }) }
+    {
+        FacingSides::of(alloc, self.obstacles(), at)
+    }
+
+    /// The sides of the obstacles that may reflect to a place, where they are listed.
+    pub(crate) fn facing(&self, at: Pt) -> Option<&'a [FacingSide]>
+        ensures { IfSome result (λ sides. sides.now ≡ facing_sides at self.now.obstacles) }
+    {
+        let facing = self.facing?;
+        if facing.at() == at {
+            Some(facing.sides())
+        } else {
+            None
         }
     }
 

@@ -17,6 +17,7 @@ pub use bundles::calculation::{bundle, bundle_between, bundle_near};
 pub use bundles::segments::{Seg, Segs};
 pub use bundles::steps::Steps;
 pub use direct::lengths::within;
+pub use image_source::FacingSides;
 pub use indexed::IndexedScene;
 pub use part_grid::{Found, Grid};
 pub use prepared::{PreparedReceiver, PreparedSource};

@@ -1,15 +1,16 @@
 //! What all bands share of a path.
 ghost use Rattle.std.specs.Prelude.{◌≡◌, All, IfOk, IfSome};
+ghost use Rattle.fix_interval.specs.Values.{sub_of};
 ghost use Rattle.path_shape.specs.Shape.{IsPath};
 ghost use Rattle.scene_parts.specs.Ranges.{IsHeight};
 ghost use Rattle.scene_parts.specs.declared.kinds.Ground.TheVariants as methods;
 ghost use Rattle.path_calc.specs.inner.Hearing.{propagation_along, is_asked, grounds_along, omega_along, ground_at, screening_at, power_at};
 ghost use Rattle.path_calc.specs.inner.Prepared.{IsEmission, IsSent};
 ghost use Rattle.path_calc.specs.inner.Propagations.{IsPropagation, IsGroundBy, IsSimpleGround, IsSolidAngle};
-ghost use Rattle.path_calc.specs.inner.Ranges.{IsPathSquare};
+ghost use Rattle.path_calc.specs.inner.Ranges.{IsPathSquare, IsUnscreened, IsScreened};
 ghost use Rattle.path_shape.specs.Shape.{square_form};
 ghost use Rattle.term_barrier.specs.Edges.{FitsEdge};
-ghost use Rattle.term_barrier.specs.Limits.{IsDistance, IsGroundEffect, IsScreening};
+ghost use Rattle.term_barrier.specs.Limits.{IsDistance, IsGroundEffect};
 
 use crate::direct::foliage::Losses;
 use crate::direct::lengths::square_in_metres;
@@ -153,12 +154,13 @@ impl Propagation {
         self.grounds[band.place()]
     }
 
-    /// The attenuation by screening over the top in a band.
-    pub(crate) fn screening_in(&self, band: Band) -> Iv
-        requires { IsPropagation self.now }
-        ensures value { result ≡ screening_at self.now band }
-        ensures bounds { IsScreening result }
+    /// A level in dB less what screens the path over the top in a band.
+    #[inline(always)]
+    pub(crate) fn past_screens(&self, level: Iv, band: Band) -> Iv
+        requires { IsUnscreened level }
+        ensures value { result ≡ sub_of level (screening_at self.now band) }
+        ensures range { IsScreened result }
     {
-        self.screening.at(band)
+        self.screening.off(level, band)
     }
 }

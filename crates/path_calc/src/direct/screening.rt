@@ -5,10 +5,13 @@ ghost use Rattle.term_barrier.specs.Edges.{FitsEdge};
 ghost use Rattle.term_barrier.specs.Limits.{IsGroundEffect, IsScreening};
 ghost use Rattle.fix_interval.specs.Interval.{Interval};
 ghost use Rattle.fix_interval.specs.Tree.{Const, enc};
+ghost use Rattle.fix_interval.specs.Values.{sub_of};
 ghost use Rattle.scene_geom.specs.Bands.{all_bands, place_of};
 ghost use Rattle.path_calc.specs.inner.BarrierAttenuations.{AreBarrierAttenuations};
 ghost use Rattle.path_calc.specs.inner.Hearing.{edges_among, bar_over, bars_over, where_asked, is_asked};
+ghost use Rattle.path_calc.specs.inner.Ranges.{IsUnscreened, IsScreened};
 
+use crate::energies::small_sums::minus;
 use fix_interval::{Iv, exact};
 use path_shape::Path;
 use scene_geom::Band;
@@ -53,16 +56,30 @@ impl BarrierAttenuations {
         Ok(BarrierAttenuations { bands })
     }
 
-    /// The attenuation in a band.
-    pub(crate) fn at(&self, band: Band) -> Iv
-        ensures value { (default : Interval) → result ≡ slice_index_or self.now (place_of band) default }
-        ensures bounds { IsScreening result }
+    /// A level in dB less what screens it in a band: where nothing does, the level itself.
+    #[inline(always)]
+    pub(crate) fn off(&self, level: Iv, band: Band) -> Iv
+        requires { IsUnscreened level }
+        ensures value { (default : Interval)
+            → result ≡ sub_of level (slice_index_or self.now (place_of band) default) }
+        ensures range { IsScreened result }
     {
         match &self.bands {
-            Some(bands) => bands[band.place()],
-            None => exact(0),
+            Some(bands) => past_screens(level, bands[band.place()]),
+            None => level,
         }
     }
+}
+
+/// A level in dB less what screens it.
+#[inline(always)]
+pub(crate) fn past_screens(level: Iv, screening: Iv) -> Iv
+    requires level { IsUnscreened level }
+    requires screening { IsScreening screening }
+    ensures value { result ≡ sub_of level screening }
+    ensures range { IsScreened result }
+{
+    minus(level, screening)
 }
 
 /// A_bar of a path in each band that is asked for (ISO 9613-2, 7.4), of the crossings of its line of sight, where its length

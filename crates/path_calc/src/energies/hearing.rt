@@ -1,9 +1,9 @@
 //! What a receiver hears at the end of a path, in one band.
 ghost use Rattle.std.specs.Prelude.{◌≡◌, ℕ, ◌+◌, ◌<◌, ◌≤◌, length, map, pos, fold, true, Some, IfSome};
 ghost use Rattle.std.specs.Option.{option_map};
-ghost use Rattle.fix_interval.specs.Values.{add_of, sub_of, pick_of};
+ghost use Rattle.fix_interval.specs.Values.{add_of, pick_of};
 ghost use Rattle.term_barrier.specs.Limits.{IsScreening};
-ghost use Rattle.fix_interval.specs.Tree.{Known, Const, Add, enc};
+ghost use Rattle.fix_interval.specs.Tree.{Known, Const, Add, Sub, enc};
 ghost use Rattle.energy_sum.specs.Energies.{energy_form};
 ghost use Rattle.energy_sum.specs.Weather.{IsWeatherCorrection};
 ghost use Rattle.path_calc.specs.Weights.{weight_in};
@@ -20,6 +20,7 @@ ghost use Rattle.path_calc.specs.inner.Hearing.{level_before as level_form};
 
 use crate::direct::absorption::coefficient;
 use crate::direct::propagation::Propagation;
+use crate::direct::screening::past_screens;
 use crate::energies::paths::Paths;
 use crate::energies::small_sums::{minus, plus};
 use crate::energies::weights::weight_of;
@@ -66,7 +67,7 @@ fn heard_of(paths: &Paths, band: Band, emission: Iv) -> Heard
 {
     let direct = &paths.direct;
     let level = level_before(direct, band, direct.power_of(emission));
-    let over = heard_past(level, direct.screening_in(band), direct, band);
+    let over = heard_over(level, direct, band);
     if paths.has_direct_alone() {
         over
     } else {
@@ -158,7 +159,7 @@ fn heard_by_way(sound: &Sound, band: Band, emission: Iv) -> Heard
 {
     let path = &sound.path;
     let level = level_before(path, band, sound.sends(path.power_of(emission)));
-    let heard = heard_past(level, path.screening_in(band), path, band);
+    let heard = heard_over(level, path, band);
     let counts = sound.counts_in(band);
     Heard {
         energy: pick(counts, heard.energy, exact(0)),
@@ -189,7 +190,10 @@ fn with_lateral(
     ensures long_bounds { (n : ℕ) → n < 8 → IsSumOf n heard.long → IsSumOf (n + 1) result.long }
 {
     match screening {
-        Some(screening) => both(heard, heard_past(level, screening, direct, band)),
+        Some(screening) => both(
+            heard,
+            heard_behind(past_screens(level, screening), direct, band),
+        ),
         None => heard,
     }
 }
@@ -222,32 +226,34 @@ fn level_before(propagation: &Propagation, band: Band, power: Iv) -> Iv
     minus(in_the_open, propagation.ground_in(band))
 }
 
-/// The energies of a level in a band, past what screens it, with the foliage and the weather of a path.
+/// The energies of a level in a band at the end of a path, past what screens it over the top.
 #[inline(always)]
-fn heard_past(level: Iv, screening: Iv, path: &Propagation, band: Band) -> Heard
+fn heard_over(level: Iv, path: &Propagation, band: Band) -> Heard
     requires level { IsUnscreened level }
-    requires screening { IsScreening screening }
     requires path { IsPropagation path.now }
-    ensures energy { result.energy
-        ≡ enc (energy_form (past level screening (loss_in path.now.foliage band))) }
+    ensures energy { result.energy ≡ enc (energy_form (past level
+        (screening_at path.now band) (loss_in path.now.foliage band))) }
     ensures long { result.long ≡ enc (long_term_energy band (Known path.now.correction)
-        (past level screening (loss_in path.now.foliage band))) }
+        (past level (screening_at path.now band) (loss_in path.now.foliage band))) }
     ensures energy_bounds { IsSumOf 1 result.energy }
     ensures long_bounds { IsSumOf 1 result.long }
 {
-    let screened = past_screens(level, screening);
-    heard_at(path.foliage.off(screened, band), path.correction, band)
+    heard_behind(path.past_screens(level, band), path, band)
 }
 
-/// A level less what screens it.
+/// The energies in a band of a level that is screened, with the foliage and the weather of a path.
 #[inline(always)]
-fn past_screens(level: Iv, screening: Iv) -> Iv
-    requires level { IsUnscreened level }
-    requires screening { IsScreening screening }
-    ensures value { result ≡ sub_of level screening }
-    ensures range { IsScreened result }
+fn heard_behind(screened: Iv, path: &Propagation, band: Band) -> Heard
+    requires level { IsScreened screened }
+    requires path { IsPropagation path.now }
+    ensures energy { result.energy
+        ≡ enc (energy_form (Sub (Known screened) (Known (loss_in path.now.foliage band)))) }
+    ensures long { result.long ≡ enc (long_term_energy band (Known path.now.correction)
+        (Sub (Known screened) (Known (loss_in path.now.foliage band)))) }
+    ensures energy_bounds { IsSumOf 1 result.energy }
+    ensures long_bounds { IsSumOf 1 result.long }
 {
-    minus(level, screening)
+    heard_at(path.foliage.off(screened, band), path.correction, band)
 }
 
 /// The energies of a level in a band, where C_met is this.

@@ -12,6 +12,7 @@ ghost use Rattle.path_calc.specs.Contributions.{reflection_level as level_form};
 ghost use Rattle.std.specs.List.{list_any};
 ghost use Rattle.scene_geom.specs.Bands.{all_bands};
 ghost use Rattle.image_source.specs.LegCuts.{leg_crossings_of};
+ghost use Rattle.image_source.specs.Facing.{facing_sides};
 ghost use Rattle.term_barrier.specs.Limits.{IsDistance};
 ghost use Rattle.path_calc.specs.ReflectedPaths.{path_along, along_legs, reflected_in, reflected_by, reflected_paths};
 ghost use Rattle.path_calc.specs.inner.Hearing.{reflected_of, propagation_along, is_asked, may_be_heard, truth_in, crossings_on};
@@ -24,7 +25,7 @@ use crate::prepared::PreparedSource;
 use crate::reflected::{Echo, Reflected, Sound};
 use enclose_log::lg;
 use fix_interval::{Iv, Truth, exact, mul, ratio};
-use image_source::{Leg, Mirror, big_enough_in_bands, has_mirror};
+use image_source::{FacingSide, Leg, Mirror, big_enough_in_bands, has_mirror};
 use part_grid::Found;
 use path_shape::Path;
 use scene_geom::{Band, Side};
@@ -32,9 +33,55 @@ use scene_parts::{Crossing, Ends, NoMemory, Obstacle, side_of, sides};
 use std::alloc::Global;
 
 impl<'a> Between<'a> {
-    /// All paths by way of walls, in the order of obstacles and sides. Obstacles that don't reflect are passed over. The
-    /// buffers are lent to the searches of what stands near their legs.
+    /// All paths by way of walls, in the order of obstacles and sides. Where the sides that may reflect to the receiver are
+    /// listed, no other is looked at. The buffers are lent to the searches of what stands near their legs.
     pub(crate) fn reflected(&self, near: &mut Found) -> Result<Vec<Reflected>, NoMemory>
+        requires source { self.now.from.now.h ≡ self.now.ends.hs }
+        requires receiver { self.now.to.now ≡ self.now.ends.hr }
+        requires source_height { IsHeight self.now.ends.hs }
+        requires receiver_height { IsHeight self.now.ends.hr }
+        ensures value { IfOk result (λ found. let book = self.now.scene.now in found.items
+            ≡ map (reflected_of book.globals self.now.from.now self.now.ends)
+            (reflected_paths book self.now.ends)) }
+        ensures few { IfOk result (λ found. length found.items ≤ most_sides) }
+    {
+        match self.scene.facing(self.ends.r) {
+            Some(sides) => self.reflected_by_facing(sides, near),
+            None => self.reflected_by_any(near),
+        }
+    }
+
+    /// All paths by way of walls, of the sides that may reflect to the receiver. Most of them mirror no source there, and
+    /// nothing else is asked of those.
+    fn reflected_by_facing(
+        &self,
+        sides: &[FacingSide],
+        near: &mut Found,
+    ) -> Result<Vec<Reflected>, NoMemory>
+        requires source { self.now.from.now.h ≡ self.now.ends.hs }
+        requires receiver { self.now.to.now ≡ self.now.ends.hr }
+        requires source_height { IsHeight self.now.ends.hs }
+        requires receiver_height { IsHeight self.now.ends.hr }
+        requires facing { sides.now ≡ facing_sides self.now.ends.r self.now.scene.now.obstacles }
+        ensures value { IfOk result (λ found. let book = self.now.scene.now in found.items
+            ≡ map (reflected_of book.globals self.now.from.now self.now.ends)
+            (reflected_paths book self.now.ends)) }
+        ensures few { IfOk result (λ found. length found.items ≤ most_sides) }
+    {
+        let obstacles = self.scene.obstacles();
+        let mut found = Vec::new(self.alloc);
+        for facing in sides {
+            if facing.may_mirror(self.ends.s) {
+                let wall = facing.owned();
+                let obstacle = &obstacles[wall.obstacle as usize];
+                self.add_side(&mut found, obstacle, wall.index, wall.side, near)?;
+            }
+        }
+        Ok(found)
+    }
+
+    /// All paths by way of walls, of all obstacles. Those that don't reflect are passed over.
+    fn reflected_by_any(&self, near: &mut Found) -> Result<Vec<Reflected>, NoMemory>
         requires source { self.now.from.now.h ≡ self.now.ends.hs }
         requires receiver { self.now.to.now ≡ self.now.ends.hr }
         requires source_height { IsHeight self.now.ends.hs }

@@ -33,7 +33,7 @@ record IsOf (book : Book) (r : Receiver) (keeps : List Bundle) (marks : List Boo
 row-is : (g : Over) (c : After-of-renewal g)
     → IsOf c.self.inside.scene.value c.self.inside.receiver c.self.inside.kept.items c.self.inside.marks.items c.of-renewal.result
 row-is g c = record {
-  scene = c.of-renewal.ensures.scene ∙ c.indexed-scene.ensures ∙ scene-is g c;
+  scene = c.of-renewal.ensures.scene ∙ c.indexed_beside-scene.ensures ∙ scene-is g c;
   receiver = c.of-renewal.ensures.receiver ∙ c.in_ok-receiver.ensures;
   kept = c.of-renewal.ensures.kept ∙ c.deref-3.ensures.value;
   marked = c.of-renewal.ensures.marks ∙ c.deref-4.ensures.value;

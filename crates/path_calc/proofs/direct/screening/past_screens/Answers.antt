@@ -1,6 +1,6 @@
 use Rattle.std.proofs.Common.{refl}
 use Rattle.path_calc.proofs.Bounds.{screened-within, small}
-use Rattle.path_calc.proofs.energies.hearing.past_screens.Goals as goal
+use Rattle.path_calc.proofs.direct.screening.past_screens.Goals as goal
 
 pub minus-requires-clause-first : goal.minus-requires-clause-first
 minus-requires-clause-first c = small _ _ c.args.level c.requires.level refl
