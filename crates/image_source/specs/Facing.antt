@@ -25,8 +25,8 @@ abbrev pub may_reflect_to : Pt → Obstacle → Side → Bool
 may_reflect_to at o side =
     not (o.rho == 0) && (not (int_eq (orient_of side.from side.to at) (pos 0)) && faces o.shape o.points side at)
 
--- a side may mirror what is at s to what is at r: both are strictly on one side of its line, and the specular point lies
--- strictly between its ends. Of a path heights are left out
+-- a side may mirror what is at s to what is at r: both are strictly on one side of its line, and the specular point
+-- lies strictly between its ends. Of a path heights are left out
 abbrev pub may_mirror : Side → Pt → Pt → Bool
 may_mirror side s r =
     are_on_one_side side s r && strikes side (record { s = s; hs = 0; r = r; hr = 0 }) (specular side s r)

@@ -42,8 +42,8 @@ abbrev pub is_passed : ℤ → ℤ → ℤ → Bool
 is_passed source receiver end =
     if int_le source (pos 0) then int_le receiver (pos 0) else (int_le end source && int_le end receiver)
 
--- where a place lies to a side: how far off its line, how far along it, and how far along it the side ends, all times its
--- length. 64 bits hold them
+-- where a place lies to a side: how far off its line, how far along it, and how far along it the side ends, all times
+-- its length. 64 bits hold them
 pub record IsPlaced (side : Side) (at : Pt) (off ahead end : ℤ) : Type 0 where
   pub off_line : off ≡ orient_of side.from side.to at
   pub along : ahead ≡ ahead_of side at

@@ -17,6 +17,7 @@ use Rattle.term_ground.specs.inner.Extents.{regional_of, AreSections}
 use Rattle.term_ground.specs.inner.Walks.{advanced, nothing, stretches_of}
 use Rattle.term_ground.specs.inner.Widths.{widths_of}
 
+-- a line from s to r that stands for a direct path: the regions and their widths are those of the path's stretches
 pub record IsLine (line : Line) (path : Path) : Type 0 where
   pub s_is : line.s ≡ path.s
   pub legs_are : path.legs ≡ One (direct line.s line.r)
