@@ -84,7 +84,8 @@ pub(crate) fn root_down(n: u128) -> u64
     }
 }
 
-/// The root of a number, rounded up. It is found soonest where it isn't far above `near`, which may be any number.
+/// The root of a number, rounded up. It is found soonest where it is at most two above `near`, which may be any number, and
+/// soon where it isn't far above.
 pub(crate) fn root_up(n: u128, near: u64) -> u128
     ensures value { result ≡ ceil_root n }
     ensures limited { result ≤ 2 ^ 64 }
@@ -92,6 +93,21 @@ pub(crate) fn root_up(n: u128, near: u64) -> u128
     let start = u128::from(near);
     match n.checked_sub(start * start) {
         Some(0) => start,
+        Some(rest) if rest <= 2 * start + 1 => start + 1,
+        Some(rest) if rest <= 4 * start + 4 => start + 2,
+        _ => root_beyond(n, near),
+    }
+}
+
+/// The root of a number, rounded up. It is found soonest where it isn't far above `near`, which may be any number. Callers
+/// seldom ask for it, so that it isn't put into them.
+#[inline(never)]
+fn root_beyond(n: u128, near: u64) -> u128
+    ensures value { result ≡ ceil_root n }
+    ensures limited { result ≤ 2 ^ 64 }
+{
+    let start = u128::from(near);
+    match n.checked_sub(start * start) {
         Some(rest) if rest <= WORD => root_above(n, steps_on(near, rest as u64)),
         _ => rounded_up(n),
     }
