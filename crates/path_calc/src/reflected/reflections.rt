@@ -34,7 +34,9 @@ use std::alloc::Global;
 
 impl<'a> Between<'a> {
     /// All paths by way of walls, in the order of obstacles and sides. Where the sides that may reflect to the receiver are
-    /// listed, no other is looked at. The buffers are lent to the searches of what stands near their legs.
+    /// listed, no other is looked at. The buffers are lent to the searches of what stands near their legs. It is put into its
+    /// caller, since there is nothing to reflect in the open.
+    #[inline(always)]
     pub(crate) fn reflected(&self, near: &mut Found) -> Result<Vec<Reflected>, NoMemory>
         requires source { self.now.from.now.h ≡ self.now.ends.hs }
         requires receiver { self.now.to.now ≡ self.now.ends.hr }
@@ -45,6 +47,9 @@ impl<'a> Between<'a> {
             (reflected_paths book self.now.ends)) }
         ensures few { IfOk result (λ found. length found.items ≤ most_sides) }
     {
+        if self.scene.obstacles().is_empty() {
+            return Ok(Vec::new(self.alloc));
+        }
         match self.scene.facing(self.ends.r) {
             Some(sides) => self.reflected_by_facing(sides, near),
             None => self.reflected_by_any(near),
