@@ -62,12 +62,19 @@ second-false true b h = sym h
 second-false false b h = refl
 
 -- nothing is mirrored by a side that both places are passed
-pub passed-none : (side : Side) (s r : Pt) (source receiver end : ℤ) → source ≡ ahead side s → receiver ≡ ahead side r → end ≡ pos (squared_length side)
+passed-beside : (side : Side) (s r : Pt) (source receiver end : ℤ) → source ≡ ahead side s → receiver ≡ ahead side r → end ≡ pos (squared_length side)
     → are_on_one_side side s r ≡ true → is_passed source receiver end ≡ true → false ≡ may_mirror side s r
-passed-none side s r source receiver end source-is receiver-is end-is beside passed =
+passed-beside side s r source receiver end source-is receiver-is end-is beside passed =
     let here : is_passed (ahead side s) (ahead side r) (pos (squared_length side)) ≡ true = rw (source-is, receiver-is, end-is) at passed in
     second-false (are_on_one_side side s r) (strikes side (low_path s r) (specular side s r))
     (unstruck side (low_path s r) beside (passed-unstruck side (low_path s r) (passed-either (ahead side s) (ahead side r) (pos (squared_length side)) here)))
+
+pub passed-none : (side : Side) (s r : Pt) (source receiver end : ℤ) → source ≡ ahead side s → receiver ≡ ahead side r → end ≡ pos (squared_length side)
+    → is_passed source receiver end ≡ true → false ≡ may_mirror side s r
+passed-none side s r source receiver end source-is receiver-is end-is passed = by (are_on_one_side side s r) refl where
+  by : (test : Bool) → are_on_one_side side s r ≡ test → false ≡ may_mirror side s r
+  by true e = passed-beside side s r source receiver end source-is receiver-is end-is e passed
+  by false e = sym (ap (λ (b : Bool). b && strikes side (low_path s r) (specular side s r)) e)
 
 -- where a path strikes the line of a side, of numbers that aren't divided
 even-is : (a b : ℤ) (n m : ℕ) → a *ℤ pos (n + m) +ℤ pos n *ℤ (b -ℤ a) ≡ a *ℤ pos m +ℤ b *ℤ pos n

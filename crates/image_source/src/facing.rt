@@ -66,17 +66,18 @@ impl FacingSide {
     }
 
     /// Whether the side may mirror a source at a place to what is at its own place, whatever the heights: both are strictly on
-    /// one side of its line, and the specular point is strictly between its ends. Most sides fail in 64 bits.
+    /// one side of its line, and the specular point is strictly between its ends. Most sides fail in 64 bits: what most fail by,
+    /// that both places lie before the side or both behind it, is asked first.
     pub fn may_mirror(&self, s: Pt) -> bool
         ensures { result ≡ form.may_mirror self.now.owned.side s self.now.at }
     {
         let side = self.owned.side;
-        let off = off_line(side, s);
-        if !one_sign(off, self.off) {
-            return false;
-        }
         let source = ahead(side, s);
         if is_passed(source, self.ahead, self.end) {
+            return false;
+        }
+        let off = off_line(side, s);
+        if !one_sign(off, self.off) {
             return false;
         }
         strikes(source, off.abs(), self.ahead, self.off.abs(), self.end)

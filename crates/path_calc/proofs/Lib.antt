@@ -9,6 +9,7 @@ pub mod Reflecting
 pub mod Adding
 pub mod Sound
 pub mod Losing
+pub mod Measuring
 pub mod Showing
 pub mod SameScreening
 pub mod Screened

@@ -4,7 +4,7 @@ ghost use Rattle.scene_parts.specs.Ranges.{IsHeight};
 ghost use Rattle.sight_cut.specs.Cuts.{crossings_of};
 ghost use Rattle.path_calc.specs.inner.Ranges.{IsOnMap, IsLateralScreening};
 ghost use Rattle.scene_geom.specs.Bands.{all_bands};
-ghost use Rattle.path_calc.specs.inner.Strings.{AreStretched, lateral_of, both_of, d_z_over, numbers_in};
+ghost use Rattle.path_calc.specs.inner.Strings.{AreStretched, AreMeasured, lateral_of, both_of, d_z_over, numbers_in};
 ghost use Rattle.path_calc.specs.inner.Tracing.{segments_after, segments_in_band};
 
 pub(crate) mod blocked;
@@ -30,12 +30,12 @@ pub(crate) struct LateralScreening {
 /// What all bands share of a line of sight: the scene, the ends, the crossings, and how far source and receiver are
 /// apart in metres.
 #[derive(Drop)]
-struct Sight<'a> {
-    alloc: Global,
-    scene: &'a IndexedScene<'a>,
-    ends: Ends,
-    crossings: &'a [Crossing],
-    d: Iv,
+pub(crate) struct Sight<'a> {
+    pub(crate) alloc: Global,
+    pub(crate) scene: &'a IndexedScene<'a>,
+    pub(crate) ends: Ends,
+    pub(crate) crossings: &'a [Crossing],
+    pub(crate) d: Iv,
 }
 
 impl<'a> Sight<'a> {
@@ -52,9 +52,11 @@ impl<'a> Sight<'a> {
         requires receiver_height { IsHeight self.now.ends.hr }
         requires distance { IsOnMap self.now.d }
         requires strings { AreStretched strings.old self.now.ends self.now.scene.now.obstacles }
+        requires measured { AreMeasured strings.old self.now.ends self.now.d }
         requires crossings { self.now.crossings.now
             ≡ crossings_of self.now.ends self.now.scene.now.obstacles }
         ensures strings { OnOk result (AreStretched strings.new self.now.ends self.now.scene.now.obstacles) }
+        ensures measured { OnOk result (AreMeasured strings.new self.now.ends self.now.d) }
         ensures numbers { OnOk result
             (strings.new.numbers.items ≡ numbers_in band (crossings_of self.now.ends self.now.scene.now.obstacles)) }
         ensures trace { OnOk result (trace.new ≡ trace.old
@@ -63,9 +65,8 @@ impl<'a> Sight<'a> {
             ≡ d_z_over self.now.ends self.now.scene.now.obstacles self.now.d band) }
         ensures bounds { IfOk result IsLateralScreening }
     {
-        let (alloc, scene, ends) = (self.alloc, self.scene, self.ends);
-        strings.turn_to(alloc, scene, ends, self.crossings, band, found, trace)?;
-        Ok(strings.d_z(self.ends, self.d, band))
+        strings.turn_to(self, band, found, trace)?;
+        Ok(strings.d_z(band))
     }
 
     /// D_z round the sides in each band. Bands in which the same obstacles screen share their strings. The segments of all

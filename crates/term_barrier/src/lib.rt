@@ -12,5 +12,5 @@ mod single;
 mod top;
 
 pub use screens::Screens;
-pub use sides::d_z_side;
+pub use sides::{RoundSides, d_z_side};
 pub use top::{a_bar, d_z_top};

@@ -1,7 +1,7 @@
 -- What stands between the code and the definition of lateral paths: the obstacles that screen by their numbers, the
 -- strings round them, each with the bands in which an obstacle is in its way, and D_z along each.
 use Rattle.std.specs.List.{list_any}
-use Rattle.std.specs.Prelude.{◌≡◌, ℕ, Bool, true, false, not, ◌&&◌, ◌==◌, List, [], ◌∷◌, ◌++◌, map, filter, flat_map, Option, Some, None, slice_get, slice_index_or, if◌then◌else◌}
+use Rattle.std.specs.Prelude.{◌≡◌, ℕ, Bool, true, false, not, ◌&&◌, ◌==◌, List, [], ◌∷◌, ◌++◌, map, filter, flat_map, Option, Some, None, slice_get, slice_index_or, if◌then◌else◌, ◌<◌, length, IfSome, IfNone}
 use Rattle.fix_interval.specs.Interval.{Interval}
 use Rattle.fix_interval.specs.Tree.{Known, enc}
 use Rattle.scene_geom.specs.declared.plan.Pt.{Pt}
@@ -16,7 +16,8 @@ use Rattle.scene_parts.specs.Crossings.{is_crossing_in}
 use Rattle.edge_chain.specs.declared.hand.Hand.{Hand}
 use Rattle.edge_chain.specs.declared.hand.Hand.TheVariants.{Left, Right}
 use Rattle.edge_chain.specs.Chain.{chain_of}
-use Rattle.term_barrier.specs.Lateral.{side_attenuation}
+use Rattle.term_barrier.specs.Lateral.{in_band, side_attenuation}
+use Rattle.term_barrier.specs.Limits.{IsScreening}
 use Rattle.path_calc.specs.declared.lateral.strings.Stretched.{Stretched}
 use Rattle.path_calc.specs.declared.lateral.strings.Strings.{Strings}
 use Rattle.path_calc.specs.declared.lateral.LateralScreening.{LateralScreening}
@@ -81,6 +82,19 @@ pub record IsStretched (string : Stretched) (ends : Ends) (obstacles : List Obst
 pub record AreStretched (strings : Strings) (ends : Ends) (obstacles : List Obstacle) : Type 0 where
   pub left : IsStretched strings.left ends obstacles (corners_at obstacles strings.numbers.items) Left
   pub right : IsStretched strings.right ends obstacles (corners_at obstacles strings.numbers.items) Right
+
+-- what the bands share of the way round the corners of a string, over a distance d, gives D_z in each band; there is none
+-- where the string turns nowhere
+pub record IsMeasured (string : Stretched) (ends : Ends) (d : Interval) : Type 0 where
+  pub turns : IfSome string.way (λ way. 0 < length string.corners.items)
+  pub values : IfSome string.way (λ way. (band : Band) → in_band way band
+      ≡ enc (side_attenuation ends.s ends.hs ends.r ends.hr string.corners.items (Known d) band))
+  pub bounds : IfSome string.way (λ way. (band : Band) → IsScreening (in_band way band))
+  pub none : IfNone string.way (string.corners.items ≡ [])
+
+pub record AreMeasured (strings : Strings) (ends : Ends) (d : Interval) : Type 0 where
+  pub left : IsMeasured strings.left ends d
+  pub right : IsMeasured strings.right ends d
 
 -- ---- D_z
 

@@ -1,27 +1,29 @@
 //! Strings that are stretched round the sides of what screens (ISO 9613-2, 7.4, equation 13).
-ghost use Rattle.std.specs.Prelude.{◌≡◌, [], ◌++◌, List, IfOk, OnOk, IfSome};
+ghost use Rattle.std.specs.Prelude.{◌≡◌, ◌<◌, [], ◌++◌, List, length, IfOk, OnOk, IfSome};
 ghost use Rattle.std.specs.Bool.{OnTrue};
 ghost use Rattle.std.specs.List.{list_any};
+ghost use Rattle.fix_interval.specs.Interval.{Interval};
+ghost use Rattle.fix_interval.specs.Tree.{Known, enc};
 ghost use Rattle.scene_parts.specs.Ranges.{IsHeight};
 ghost use Rattle.scene_parts.specs.Views.{Obstacle as ObstacleView};
+ghost use Rattle.term_barrier.specs.Lateral.{in_band, side_attenuation};
 ghost use Rattle.term_barrier.specs.Limits.{IsScreening};
 ghost use Rattle.path_calc.specs.inner.Ranges.{IsOnMap, IsShort, IsLateralScreening};
-ghost use Rattle.path_calc.specs.inner.Strings.{numbers_in as numbers_of, IsStretched, AreStretched};
+ghost use Rattle.path_calc.specs.inner.Strings.{numbers_in as numbers_of, IsStretched, AreStretched, IsMeasured, AreMeasured};
 ghost use Rattle.path_calc.specs.Trace.{string_segments};
 ghost use Rattle.path_calc.specs.inner.Tracing.{same_numbers, segments_between};
 ghost use Rattle.path_calc.specs.inner.Strings.{is_within, leads_along, d_z_round, lateral_in};
 
 use crate::bundles::segments::{Seg, Segs};
-use crate::indexed::IndexedScene;
-use crate::lateral::LateralScreening;
 use crate::lateral::screening_obstacles::{corners_at, numbers_in};
+use crate::lateral::{LateralScreening, Sight};
 use edge_chain::{Hand, chain};
 use fix_interval::Iv;
 use part_grid::Found;
 use scene_geom::{Band, Pt};
-use scene_parts::{Breadth, Crossing, Ends, NoMemory};
+use scene_parts::{Breadth, Ends, NoMemory};
 use std::alloc::Global;
-use term_barrier::d_z_side;
+use term_barrier::RoundSides;
 
 /// The strings round the obstacles of some numbers, on the left and the right hand of a line of sight.
 #[derive(Drop)]
@@ -32,11 +34,13 @@ pub(crate) struct Strings {
 }
 
 /// The corners at which a string turns, and how broad the obstacles are that its way would lead through: in the bands in
-/// which one of them is large enough, sound doesn't go along it.
+/// which one of them is large enough, sound doesn't go along it. Where it turns, what the bands share of the way round its
+/// corners stands beside them.
 #[derive(Drop)]
 pub(crate) struct Stretched {
     pub(crate) corners: Vec<Pt>,
     pub(crate) blocking: Vec<Breadth>,
+    pub(crate) way: Option<RoundSides>,
 }
 
 impl Strings {
@@ -45,6 +49,7 @@ impl Strings {
         ensures numbers { result.numbers.items ≡ [] }
         ensures stretched { (ends : Ends) (obstacles : List ObstacleView)
             → AreStretched result ends obstacles }
+        ensures measured { (ends : Ends) (d : Interval) → AreMeasured result ends d }
     {
         Strings {
             numbers: Vec::new(alloc),
@@ -53,21 +58,20 @@ impl Strings {
         }
     }
 
-    /// The strings round the obstacles of these numbers.
-    fn round(
-        alloc: Global,
-        scene: &IndexedScene<'_>,
-        ends: Ends,
-        numbers: Vec<u32>,
-        found: &mut Found,
-    ) -> Result<Strings, NoMemory>
+    /// The strings round the obstacles of these numbers, along a line of sight.
+    fn round(sight: &Sight<'_>, numbers: Vec<u32>, found: &mut Found) -> Result<Strings, NoMemory>
+        requires source_height { IsHeight sight.now.ends.hs }
+        requires receiver_height { IsHeight sight.now.ends.hr }
+        requires distance { IsOnMap sight.now.d }
         ensures numbers { IfOk result (λ strings. strings.numbers.items ≡ numbers.items) }
-        ensures stretched { IfOk result (λ strings. AreStretched strings ends scene.now.obstacles) }
+        ensures stretched { IfOk result
+            (λ strings. AreStretched strings sight.now.ends sight.now.scene.now.obstacles) }
+        ensures measured { IfOk result (λ strings. AreMeasured strings sight.now.ends sight.now.d) }
     {
-        let points = corners_at(alloc, scene.obstacles(), numbers.as_slice())?;
+        let points = corners_at(sight.alloc, sight.scene.obstacles(), numbers.as_slice())?;
         let points = points.as_slice();
-        let left = Stretched::round(alloc, scene, ends, points, Hand::Left, found)?;
-        let right = Stretched::round(alloc, scene, ends, points, Hand::Right, found)?;
+        let left = Stretched::round(sight, points, Hand::Left, found)?;
+        let right = Stretched::round(sight, points, Hand::Right, found)?;
         Ok(Strings {
             numbers,
             left,
@@ -75,28 +79,31 @@ impl Strings {
         })
     }
 
-    /// The strings in another band, with these crossings: they stay where the same obstacles screen there. Else others are
+    /// The strings along a line of sight in another band: they stay where the same obstacles screen there. Else others are
     /// stretched, and their segments are added to the trace. The buffers are lent to the search of what stands near them.
     pub(crate) fn turn_to(
         &mut self,
-        alloc: Global,
-        scene: &IndexedScene<'_>,
-        ends: Ends,
-        crossings: &[Crossing],
+        sight: &Sight<'_>,
         band: Band,
         found: &mut Found,
         trace: &mut Segs,
     ) -> Result<(), NoMemory>
-        requires { AreStretched self.old ends scene.now.obstacles }
-        ensures numbers { OnOk result (self.new.numbers.items ≡ numbers_of band crossings.now) }
-        ensures stretched { OnOk result (AreStretched self.new ends scene.now.obstacles) }
+        requires source_height { IsHeight sight.now.ends.hs }
+        requires receiver_height { IsHeight sight.now.ends.hr }
+        requires distance { IsOnMap sight.now.d }
+        requires stretched { AreStretched self.old sight.now.ends sight.now.scene.now.obstacles }
+        requires measured { AreMeasured self.old sight.now.ends sight.now.d }
+        ensures numbers { OnOk result (self.new.numbers.items ≡ numbers_of band sight.now.crossings.now) }
+        ensures stretched { OnOk result
+            (AreStretched self.new sight.now.ends sight.now.scene.now.obstacles) }
+        ensures measured { OnOk result (AreMeasured self.new sight.now.ends sight.now.d) }
         ensures trace { OnOk result (trace.new ≡ trace.old
-            ++ segments_between ends self.old.numbers.items self.new) }
+            ++ segments_between sight.now.ends self.old.numbers.items self.new) }
     {
-        let numbers = numbers_in(alloc, crossings, band)?;
+        let numbers = numbers_in(sight.alloc, sight.crossings, band)?;
         if !are_same(numbers.as_slice(), self.numbers.as_slice()) {
-            *self = Strings::round(alloc, scene, ends, numbers, found)?;
-            self.add_to(trace, ends)?;
+            *self = Strings::round(sight, numbers, found)?;
+            self.add_to(trace, sight.ends)?;
         }
         Ok(())
     }
@@ -110,19 +117,16 @@ impl Strings {
         self.right.add_to(trace, ends)
     }
 
-    /// D_z in dB along both strings in a band, over a distance `d` of source and receiver in metres.
-    pub(crate) fn d_z(&self, ends: Ends, d: Iv, band: Band) -> LateralScreening
-        requires source_height { IsHeight ends.hs }
-        requires receiver_height { IsHeight ends.hr }
-        requires distance { IsOnMap d }
-        requires left { IsShort self.now.left.corners.items }
-        requires right { IsShort self.now.right.corners.items }
-        ensures value { result ≡ lateral_in self.now ends d band }
-        ensures bounds { IsLateralScreening result }
+    /// D_z in dB along both strings in a band, over the distance for which they are measured.
+    pub(crate) fn d_z(&self, band: Band) -> LateralScreening
+        ensures value { (ends : Ends) (d : Interval) → AreMeasured self.now ends d
+            → result ≡ lateral_in self.now ends d band }
+        ensures bounds { (ends : Ends) (d : Interval) → AreMeasured self.now ends d
+            → IsLateralScreening result }
     {
         LateralScreening {
-            left: self.left.d_z(ends, d, band),
-            right: self.right.d_z(ends, d, band),
+            left: self.left.d_z(band),
+            right: self.right.d_z(band),
         }
     }
 }
@@ -130,32 +134,45 @@ impl Strings {
 impl Stretched {
     /// The string round no corner.
     fn none(alloc: Global) -> Stretched
-        ensures { (ends : Ends) (obstacles : List ObstacleView) (hand : Hand)
+        ensures stretched { (ends : Ends) (obstacles : List ObstacleView) (hand : Hand)
             → IsStretched result ends obstacles [] hand }
+        ensures measured { (ends : Ends) (d : Interval) → IsMeasured result ends d }
     {
         Stretched {
             corners: Vec::new(alloc),
             blocking: Vec::new(alloc),
+            way: None,
         }
     }
 
-    /// The string round some points on a hand.
+    /// The string round some points on a hand of a line of sight.
     fn round(
-        alloc: Global,
-        scene: &IndexedScene<'_>,
-        ends: Ends,
+        sight: &Sight<'_>,
         points: &[Pt],
         hand: Hand,
         found: &mut Found,
     ) -> Result<Stretched, NoMemory>
-        ensures { IfOk result (λ string. IsStretched string ends scene.now.obstacles points.now hand) }
+        requires source_height { IsHeight sight.now.ends.hs }
+        requires receiver_height { IsHeight sight.now.ends.hr }
+        requires distance { IsOnMap sight.now.d }
+        ensures stretched { IfOk result (λ string.
+            IsStretched string sight.now.ends sight.now.scene.now.obstacles points.now hand) }
+        ensures measured { IfOk result (λ string. IsMeasured string sight.now.ends sight.now.d) }
     {
+        let (alloc, ends) = (sight.alloc, sight.ends);
         let corners = chain(alloc, points, ends.s, ends.r, hand)?;
         if corners.as_slice().is_empty() {
             return Ok(Stretched::none(alloc));
         }
-        let blocking = scene.blocking(alloc, ends, corners.as_slice(), found)?;
-        Ok(Stretched { corners, blocking })
+        let blocking = sight
+            .scene
+            .blocking(alloc, ends, corners.as_slice(), found)?;
+        let way = way_round(ends, corners.as_slice(), sight.d);
+        Ok(Stretched {
+            corners,
+            blocking,
+            way: Some(way),
+        })
     }
 
     /// Adds the segments of the string to a trace, of which a string without corners has none.
@@ -174,22 +191,33 @@ impl Stretched {
         Ok(())
     }
 
-    /// D_z in dB along the string in a band, where sound goes along it, over a distance `d` of source and receiver in
-    /// metres.
-    pub(crate) fn d_z(&self, ends: Ends, d: Iv, band: Band) -> Option<Iv>
-        requires source_height { IsHeight ends.hs }
-        requires receiver_height { IsHeight ends.hr }
-        requires distance { IsOnMap d }
-        requires short { IsShort self.now.corners.items }
-        ensures value { result ≡ d_z_round ends self.now.corners.items d band (leads_along self.now band) }
-        ensures bounds { IfSome result IsScreening }
+    /// D_z in dB along the string in a band, where sound goes along it, over the distance for which it is measured.
+    pub(crate) fn d_z(&self, band: Band) -> Option<Iv>
+        ensures value { (ends : Ends) (d : Interval) → IsMeasured self.now ends d
+            → result ≡ d_z_round ends self.now.corners.items d band (leads_along self.now band) }
+        ensures bounds { (ends : Ends) (d : Interval) → IsMeasured self.now ends d
+            → IfSome result IsScreening }
     {
-        if self.corners.is_empty() || is_any_within(self.blocking.as_slice(), band) {
+        if is_any_within(self.blocking.as_slice(), band) {
             return None;
         }
-        let corners = self.corners.as_slice();
-        Some(d_z_side(ends.s, ends.hs, ends.r, ends.hr, corners, d, band))
+        let way = self.way.as_ref()?;
+        Some(way.d_z(band))
     }
+}
+
+/// What the bands share of the way round some corners, where source and receiver are `d` apart in metres.
+fn way_round(ends: Ends, corners: &[Pt], d: Iv) -> RoundSides
+    requires source_height { IsHeight ends.hs }
+    requires receiver_height { IsHeight ends.hr }
+    requires distance { IsOnMap d }
+    requires turns { 0 < length corners.now }
+    requires short { IsShort corners.now }
+    ensures values { (band : Band) → in_band result band
+        ≡ enc (side_attenuation ends.s ends.hs ends.r ends.hr corners.now (Known d) band) }
+    ensures bounds { (band : Band) → IsScreening (in_band result band) }
+{
+    RoundSides::of(ends.s, ends.hs, ends.r, ends.hr, corners, d)
 }
 
 /// Whether two lists of numbers are the same.

@@ -7,13 +7,13 @@ use Rattle.image_source.specs.inner.Facing.{strikes_by}
 use Rattle.image_source.proofs.Even.{still-short}
 use Rattle.image_source.proofs.Listing.{passed-none, struck-is}
 use Rattle.image_source.proofs.facing.FacingSide.may_mirror.Goals as goal
-use Rattle.image_source.proofs.facing.FacingSide.may_mirror.Goals.{After-ahead-source, After-abs-2}
+use Rattle.image_source.proofs.facing.FacingSide.may_mirror.Goals.{After-abs-2}
 
 -- both places are on one side of the line
 signs-same : (a b a' b' : ℤ) → a ≡ a' → b ≡ b' → have_one_sign a b ≡ have_one_sign a' b'
 signs-same a b a' b' e f = rw (e, f) refl
 
-on-one-side : (c : After-ahead-source) → are_on_one_side c.self.inside.owned.side c.args.s c.self.inside.at ≡ true
+on-one-side : (c : After-abs-2) → are_on_one_side c.self.inside.owned.side c.args.s c.self.inside.at ≡ true
 on-one-side c =
     sym (c.one_sign.ensures ∙ signs-same _ _ _ _ (still-short c.off_line-off.result c.off_line-off.ensures.within ∙ c.off_line-off.ensures.value) (still-short c.self.inside.off c.self.invariant.off_within ∙ c.self.invariant.off_line))
     ∙ c.if-not-one_sign.false
@@ -27,7 +27,7 @@ returns-then-is_passed c =
     (still-short c.ahead-source.result c.ahead-source.ensures.within ∙ c.ahead-source.ensures.value)
     (still-short inside.ahead inv.along_within ∙ inv.along)
     (still-short inside.end inv.whole_within ∙ inv.whole)
-    (on-one-side (goal.at.returns-then-is_passed c).After-ahead-source) (sym c.is_passed.ensures ∙ c.if-is_passed.true))
+    (sym c.is_passed.ensures ∙ c.if-is_passed.true))
 
 -- distances from the line as the code has them
 few : (x a : ℤ) → unsigned_abs a ≤ 128000000000000 → x ≡ pos (unsigned_abs a) → unsigned_abs x ≤ 128000000000000
@@ -68,4 +68,4 @@ returns c =
     (still-short inside.ahead inv.along_within ∙ inv.along)
     (still-short c.abs-2.result (behind-few at) ∙ c.abs-2.ensures.value ∙ ap (λ (z : ℤ). pos (unsigned_abs z)) (still-short inside.off inv.off_within ∙ inv.off_line))
     (still-short inside.end inv.whole_within ∙ inv.whole)
-    ∙ struck-is inside.owned.side c.args.s inside.at (on-one-side (goal.at.returns c).After-ahead-source))
+    ∙ struck-is inside.owned.side c.args.s inside.at (on-one-side at))

@@ -156,3 +156,27 @@ returns-clause-bounds c =
     (all-eight IsLateralScreening _ _ _ _ _ _ _ _
     c.in_ok-at_63.ensures.bounds c.in_ok-at_125.ensures.bounds c.in_ok-at_250.ensures.bounds c.in_ok-at_500.ensures.bounds
     c.in_ok-at_1000.ensures.bounds c.in_ok-at_2000.ensures.bounds c.in_ok-at_4000.ensures.bounds c.in_ok-at_8000.ensures.bounds)
+
+pub d_z_in-requires-clause-measured : goal.d_z_in-requires-clause-measured
+d_z_in-requires-clause-measured c = c.none-strings.ensures.measured c.args.self.now.ends c.args.self.now.d
+
+pub d_z_in-requires-2-clause-measured : goal.d_z_in-requires-2-clause-measured
+d_z_in-requires-2-clause-measured c = c.in_ok-at_63.ensures.measured
+
+pub d_z_in-requires-3-clause-measured : goal.d_z_in-requires-3-clause-measured
+d_z_in-requires-3-clause-measured c = c.in_ok-at_125.ensures.measured
+
+pub d_z_in-requires-4-clause-measured : goal.d_z_in-requires-4-clause-measured
+d_z_in-requires-4-clause-measured c = c.in_ok-at_250.ensures.measured
+
+pub d_z_in-requires-5-clause-measured : goal.d_z_in-requires-5-clause-measured
+d_z_in-requires-5-clause-measured c = c.in_ok-at_500.ensures.measured
+
+pub d_z_in-requires-6-clause-measured : goal.d_z_in-requires-6-clause-measured
+d_z_in-requires-6-clause-measured c = c.in_ok-at_1000.ensures.measured
+
+pub d_z_in-requires-7-clause-measured : goal.d_z_in-requires-7-clause-measured
+d_z_in-requires-7-clause-measured c = c.in_ok-at_2000.ensures.measured
+
+pub d_z_in-requires-8-clause-measured : goal.d_z_in-requires-8-clause-measured
+d_z_in-requires-8-clause-measured c = c.in_ok-at_4000.ensures.measured

@@ -8,7 +8,7 @@ use Rattle.path_calc.proofs.lateral.Sight.d_z_in.Goals as goal
 
 pub returns-clause-value : goal.returns-clause-value
 returns-clause-value c =
-    ap both_of c.d_z.ensures.value
+    ap both_of (c.d_z.ensures.value c.args.self.now.ends c.args.self.now.d c.in_ok-turn_to.ensures.measured)
     ∙ both-are _ c.args.self.now.ends c.args.self.now.scene.now.obstacles c.args.self.now.d c.args.band c.in_ok-turn_to.ensures.stretched
     (c.in_ok-turn_to.ensures.numbers ∙ ap (λ (cs : List Crossing). numbers_in c.args.band cs) c.requires.crossings)
 
@@ -18,3 +18,6 @@ returns-clause-trace c =
     ∙ ap (λ (l : List Seg). c.args.trace.now ++ l)
     (strings-added _ c.args.self.now.ends c.args.self.now.scene.now.obstacles c.args.band c.args.strings.now.numbers.items c.in_ok-turn_to.ensures.stretched
     (c.in_ok-turn_to.ensures.numbers ∙ ap (λ (cs : List Crossing). numbers_in c.args.band cs) c.requires.crossings))
+
+pub returns-clause-bounds : goal.returns-clause-bounds
+returns-clause-bounds c = c.d_z.ensures.bounds c.args.self.now.ends c.args.self.now.d c.in_ok-turn_to.ensures.measured

@@ -8,5 +8,5 @@ returns-else-not-are_same-clause-numbers c =
 
 pub returns-else-not-are_same-clause-trace : goal.returns-else-not-are_same-clause-trace
 returns-else-not-are_same-clause-trace c =
-    nothing-added c.args.ends c.args.trace.now c.args.self.now c.as_slice.result.now c.as_slice-2.result.now _
+    nothing-added c.args.sight.now.ends c.args.trace.now c.args.self.now c.as_slice.result.now c.as_slice-2.result.now _
     c.as_slice-2.ensures.value c.are_same.ensures.value (same-there _ _ _ c.are_same.ensures.same c.if-not-are_same.false) c.if-not-are_same.false
