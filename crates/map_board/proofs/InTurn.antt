@@ -28,17 +28,22 @@ module _ {A : Type 0} (touch : A → Bool) where
       let bundles : drop i bs ≡ b ∷ drop (suc i) bs = drop-cons bs i b below ∙ ap (λ x. x ∷ drop (suc i) bs) (sym is) in
       ap (λ xs. marks_of xs (drop i ms)) bundles ∙ ap (marks_of (b ∷ drop (suc i) bs)) (drop-cons ms i false inside)
 
+  pub past-set : (bs : List A) (ms all : List Bool) (i : ℕ) (b : A) (mark : Bool) → i < length bs → length ms ≡ length bs → b ≡ get_or bs i b
+      → mark ≡ (get_or ms i false || touch b) → take i ms ++ marks_of (drop i bs) (drop i ms) ≡ all
+      → take (i + 1) (set ms i mark) ++ marks_of (drop (i + 1) bs) (drop (i + 1) (set ms i mark)) ≡ all
+  past-set bs ms all i b mark below same is set_to so_far =
+      let inside : i < length ms = omega arith in
+      rw (add-one) (ap (λ xs. take (suc i) (set ms i mark) ++ marks_of (drop (suc i) bs) xs) (drop-set-lt (suc i) ms i mark (omega arith))
+      ∙ (ap (λ xs. xs ++ marks_of (drop (suc i) bs) (drop (suc i) ms)) (take-suc-set ms i mark inside)
+      ∙ (append_assoc (take i ms) (mark ∷ []) (marks_of (drop (suc i) bs) (drop (suc i) ms))
+      ∙ (ap (λ m. take i ms ++ m ∷ marks_of (drop (suc i) bs) (drop (suc i) ms)) set_to
+      ∙ (ap (λ xs. take i ms ++ xs) (sym (here-at bs ms i b below same is)) ∙ so_far)))))
+
   pub past-touched : (bs : List A) (ms all : List Bool) (i : ℕ) (b : A) → i < length bs → length ms ≡ length bs → b ≡ get_or bs i b → touch b ≡ true
       → take i ms ++ marks_of (drop i bs) (drop i ms) ≡ all
       → take (i + 1) (set ms i true) ++ marks_of (drop (i + 1) bs) (drop (i + 1) (set ms i true)) ≡ all
   past-touched bs ms all i b below same is touched so_far =
-      let inside : i < length ms = omega arith in
-      let mark : true ≡ (get_or ms i false || touch b) = or-set (get_or ms i false) (touch b) touched in
-      rw (add-one) (ap (λ xs. take (suc i) (set ms i true) ++ marks_of (drop (suc i) bs) xs) (drop-set-lt (suc i) ms i true (omega arith))
-      ∙ (ap (λ xs. xs ++ marks_of (drop (suc i) bs) (drop (suc i) ms)) (take-suc-set ms i true inside)
-      ∙ (append_assoc (take i ms) (true ∷ []) (marks_of (drop (suc i) bs) (drop (suc i) ms))
-      ∙ (ap (λ m. take i ms ++ m ∷ marks_of (drop (suc i) bs) (drop (suc i) ms)) mark
-      ∙ (ap (λ xs. take i ms ++ xs) (sym (here-at bs ms i b below same is)) ∙ so_far)))))
+      past-set bs ms all i b true below same is (or-set (get_or ms i false) (touch b) touched) so_far
 
   pub past-plain : (bs : List A) (ms all : List Bool) (i : ℕ) (b : A) → i < length bs → length ms ≡ length bs → b ≡ get_or bs i b → touch b ≡ false
       → take i ms ++ marks_of (drop i bs) (drop i ms) ≡ all

@@ -161,6 +161,10 @@ impl<'a> IndexedScene<'a> {
         ensures { IfOk result (λ crossings. crossings.items ≡ crossings_of ends self.now.obstacles) }
     {
         let obstacles = self.scene.obstacles();
+        // in the open nothing is searched for
+        if obstacles.is_empty() {
+            return Ok(Vec::new(alloc));
+        }
         match self.grid {
             Some(grid) => crossings_near(alloc, grid, obstacles, ends, found),
             None => crossings(alloc, obstacles, ends),

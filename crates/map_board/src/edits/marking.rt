@@ -2,7 +2,7 @@
 ghost use Rattle.std.specs.Prelude.{◌≡◌, ◌||◌, false, IfSome, length, map};
 ghost use Rattle.std.specs.List.{zip, list_any};
 ghost use Rattle.map_board.specs.inner.Marks as form;
-ghost use Rattle.map_board.specs.inner.Marks.{marks_after, marks_from, touches_one, TouchesFrom};
+ghost use Rattle.map_board.specs.inner.Marks.{mark_after, marks_after, marks_from, touches_one, TouchesFrom};
 ghost use Rattle.map_board.specs.inner.Paths.{counted, tests_to};
 
 use crate::rows::Cache;
@@ -11,9 +11,11 @@ use scene_book::{Edit, Logged};
 use scene_parts::{Globals, Name, Part, Receiver};
 use touch_test::{may_touch, touches};
 
-/// Marks each bundle whose path an edit touches, and gives whether there is one. The globals are those before the edit.
+/// Marks each bundle whose path an edit touches. The globals are those before the edit. Where the marks don't count, it gives
+/// whether there is one; where they do, those that are marked aren't looked at again, and what it gives tells nothing.
 pub(crate) fn mark(
     cache: &mut Cache,
+    counts: bool,
     logged: &Logged,
     globals: &Globals,
     receiver: &Receiver,
@@ -23,7 +25,7 @@ pub(crate) fn mark(
     ensures order { cache.new.order ≡ cache.old.order }
     ensures marks { cache.new.marks.items ≡ marks_after logged.now.edit logged.now.old receiver.now
         cache.old.bundles.items cache.old.marks.items }
-    ensures one { result
+    ensures one { counts ≡ false → result
         ≡ touches_one logged.now.edit logged.now.old receiver.now cache.old.bundles.items }
 {
     if cache.bundles.is_empty() {
@@ -35,17 +37,19 @@ pub(crate) fn mark(
     mark_each(
         cache.bundles.as_slice(),
         cache.marks.as_mut_slice(),
+        counts,
         logged,
         globals,
         receiver,
     )
 }
 
-/// Marks those of some bundles, and gives whether there is one. Where the edit changes a source alone, only the names of
-/// sources are looked at.
+/// Marks those of some bundles, as `mark` does. Where the edit changes a source alone, only the names of sources are looked
+/// at.
 fn mark_each(
     bundles: &[Bundle],
     marks: &mut [bool],
+    counts: bool,
     logged: &Logged,
     globals: &Globals,
     receiver: &Receiver,
@@ -53,10 +57,15 @@ fn mark_each(
     requires { length marks.old ≡ length bundles.now }
     ensures marks { marks.new
         ≡ marks_after logged.now.edit logged.now.old receiver.now bundles.now marks.old }
-    ensures one { result ≡ touches_one logged.now.edit logged.now.old receiver.now bundles.now }
+    ensures one { counts ≡ false → result
+        ≡ touches_one logged.now.edit logged.now.old receiver.now bundles.now }
 {
     if let Some(name) = source_changed(logged) {
         return mark_by_source(bundles, marks, name.items());
+    }
+    if counts {
+        mark_unmarked(bundles, marks, logged, globals, receiver);
+        return false;
     }
     let mut one = false;
     for (place, bundle) in bundles.iter().enumerate() {
@@ -66,6 +75,36 @@ fn mark_each(
         }
     }
     one
+}
+
+/// Marks those of some bundles that an edit touches, and looks only at those that aren't marked.
+fn mark_unmarked(
+    bundles: &[Bundle],
+    marks: &mut [bool],
+    logged: &Logged,
+    globals: &Globals,
+    receiver: &Receiver,
+)
+    requires { length marks.old ≡ length bundles.now }
+    ensures { marks.new
+        ≡ marks_after logged.now.edit logged.now.old receiver.now bundles.now marks.old }
+{
+    for (place, bundle) in bundles.iter().enumerate() {
+        marks[place] = mark_of(marks[place], logged, globals, bundle, receiver);
+    }
+}
+
+/// The mark of a bundle after an edit: it stays, and is set where the edit touches the bundle's path.
+fn mark_of(
+    marked: bool,
+    logged: &Logged,
+    globals: &Globals,
+    bundle: &Bundle,
+    receiver: &Receiver,
+) -> bool
+    ensures { result ≡ mark_after logged.now.edit logged.now.old receiver.now (bundle.now, marked) }
+{
+    marked || touches(logged, globals, bundle, receiver)
 }
 
 /// The name of the source that an edit puts, replaces or removes. Such an edit touches the paths from this source alone.
@@ -105,7 +144,7 @@ fn is_from(bundle: &Bundle, name: &[u8]) -> bool
 }
 
 /// Marks as `mark` does, where it may be known already which of the bundles' paths the edit touches, beside those that are
-/// marked where the marks count. Only where they don't, it is known whether it touches one.
+/// marked where the marks count.
 pub(crate) fn mark_known(
     cache: &mut Cache,
     counts: bool,
@@ -126,7 +165,7 @@ pub(crate) fn mark_known(
 {
     match tests {
         Some(tests) => mark_tested(cache.marks.as_mut_slice(), tests),
-        None => mark(cache, logged, globals, receiver),
+        None => mark(cache, counts, logged, globals, receiver),
     }
 }
 

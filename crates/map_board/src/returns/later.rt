@@ -9,7 +9,7 @@ use path_cache::Bundle;
 use scene_parts::Receiver;
 use touch_test::touches_row;
 
-/// Marks each bundle whose path one of some edits touches.
+/// Marks each bundle whose path one of some edits touches. Nobody asks which edit it is.
 pub(crate) fn mark_by_all(cache: &mut Cache, later: &[LogEntry], receiver: &Receiver)
     requires { length cache.old.marks.items ≡ length cache.old.bundles.items }
     ensures bundles { cache.new.bundles ≡ cache.old.bundles }
@@ -18,7 +18,7 @@ pub(crate) fn mark_by_all(cache: &mut Cache, later: &[LogEntry], receiver: &Rece
         cache.old.bundles.items cache.old.marks.items }
 {
     for entry in later {
-        mark(cache, &entry.logged, &entry.globals, receiver);
+        mark(cache, true, &entry.logged, &entry.globals, receiver);
     }
 }
 

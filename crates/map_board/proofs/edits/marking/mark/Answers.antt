@@ -16,7 +16,7 @@ returns-then-not-may_touch-clause-marks c =
     (sym (any-map (edit_touches logged.edit logged.old) (bundled r) cache.bundles.items) ∙ cache.tells r logged.edit logged.old (sym c.may_touch.ensures ∙ c.if-not-may_touch.true)))
 
 pub returns-then-not-may_touch-clause-one : goal.returns-then-not-may_touch-clause-one
-returns-then-not-may_touch-clause-one c =
+returns-then-not-may_touch-clause-one c _ =
     let r = c.args.receiver.now in
     let logged = c.args.logged.now in
     sym (sym (any-map (edit_touches logged.edit logged.old) (bundled r) c.args.cache.now.bundles.items)
@@ -35,7 +35,7 @@ returns-then-is_empty-clause-marks c =
     sym (marks-stay touch bundles.items c.args.cache.now.marks.items c.requires (none-here touch bundles.items none))
 
 pub returns-then-is_empty-clause-one : goal.returns-then-is_empty-clause-one
-returns-then-is_empty-clause-one c =
+returns-then-is_empty-clause-one c _ =
     let touch = λ (bundle : Bundle). edit_touches c.args.logged.now.edit c.args.logged.now.old (bundled c.args.receiver.now bundle) in
     let bundles = c.args.cache.now.bundles in
     let none : length bundles.items ≡ 0 = omega (arith, eqb-true bundles.len 0 (sym c.is_empty.ensures ∙ c.if-is_empty.true), bundles.ok.0) in

@@ -18,7 +18,7 @@ returns-in-Some-clause-marks c =
     ∙ sym (λ i. map (λ kept. kept.1 || c.in-Some.ensures (bundled r kept.0) i) (zip bundles marks))
 
 pub returns-in-Some-clause-one : goal.returns-in-Some-clause-one
-returns-in-Some-clause-one c =
+returns-in-Some-clause-one c _ =
     let r = c.args.receiver.now in
     c.mark_by_source.ensures.one
     ∙ ap (λ name. list_any (is_from name) c.args.bundles.now) c.items.ensures.value
