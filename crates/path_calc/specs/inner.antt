@@ -5,5 +5,6 @@ pub mod Losses
 pub mod BarrierAttenuations
 pub mod Propagations
 pub mod Ranges
+pub mod Ends
 pub mod Strings
 pub mod Tracing

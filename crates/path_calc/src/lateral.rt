@@ -2,6 +2,7 @@
 ghost use Rattle.std.specs.Prelude.{◌≡◌, ◌++◌, flat_map, All, IfOk, OnOk};
 ghost use Rattle.scene_parts.specs.Ranges.{IsHeight};
 ghost use Rattle.sight_cut.specs.Cuts.{crossings_of};
+ghost use Rattle.path_calc.specs.inner.Ends.{FitsSight};
 ghost use Rattle.path_calc.specs.inner.Ranges.{IsOnMap, IsLateralScreening};
 ghost use Rattle.scene_geom.specs.Bands.{all_bands};
 ghost use Rattle.path_calc.specs.inner.Strings.{AreStretched, AreMeasured, lateral_of, both_of, d_z_over, numbers_in};
@@ -48,13 +49,9 @@ impl<'a> Sight<'a> {
         found: &mut Found,
         trace: &mut Segs,
     ) -> Result<LateralScreening, NoMemory>
-        requires source_height { IsHeight self.now.ends.hs }
-        requires receiver_height { IsHeight self.now.ends.hr }
-        requires distance { IsOnMap self.now.d }
+        requires sight { FitsSight self.now }
         requires strings { AreStretched strings.old self.now.ends self.now.scene.now.obstacles }
         requires measured { AreMeasured strings.old self.now.ends self.now.d }
-        requires crossings { self.now.crossings.now
-            ≡ crossings_of self.now.ends self.now.scene.now.obstacles }
         ensures strings { OnOk result (AreStretched strings.new self.now.ends self.now.scene.now.obstacles) }
         ensures measured { OnOk result (AreMeasured strings.new self.now.ends self.now.d) }
         ensures numbers { OnOk result
@@ -72,11 +69,7 @@ impl<'a> Sight<'a> {
     /// D_z round the sides in each band. Bands in which the same obstacles screen share their strings. The segments of all
     /// strings are added to the trace.
     fn d_z(&self, found: &mut Found, trace: &mut Segs) -> Result<Vec<LateralScreening>, NoMemory>
-        requires source_height { IsHeight self.now.ends.hs }
-        requires receiver_height { IsHeight self.now.ends.hr }
-        requires distance { IsOnMap self.now.d }
-        requires crossings { self.now.crossings.now
-            ≡ crossings_of self.now.ends self.now.scene.now.obstacles }
+        requires sight { FitsSight self.now }
         ensures value { IfOk result (λ lateral. (band : Band) → both_of (lateral_of lateral.items band)
             ≡ d_z_over self.now.ends self.now.scene.now.obstacles self.now.d band) }
         ensures bounds { IfOk result (λ lateral. All IsLateralScreening lateral.items) }

@@ -8,6 +8,7 @@ ghost use Rattle.scene_parts.specs.Ranges.{IsHeight};
 ghost use Rattle.scene_parts.specs.Views.{Obstacle as ObstacleView};
 ghost use Rattle.term_barrier.specs.Lateral.{in_band, side_attenuation};
 ghost use Rattle.term_barrier.specs.Limits.{IsScreening};
+ghost use Rattle.path_calc.specs.inner.Ends.{FitsSight};
 ghost use Rattle.path_calc.specs.inner.Ranges.{IsOnMap, IsShort, IsLateralScreening};
 ghost use Rattle.path_calc.specs.inner.Strings.{numbers_in as numbers_of, IsStretched, AreStretched, IsMeasured, AreMeasured};
 ghost use Rattle.path_calc.specs.Trace.{string_segments};
@@ -60,9 +61,7 @@ impl Strings {
 
     /// The strings round the obstacles of these numbers, along a line of sight.
     fn round(sight: &Sight<'_>, numbers: Vec<u32>, found: &mut Found) -> Result<Strings, NoMemory>
-        requires source_height { IsHeight sight.now.ends.hs }
-        requires receiver_height { IsHeight sight.now.ends.hr }
-        requires distance { IsOnMap sight.now.d }
+        requires sight { FitsSight sight.now }
         ensures numbers { IfOk result (λ strings. strings.numbers.items ≡ numbers.items) }
         ensures stretched { IfOk result
             (λ strings. AreStretched strings sight.now.ends sight.now.scene.now.obstacles) }
@@ -88,9 +87,7 @@ impl Strings {
         found: &mut Found,
         trace: &mut Segs,
     ) -> Result<(), NoMemory>
-        requires source_height { IsHeight sight.now.ends.hs }
-        requires receiver_height { IsHeight sight.now.ends.hr }
-        requires distance { IsOnMap sight.now.d }
+        requires sight { FitsSight sight.now }
         requires stretched { AreStretched self.old sight.now.ends sight.now.scene.now.obstacles }
         requires measured { AreMeasured self.old sight.now.ends sight.now.d }
         ensures numbers { OnOk result (self.new.numbers.items ≡ numbers_of band sight.now.crossings.now) }
@@ -152,9 +149,7 @@ impl Stretched {
         hand: Hand,
         found: &mut Found,
     ) -> Result<Stretched, NoMemory>
-        requires source_height { IsHeight sight.now.ends.hs }
-        requires receiver_height { IsHeight sight.now.ends.hr }
-        requires distance { IsOnMap sight.now.d }
+        requires sight { FitsSight sight.now }
         ensures stretched { IfOk result (λ string.
             IsStretched string sight.now.ends sight.now.scene.now.obstacles points.now hand) }
         ensures measured { IfOk result (λ string. IsMeasured string sight.now.ends sight.now.d) }

@@ -2,7 +2,6 @@
 ghost use Rattle.std.specs.Prelude.{◌≡◌, ◌≤◌, ◌<◌, ◌++◌, true, length, map, slice_get, Some, IfOk, OnOk};
 ghost use Rattle.std.specs.Option.{option_to_list};
 ghost use Rattle.scene_geom.specs.Reflection.{CanReflect};
-ghost use Rattle.scene_parts.specs.Ranges.{IsHeight};
 ghost use Rattle.scene_parts.specs.Sides.{sides_of};
 ghost use Rattle.scene_geom.specs.Reflection.{unfolded};
 ghost use Rattle.scene_book.specs.Limits.{most_sides};
@@ -15,6 +14,7 @@ ghost use Rattle.image_source.specs.LegCuts.{leg_crossings_of};
 ghost use Rattle.image_source.specs.Facing.{facing_sides};
 ghost use Rattle.term_barrier.specs.Limits.{IsDistance};
 ghost use Rattle.path_calc.specs.ReflectedPaths.{path_along, along_legs, reflected_in, reflected_by, reflected_paths};
+ghost use Rattle.path_calc.specs.inner.Ends.{FitsEnds};
 ghost use Rattle.path_calc.specs.inner.Hearing.{reflected_of, propagation_along, is_asked, may_be_heard, truth_in, crossings_on};
 ghost use Rattle.path_calc.specs.inner.Propagations.{IsPropagation, IsReflectionLevel};
 
@@ -38,10 +38,7 @@ impl<'a> Between<'a> {
     /// caller, since there is nothing to reflect in the open.
     #[inline(always)]
     pub(crate) fn reflected(&self, near: &mut Found) -> Result<Vec<Reflected>, NoMemory>
-        requires source { self.now.from.now.h ≡ self.now.ends.hs }
-        requires receiver { self.now.to.now ≡ self.now.ends.hr }
-        requires source_height { IsHeight self.now.ends.hs }
-        requires receiver_height { IsHeight self.now.ends.hr }
+        requires ends { FitsEnds self.now }
         ensures value { IfOk result (λ found. let book = self.now.scene.now in found.items
             ≡ map (reflected_of book.globals self.now.from.now self.now.ends)
             (reflected_paths book self.now.ends)) }
@@ -63,10 +60,7 @@ impl<'a> Between<'a> {
         sides: &[FacingSide],
         near: &mut Found,
     ) -> Result<Vec<Reflected>, NoMemory>
-        requires source { self.now.from.now.h ≡ self.now.ends.hs }
-        requires receiver { self.now.to.now ≡ self.now.ends.hr }
-        requires source_height { IsHeight self.now.ends.hs }
-        requires receiver_height { IsHeight self.now.ends.hr }
+        requires ends { FitsEnds self.now }
         requires facing { sides.now ≡ facing_sides self.now.ends.r self.now.scene.now.obstacles }
         ensures value { IfOk result (λ found. let book = self.now.scene.now in found.items
             ≡ map (reflected_of book.globals self.now.from.now self.now.ends)
@@ -87,10 +81,7 @@ impl<'a> Between<'a> {
 
     /// All paths by way of walls, of all obstacles. Those that don't reflect are passed over.
     fn reflected_by_any(&self, near: &mut Found) -> Result<Vec<Reflected>, NoMemory>
-        requires source { self.now.from.now.h ≡ self.now.ends.hs }
-        requires receiver { self.now.to.now ≡ self.now.ends.hr }
-        requires source_height { IsHeight self.now.ends.hs }
-        requires receiver_height { IsHeight self.now.ends.hr }
+        requires ends { FitsEnds self.now }
         ensures value { IfOk result (λ found. let book = self.now.scene.now in found.items
             ≡ map (reflected_of book.globals self.now.from.now self.now.ends)
             (reflected_paths book self.now.ends)) }
@@ -110,10 +101,7 @@ impl<'a> Between<'a> {
         obstacle: &Obstacle,
         near: &mut Found,
     ) -> Result<(), NoMemory>
-        requires source { self.now.from.now.h ≡ self.now.ends.hs }
-        requires receiver { self.now.to.now ≡ self.now.ends.hr }
-        requires source_height { IsHeight self.now.ends.hs }
-        requires receiver_height { IsHeight self.now.ends.hr }
+        requires ends { FitsEnds self.now }
         ensures { OnOk result (let book = self.now.scene.now in found.new.items
             ≡ found.old.items ++ map (reflected_of book.globals self.now.from.now self.now.ends)
             (reflected_by book self.now.ends obstacle.now)) }
@@ -136,10 +124,7 @@ impl<'a> Between<'a> {
         side: Side,
         near: &mut Found,
     ) -> Result<(), NoMemory>
-        requires source { self.now.from.now.h ≡ self.now.ends.hs }
-        requires receiver { self.now.to.now ≡ self.now.ends.hr }
-        requires source_height { IsHeight self.now.ends.hs }
-        requires receiver_height { IsHeight self.now.ends.hr }
+        requires ends { FitsEnds self.now }
         requires reflects { 0 < obstacle.now.rho }
         requires number { i < length (sides_of obstacle.now) }
         requires side { slice_get (sides_of obstacle.now) i ≡ Some side }
@@ -163,10 +148,7 @@ impl<'a> Between<'a> {
         side: Side,
         near: &mut Found,
     ) -> Result<(), NoMemory>
-        requires source { self.now.from.now.h ≡ self.now.ends.hs }
-        requires receiver { self.now.to.now ≡ self.now.ends.hr }
-        requires source_height { IsHeight self.now.ends.hs }
-        requires receiver_height { IsHeight self.now.ends.hr }
+        requires ends { FitsEnds self.now }
         requires reflects { 0 < obstacle.now.rho }
         requires wall { CanReflect side self.now.ends.s self.now.ends.r }
         requires mirrors { is_mirror_of obstacle.now side self.now.ends ≡ true }
@@ -188,10 +170,7 @@ impl<'a> Between<'a> {
         mirror: &Mirror,
         near: &mut Found,
     ) -> Result<Reflected, NoMemory>
-        requires source { self.now.from.now.h ≡ self.now.ends.hs }
-        requires receiver { self.now.to.now ≡ self.now.ends.hr }
-        requires source_height { IsHeight self.now.ends.hs }
-        requires receiver_height { IsHeight self.now.ends.hr }
+        requires ends { FitsEnds self.now }
         requires reflects { 0 < obstacle.now.rho }
         requires wall { CanReflect side self.now.ends.s self.now.ends.r }
         requires mirror { mirror.now ≡ unfolded side self.now.ends.s self.now.ends.r }
@@ -226,10 +205,7 @@ impl<'a> Between<'a> {
         asked: &[bool; 8],
         near: &mut Found,
     ) -> Result<Propagation, NoMemory>
-        requires source { self.now.from.now.h ≡ self.now.ends.hs }
-        requires receiver { self.now.to.now ≡ self.now.ends.hr }
-        requires source_height { IsHeight self.now.ends.hs }
-        requires receiver_height { IsHeight self.now.ends.hr }
+        requires ends { FitsEnds self.now }
         requires wall { CanReflect side self.now.ends.s self.now.ends.r }
         requires mirror { mirror.now ≡ unfolded side self.now.ends.s self.now.ends.r }
         requires distance { IsDistance distance }

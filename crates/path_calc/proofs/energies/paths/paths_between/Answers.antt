@@ -114,22 +114,12 @@ lateral_screening-requires-clause-distance c = c.distance-distance.ensures.near
 pub lateral_screening-requires-clause-crossings : goal.lateral_screening-requires-clause-crossings
 lateral_screening-requires-clause-crossings c = c.as_slice-2.ensures.value ∙ c.in_ok-crossings.ensures
 
-pub reflected-requires-clause-source : goal.reflected-requires-clause-source
-reflected-requires-clause-source c =
-    ap (λ (p : PreparedSource). p.h) c.requires.source ∙ ap (λ (s : Source). s.h) (sym c.source.view_is)
-
-pub reflected-requires-clause-receiver : goal.reflected-requires-clause-receiver
-reflected-requires-clause-receiver c = c.requires.receiver ∙ ap (λ (r : Receiver). r.h) (sym c.receiver.view_is)
-
-pub reflected-requires-clause-source_height : goal.reflected-requires-clause-source_height
-reflected-requires-clause-source_height c = c.source.invariant.height
-
-pub reflected-requires-clause-receiver_height : goal.reflected-requires-clause-receiver_height
-reflected-requires-clause-receiver_height c = c.receiver.invariant.height
-
-pub returns-clause-range : goal.returns-clause-range
-returns-clause-range c = record {
-  direct = c.in_ok-direct.ensures.range;
-  lateral = c.in_ok-lateral.ensures.bounds;
-  few = c.in_ok-reflected.ensures.few;
+pub reflected-requires : goal.reflected-requires
+reflected-requires c = record {
+  ends = record {
+    source = ap (λ (p : PreparedSource). p.h) c.requires.source ∙ ap (λ (s : Source). s.h) (sym c.source.view_is);
+    receiver = c.requires.receiver ∙ ap (λ (r : Receiver). r.h) (sym c.receiver.view_is);
+    source_height = c.source.invariant.height;
+    receiver_height = c.receiver.invariant.height;
+  };
 }

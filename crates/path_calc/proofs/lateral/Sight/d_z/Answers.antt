@@ -27,119 +27,23 @@ returns-clause-trace c =
     (c.in_ok-at_4000.ensures.trace ∙ ap (λ (l : List Seg). c.d_z_in-6.new.trace ++ l) (after-is Hz4000 ends obstacles _ (c.in_ok-at_2000.ensures.numbers ∙ numbers-placed Hz2000 ends obstacles)))
     (c.in_ok-at_8000.ensures.trace ∙ ap (λ (l : List Seg). c.d_z_in-7.new.trace ++ l) (after-is Hz8000 ends obstacles _ (c.in_ok-at_4000.ensures.numbers ∙ numbers-placed Hz4000 ends obstacles)))
 
-pub d_z_in-requires-clause-source_height : goal.d_z_in-requires-clause-source_height
-d_z_in-requires-clause-source_height c = c.requires.source_height
-
-pub d_z_in-requires-clause-receiver_height : goal.d_z_in-requires-clause-receiver_height
-d_z_in-requires-clause-receiver_height c = c.requires.receiver_height
-
-pub d_z_in-requires-clause-distance : goal.d_z_in-requires-clause-distance
-d_z_in-requires-clause-distance c = c.requires.distance
-
-pub d_z_in-requires-clause-crossings : goal.d_z_in-requires-clause-crossings
-d_z_in-requires-clause-crossings c = c.requires.crossings
-
-pub d_z_in-requires-2-clause-source_height : goal.d_z_in-requires-2-clause-source_height
-d_z_in-requires-2-clause-source_height c = c.requires.source_height
-
-pub d_z_in-requires-2-clause-receiver_height : goal.d_z_in-requires-2-clause-receiver_height
-d_z_in-requires-2-clause-receiver_height c = c.requires.receiver_height
-
-pub d_z_in-requires-2-clause-distance : goal.d_z_in-requires-2-clause-distance
-d_z_in-requires-2-clause-distance c = c.requires.distance
-
-pub d_z_in-requires-2-clause-crossings : goal.d_z_in-requires-2-clause-crossings
-d_z_in-requires-2-clause-crossings c = c.requires.crossings
-
 pub d_z_in-requires-2-clause-strings : goal.d_z_in-requires-2-clause-strings
 d_z_in-requires-2-clause-strings c = c.in_ok-at_63.ensures.strings
-
-pub d_z_in-requires-3-clause-source_height : goal.d_z_in-requires-3-clause-source_height
-d_z_in-requires-3-clause-source_height c = c.requires.source_height
-
-pub d_z_in-requires-3-clause-receiver_height : goal.d_z_in-requires-3-clause-receiver_height
-d_z_in-requires-3-clause-receiver_height c = c.requires.receiver_height
-
-pub d_z_in-requires-3-clause-distance : goal.d_z_in-requires-3-clause-distance
-d_z_in-requires-3-clause-distance c = c.requires.distance
-
-pub d_z_in-requires-3-clause-crossings : goal.d_z_in-requires-3-clause-crossings
-d_z_in-requires-3-clause-crossings c = c.requires.crossings
 
 pub d_z_in-requires-3-clause-strings : goal.d_z_in-requires-3-clause-strings
 d_z_in-requires-3-clause-strings c = c.in_ok-at_125.ensures.strings
 
-pub d_z_in-requires-4-clause-source_height : goal.d_z_in-requires-4-clause-source_height
-d_z_in-requires-4-clause-source_height c = c.requires.source_height
-
-pub d_z_in-requires-4-clause-receiver_height : goal.d_z_in-requires-4-clause-receiver_height
-d_z_in-requires-4-clause-receiver_height c = c.requires.receiver_height
-
-pub d_z_in-requires-4-clause-distance : goal.d_z_in-requires-4-clause-distance
-d_z_in-requires-4-clause-distance c = c.requires.distance
-
-pub d_z_in-requires-4-clause-crossings : goal.d_z_in-requires-4-clause-crossings
-d_z_in-requires-4-clause-crossings c = c.requires.crossings
-
 pub d_z_in-requires-4-clause-strings : goal.d_z_in-requires-4-clause-strings
 d_z_in-requires-4-clause-strings c = c.in_ok-at_250.ensures.strings
-
-pub d_z_in-requires-5-clause-source_height : goal.d_z_in-requires-5-clause-source_height
-d_z_in-requires-5-clause-source_height c = c.requires.source_height
-
-pub d_z_in-requires-5-clause-receiver_height : goal.d_z_in-requires-5-clause-receiver_height
-d_z_in-requires-5-clause-receiver_height c = c.requires.receiver_height
-
-pub d_z_in-requires-5-clause-distance : goal.d_z_in-requires-5-clause-distance
-d_z_in-requires-5-clause-distance c = c.requires.distance
-
-pub d_z_in-requires-5-clause-crossings : goal.d_z_in-requires-5-clause-crossings
-d_z_in-requires-5-clause-crossings c = c.requires.crossings
 
 pub d_z_in-requires-5-clause-strings : goal.d_z_in-requires-5-clause-strings
 d_z_in-requires-5-clause-strings c = c.in_ok-at_500.ensures.strings
 
-pub d_z_in-requires-6-clause-source_height : goal.d_z_in-requires-6-clause-source_height
-d_z_in-requires-6-clause-source_height c = c.requires.source_height
-
-pub d_z_in-requires-6-clause-receiver_height : goal.d_z_in-requires-6-clause-receiver_height
-d_z_in-requires-6-clause-receiver_height c = c.requires.receiver_height
-
-pub d_z_in-requires-6-clause-distance : goal.d_z_in-requires-6-clause-distance
-d_z_in-requires-6-clause-distance c = c.requires.distance
-
-pub d_z_in-requires-6-clause-crossings : goal.d_z_in-requires-6-clause-crossings
-d_z_in-requires-6-clause-crossings c = c.requires.crossings
-
 pub d_z_in-requires-6-clause-strings : goal.d_z_in-requires-6-clause-strings
 d_z_in-requires-6-clause-strings c = c.in_ok-at_1000.ensures.strings
 
-pub d_z_in-requires-7-clause-source_height : goal.d_z_in-requires-7-clause-source_height
-d_z_in-requires-7-clause-source_height c = c.requires.source_height
-
-pub d_z_in-requires-7-clause-receiver_height : goal.d_z_in-requires-7-clause-receiver_height
-d_z_in-requires-7-clause-receiver_height c = c.requires.receiver_height
-
-pub d_z_in-requires-7-clause-distance : goal.d_z_in-requires-7-clause-distance
-d_z_in-requires-7-clause-distance c = c.requires.distance
-
-pub d_z_in-requires-7-clause-crossings : goal.d_z_in-requires-7-clause-crossings
-d_z_in-requires-7-clause-crossings c = c.requires.crossings
-
 pub d_z_in-requires-7-clause-strings : goal.d_z_in-requires-7-clause-strings
 d_z_in-requires-7-clause-strings c = c.in_ok-at_2000.ensures.strings
-
-pub d_z_in-requires-8-clause-source_height : goal.d_z_in-requires-8-clause-source_height
-d_z_in-requires-8-clause-source_height c = c.requires.source_height
-
-pub d_z_in-requires-8-clause-receiver_height : goal.d_z_in-requires-8-clause-receiver_height
-d_z_in-requires-8-clause-receiver_height c = c.requires.receiver_height
-
-pub d_z_in-requires-8-clause-distance : goal.d_z_in-requires-8-clause-distance
-d_z_in-requires-8-clause-distance c = c.requires.distance
-
-pub d_z_in-requires-8-clause-crossings : goal.d_z_in-requires-8-clause-crossings
-d_z_in-requires-8-clause-crossings c = c.requires.crossings
 
 pub d_z_in-requires-8-clause-strings : goal.d_z_in-requires-8-clause-strings
 d_z_in-requires-8-clause-strings c = c.in_ok-at_4000.ensures.strings

@@ -10,14 +10,14 @@ pub returns-clause-value : goal.returns-clause-value
 returns-clause-value c =
     ap both_of (c.d_z.ensures.value c.args.self.now.ends c.args.self.now.d c.in_ok-turn_to.ensures.measured)
     ∙ both-are _ c.args.self.now.ends c.args.self.now.scene.now.obstacles c.args.self.now.d c.args.band c.in_ok-turn_to.ensures.stretched
-    (c.in_ok-turn_to.ensures.numbers ∙ ap (λ (cs : List Crossing). numbers_in c.args.band cs) c.requires.crossings)
+    (c.in_ok-turn_to.ensures.numbers ∙ ap (λ (cs : List Crossing). numbers_in c.args.band cs) c.requires.sight.crossings)
 
 pub returns-clause-trace : goal.returns-clause-trace
 returns-clause-trace c =
     c.in_ok-turn_to.ensures.trace
     ∙ ap (λ (l : List Seg). c.args.trace.now ++ l)
     (strings-added _ c.args.self.now.ends c.args.self.now.scene.now.obstacles c.args.band c.args.strings.now.numbers.items c.in_ok-turn_to.ensures.stretched
-    (c.in_ok-turn_to.ensures.numbers ∙ ap (λ (cs : List Crossing). numbers_in c.args.band cs) c.requires.crossings))
+    (c.in_ok-turn_to.ensures.numbers ∙ ap (λ (cs : List Crossing). numbers_in c.args.band cs) c.requires.sight.crossings))
 
 pub returns-clause-bounds : goal.returns-clause-bounds
 returns-clause-bounds c = c.d_z.ensures.bounds c.args.self.now.ends c.args.self.now.d c.in_ok-turn_to.ensures.measured
