@@ -1,10 +1,11 @@
 -- Marks in the bits of words.
-use Rattle.std.proofs.Common.{◌≡◌, ℕ, zero, suc, ◌+◌, ◌-◌, ◌*◌, ◌/◌, ◌%◌, ◌^◌, ◌<◌, ◌≤◌, min, Bool, true, false, List, ◌∷◌, length, get_or, set, map, replicate, refl, sym, ap, ◌∙◌, inl, inr, arith}
+use Rattle.std.proofs.Common.{◌≡◌, ℕ, zero, suc, [], ◌+◌, ◌-◌, ◌*◌, ◌/◌, ◌%◌, ◌^◌, ◌<◌, ◌≤◌, min, Bool, true, false, List, ◌∷◌, length, get_or, set, map, replicate, take, ◌++◌, refl, sym, ap, ◌∙◌, inl, inr, arith}
 use Rattle.std.specs.Prelude.{◌==◌, bit_or}
 use Rattle.std.specs.Int.{bit_at, w64, trailing_zeros}
-use Rattle.std.specs.List.{range_with_len}
+use Rattle.std.specs.List.{range_with_len, FoldsTo}
 use Rattle.std.proofs.lemmas.Nat.{shr-shr, shr_below, shr_le, or_lt, mod_below}
 use Rattle.std.proofs.lemmas.Nat.Bits.{bit_at-zero, bit_at_set_same, bit_at_set_other, bit_at-trailing_zeros, bit_at_above}
+use Rattle.std.proofs.Math.Seq.{take-nil}
 use Rattle.std.proofs.lemmas.Bool.{cases_eq, cases_lt}
 use Rattle.std.proofs.lemmas.List.{same_lists, get_or-set_same, get_or-set_other, length-set, length-replicate, set_past}
 use Rattle.std.proofs.lemmas.List.FromFn.{length-map-range_with_len, get_or-map-range_with_len}
@@ -190,6 +191,26 @@ with-mark-is words count number word is h at =
         | inr other ↦ rw (get_or-set_other words place k new 0 other) (is.fits k)
       ];
     }
+
+-- what a call that always gives 0 gave, call by call
+pub zeros-given : {F : Type 0} (R : F → ℕ → F → Type 0) (f : F) (xs : List ℕ) (last : F)
+    → ((p : F) (x : ℕ) (q : F) → R p x q → x ≡ 0) → FoldsTo R f xs last → xs ≡ replicate (length xs) 0
+zeros-given R f [] last none folds = refl
+zeros-given R f (x ∷ xs) last none folds =
+    let first = none f x folds.0 folds.1 in
+    rw first (ap (λ (ys : List ℕ). 0 ∷ ys) (zeros-given R folds.0 xs last none folds.2))
+
+-- so that a list which is cut to nothing and filled up so is zeros
+pub zeros-made : {F : Type 0} (R : F → ℕ → F → Type 0) (f : F) (count : ℕ) (old xs items : List ℕ) (last : F)
+    → ((p : F) (x : ℕ) (q : F) → R p x q → x ≡ 0)
+    → old ≡ []
+    → items ≡ take count old ++ xs
+    → FoldsTo R f xs last
+    → length items ≡ count
+    → items ≡ replicate count 0
+zeros-made R f count old xs items last none nothing filled folds long =
+    let new : items ≡ xs = filled ∙ ap (λ (ys : List ℕ). take count ys ++ xs) nothing ∙ ap (λ (ys : List ℕ). ys ++ xs) (take-nil count) in
+    new ∙ zeros-given R f xs last none folds ∙ ap (λ n. replicate n 0) (ap length (sym new) ∙ long)
 
 pub zeros-are : (words : List ℕ) (n count : ℕ) → words ≡ replicate n 0 → count ≤ 64 * n → IsMarks words count
 zeros-are words n count e room = rw e (record {

@@ -148,9 +148,11 @@ impl Grid {
     {
         let crossed = way_columns(from, dir, end).common(self.frame.columns);
         let all = way_rows(from, dir, end);
+        let mut entered = None;
         for column in crossed.low..crossed.high + 1 {
-            let rows = rows_in(from, dir, all, column);
+            let (rows, left) = rows_in(from, dir, all, column, entered);
             mark_column(&self.register, self.frame, column, rows, marks);
+            entered = left;
         }
     }
 }

@@ -1,6 +1,6 @@
 //! The cells of a way along a direction.
 
-ghost use Rattle.std.specs.Prelude.{◌≡◌, ◌≢◌, ◌<◌, ◌≤◌, ◌<ℤ◌, pos, unsigned_abs};
+ghost use Rattle.std.specs.Prelude.{◌≡◌, ◌≢◌, ◌+◌, ◌<◌, ◌≤◌, ◌<ℤ◌, pos, unsigned_abs, IfSome};
 ghost use Rattle.scene_geom.specs.Plan.{InPlan};
 ghost use Rattle.scene_geom.specs.Direction.{FitsDirection};
 ghost use Rattle.scene_geom.specs.Fraction.{FitsEnd, over};
@@ -35,17 +35,31 @@ pub fn way_rows(from: Pt, dir: Dir, end: Frac) -> Span
     Span::between(northing(from) / CELL, last)
 }
 
-/// The rows of a way while it is in a column, of all rows that it has.
-pub fn rows_in(from: Pt, dir: Dir, rows: Span, column: usize) -> Span
+/// The rows of a way while it is in a column, of all rows that it has, and the row in which it leaves the column to the
+/// east. `entered` is the row in which it came into the column from the west, where that is known. A vertical way has all
+/// its rows in its column, and no such row.
+pub fn rows_in(
+    from: Pt,
+    dir: Dir,
+    rows: Span,
+    column: usize,
+    entered: Option<usize>,
+) -> (Span, Option<usize>)
     requires dir { FitsDirection dir }
     requires column { column < 124 }
-    ensures { result ≡ rows_in_of from dir rows column }
+    requires entered { IfSome entered (λ row. row ≡ row_into_of from dir rows column) }
+    ensures rows { result.0 ≡ rows_in_of from dir rows column }
+    ensures left { IfSome result.1 (λ row. row ≡ row_into_of from dir rows (column + 1)) }
 {
     if dir.x == 0 {
-        return rows;
+        return (rows, None);
     }
-    let west = row_into(from, dir, rows, column);
-    Span::between(west, row_into(from, dir, rows, column + 1))
+    let west = match entered {
+        Some(row) => row,
+        None => row_into(from, dir, rows, column),
+    };
+    let east = row_into(from, dir, rows, column + 1);
+    (Span::between(west, east), Some(east))
 }
 
 /// The row in which a way comes into a column from the west, or that of the way's nearest end.

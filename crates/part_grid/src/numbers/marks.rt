@@ -41,9 +41,12 @@ impl Marks {
     {
         self.count = 0;
         self.words.clear();
-        for _ in 0..count / 64 + 1 {
-            self.words.push(0)?;
-        }
+        self.words.resize_with(
+            count / 64 + 1,
+            || -> u64
+                ensures { result ≡ 0 }
+            { 0 },
+        )?;
         self.count = count;
         Ok(())
     }

@@ -14,6 +14,7 @@ use Rattle.part_grid.proofs.grid.Grid.mark_way.Goals as goal
 pub loop-column-init : goal.loop-column-init
 loop-column-init c = record {
   count = omega arith;
+  entered = tt;
   size = ap length c.requires.none ∙ length-replicate (length c.args.self.now) false ∙ ap length (sym c.self.view_is);
   marks = λ k d below.
       marks-none c.args.marks.now (length c.args.self.now) k c.requires.none
@@ -30,12 +31,13 @@ loop-column-preserved c =
     let at = in-frame c.common-crossed.result c.way_columns.result frame.columns c.loop-column.column c.common-crossed.ensures c.loop-column.auto.column c.loop-column-test.true in
     record {
       count = omega (arith, c.loop-column-test.true, c.loop-column.auto.column);
+      entered = c.rows_in-left.ensures.left;
       size = c.mark_column.ensures.count ∙ c.loop-column.invariant.size;
       marks = λ k d below.
-          columns-more c.self.inside.sides.items frame c.self.inside.register c.common-crossed.result.low c.loop-column.column k d (λ side column. covers side column (rows_in c.args.from c.args.dir c.way_rows-all.result column)) c.rows_in-rows.result
+          columns-more c.self.inside.sides.items frame c.self.inside.register c.common-crossed.result.low c.loop-column.column k d (λ side column. covers side column (rows_in c.args.from c.args.dir c.way_rows-all.result column)) c.rows_in-left.result.0
           (get_or c.mark_column.new.marks k false) (get_or c.loop-column.marks k false) c.self.invariant
-          (λ side. ap (covers side c.loop-column.column) (sym c.rows_in-rows.ensures)) at
-          (subst (λ (s : Span). s.low ≤ s.high) (sym c.rows_in-rows.ensures) (rows-ordered c.args.from c.args.dir c.args.end c.way_rows-all.result c.loop-column.column c.way_rows-all.ensures))
+          (λ side. ap (covers side c.loop-column.column) (sym c.rows_in-left.ensures.rows)) at
+          (subst (λ (s : Span). s.low ≤ s.high) (sym c.rows_in-left.ensures.rows) (rows-ordered c.args.from c.args.dir c.args.end c.way_rows-all.result c.loop-column.column c.way_rows-all.ensures))
           below c.loop-column.auto.column (c.mark_column.ensures.marks k (omega (arith, c.loop-column.invariant.size))) (c.loop-column.invariant.marks k d below);
     }
 
