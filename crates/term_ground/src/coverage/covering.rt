@@ -8,6 +8,7 @@ ghost use Rattle.term_ground.specs.inner.Walks.{IsRoute, lengths_on_leg, lengths
 ghost use Rattle.term_ground.specs.inner.Walks.{sums_of};
 ghost use Rattle.term_ground.specs.inner.Walks as walks;
 
+use crate::coverage::beside::lies_beside_leg;
 use crate::extents::places::extent_at;
 use crate::legs::leg::{Leg, Route};
 use crate::legs::stretch::{Regional, Stretches};
@@ -30,6 +31,9 @@ pub(crate) fn lengths_on(outline: &[Pt], route: &Route) -> Option<Regional>
 fn on_leg(outline: &[Pt], leg: &Leg) -> Option<Regional>
     ensures { result ≡ lengths_on_leg outline.now leg.now }
 {
+    if lies_beside_leg(outline, leg) {
+        return None;
+    }
     if meets(outline, leg.start, leg.dir, leg.end) {
         Some(lengths_inside(outline, leg))
     } else {
