@@ -18,3 +18,4 @@ pub mod Deciding
 pub mod Raising
 pub mod Reaching
 pub mod Passing
+pub mod Vanishing

@@ -38,7 +38,7 @@ lies-between x least most low high h l g = by_ends x.lo x.hi h.ordered l g where
   by_ends (Some a) None o l g = absurd (omega (arith, ints, high, g))
   by_ends (Some a) (Some b) o l g = record { lo = (l, omega (arith, ints, o, g)); hi = (omega (arith, ints, o, l), g) }
 
-wider : (l h l' h' : ℤ) (i : Interval) → AreBetween l h i → l' ≤ℤ l → h ≤ℤ h' → AreBetween l' h' i
+pub wider : (l h l' h' : ℤ) (i : Interval) → AreBetween l h i → l' ≤ℤ l → h ≤ℤ h' → AreBetween l' h' i
 wider l h l' h' i k low high = record { lo = end i.lo k.lo; hi = end i.hi k.hi } where
   end : (e : Option ℤ) → IsBetween l h e → IsBetween l' h' e
   end None k = absurd k

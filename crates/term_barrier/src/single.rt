@@ -3,6 +3,7 @@
 pub(crate) mod bend;
 pub(crate) mod components;
 pub(crate) mod formulas;
+mod vanishing;
 
 ghost use Rattle.std.specs.Prelude.{◌≡◌};
 ghost use Rattle.fix_interval.specs.Tree.{Known, Mul, enc};

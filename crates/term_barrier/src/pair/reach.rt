@@ -35,7 +35,7 @@ pub(crate) fn reach(apart: &Apart, z: Iv, k: Iv) -> Option<u64>
 }
 
 /// Whether both ends lie between two numbers of units.
-fn lies_between(x: Iv, least: i128, most: i128) -> bool
+pub(crate) fn lies_between(x: Iv, least: i128, most: i128) -> bool
     requires least { open_low <ℤ least }
     requires most { most <ℤ open_high }
     ensures within { IsTrue result → AreBetween least most x }

@@ -6,7 +6,7 @@ ghost use Rattle.term_barrier.specs.Edges.{FitsEdge};
 ghost use Rattle.term_barrier.specs.Edges as form;
 ghost use Rattle.term_barrier.specs.inner.Prepared.{bend_of, slant_of};
 
-use crate::single::components::{across, beside};
+use crate::single::components::{across, beside, length_of};
 use fix_interval::{Iv, add, mul, ratio, root, sub};
 use path_shape::Path;
 use scene_parts::Edge;
@@ -41,8 +41,9 @@ impl Bend {
         let place = place(edge);
         let before = mul(place, path.dp);
         let over_source = rise(edge.h, path.hs);
-        let x = across(edge);
-        let y = beside(edge);
+        let length = length_of(edge.side);
+        let x = across(edge, length);
+        let y = beside(edge, length);
         Bend {
             edge: *edge,
             place,

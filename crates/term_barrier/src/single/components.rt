@@ -12,30 +12,26 @@ use fix_interval::{Iv, div, ratio, root};
 use scene_geom::{Dir, Side};
 use scene_parts::Edge;
 
-/// X, the component of the path across an edge, in metres.
+/// X, the component of the path across an edge whose side is `length` long in mm, in metres.
 #[tactic(auto, unfolding(crate::specs::Edges::across))]
-pub(crate) fn across(edge: &Edge) -> Iv
-    requires { FitsEdge edge.now }
+pub(crate) fn across(edge: &Edge, length: Iv) -> Iv
+    requires edge { FitsEdge edge.now }
+    requires length { length ≡ enc (form.side_length edge.now.side) }
     ensures { result ≡ enc (form.across edge.now) }
 {
     let (x, y) = step(edge.side);
-    div(
-        component(turn(edge.dir, x, y), edge.dir),
-        length_of(edge.side),
-    )
+    div(component(turn(edge.dir, x, y), edge.dir), length)
 }
 
-/// Y, the component of the path along an edge, in metres.
+/// Y, the component of the path along an edge whose side is `length` long in mm, in metres.
 #[tactic(auto, unfolding(crate::specs::Edges::beside))]
-pub(crate) fn beside(edge: &Edge) -> Iv
-    requires { FitsEdge edge.now }
+pub(crate) fn beside(edge: &Edge, length: Iv) -> Iv
+    requires edge { FitsEdge edge.now }
+    requires length { length ≡ enc (form.side_length edge.now.side) }
     ensures { result ≡ enc (form.beside edge.now) }
 {
     let (x, y) = step(edge.side);
-    div(
-        component(advance(edge.dir, x, y), edge.dir),
-        length_of(edge.side),
-    )
+    div(component(advance(edge.dir, x, y), edge.dir), length)
 }
 
 /// A product of a direction and a side, over the divisor of the direction, in metres.
@@ -85,7 +81,7 @@ fn step(side: Side) -> (i64, i64)
 }
 
 /// The length of a side, in mm.
-fn length_of(side: Side) -> Iv
+pub(crate) fn length_of(side: Side) -> Iv
     ensures { result ≡ enc (form.side_length side) }
 {
     root(ratio(squared_length(side).into(), 1))

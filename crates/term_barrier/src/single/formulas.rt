@@ -8,6 +8,7 @@ ghost use Rattle.term_barrier.specs.inner.Reaching as reaching;
 ghost use Rattle.term_barrier.specs.inner.Prepared as prepared;
 
 use crate::pair::apart::Apart;
+use crate::single::vanishing::vanishes;
 use enclose_exp::exp_neg;
 use enclose_log::lg;
 use fix_interval::{Iv, Truth, add, div, exact, less, max, min, mul, over, pick, root, sub};
@@ -31,6 +32,9 @@ pub(crate) fn k_met(d_ss: Iv, d_sr: Iv, d: Iv, z: Iv) -> Iv
     // an edge below the line of sight has none, so that nothing is divided
     if let Truth::Never = longer {
         return exact(1);
+    }
+    if vanishes(d_ss, d_sr, d, z) {
+        return Iv::of_ends(Some(0), Some(1));
     }
     let quotient = div(mul(mul(d_ss, d_sr), d), mul(exact(2), z));
     let decay = exp_neg(max(exact(0), over(root(quotient), 2000)));

@@ -16,5 +16,8 @@ pub returns-in-Never : goal.returns-in-Never
 returns-in-Never c =
     c.exact-in-Never.ensures ∙ sym (never-longer c.args.d_ss c.args.d_sr c.args.d c.args.z (rw c.exact.ensures at (sym c.less-longer.ensures ∙ c.in-Never.is)))
 
+pub returns-then-vanishes : goal.returns-then-vanishes
+returns-then-vanishes c = c.of_ends.ensures ∙ sym (c.vanishes.ensures c.if-vanishes.true)
+
 pub exp_neg-decay-requires : goal.exp_neg-decay-requires
 exp_neg-decay-requires c = rw (c.max.ensures, c.exact-3.ensures) (max-low 0 _ (omega arith))
