@@ -1,11 +1,11 @@
--- A pair whose number can't be above the low end of the greatest so far doesn't raise that.
-use Rattle.std.proofs.Common.{◌≡◌, ℕ, ◌*◌, ◌<◌, ◌≤◌, ◌^◌, ℤ, pos, ◌*ℤ◌, ◌≤ℤ◌, ap, sym, refl, ◌∙◌, arith, inl, inr}
+-- A pair of whose number neither end can be above that of the greatest so far doesn't raise that.
+use Rattle.std.proofs.Common.{◌≡◌, ◌*◌, ◌<◌, ◌≤◌, ◌^◌, ℤ, pos, ◌*ℤ◌, ◌≤ℤ◌, ap, sym, refl, ◌∙◌, arith, inl, inr}
 use Rattle.std.specs.Prelude.{Option, Some, None, unwrap_or, unsigned_abs, IsSomeAnd, ◌⊎◌}
 use Rattle.std.proofs.lemmas.Int.{ints, clamps}
 use Rattle.std.proofs.lemmas.Bool.{cases_lt}
 use Rattle.fix_interval.specs.Units.{unit}
-use Rattle.fix_interval.specs.Interval.{Interval, IsInterval, IsOrdered, open_low}
-use Rattle.fix_interval.specs.Values.{ratio_of, end_of, on_ends, mul_of, product_of_ends, least_product, greatest_product, rounded_outward, max_of, hull_of, pick_of, greater_low, greater_high}
+use Rattle.fix_interval.specs.Interval.{Interval, IsInterval, open_low, open_high}
+use Rattle.fix_interval.specs.Values.{ratio_of, end_of, on_ends, mul_of, product_of_ends, least_product, greatest_product, rounded_outward, max_of, hull_of, pick_of, greater_low, greater_high, lesser_low}
 use Rattle.fix_interval.specs.declared.truth.Truth.{Truth}
 use Rattle.fix_interval.specs.declared.truth.Truth.TheVariants.{Sure, Never, Unsure}
 use Rattle.fix_interval.specs.Tree.{Known, Mul, enc}
@@ -14,9 +14,10 @@ use Rattle.fix_interval.proofs.Multiplying.{end_of-small, end_of-large, least_of
 use Rattle.fix_interval.proofs.Ratios.{IsInterval-Const}
 use Rattle.scene_geom.specs.declared.band.Band.{Band}
 use Rattle.term_barrier.specs.declared.pair.apart.Apart.{Apart}
+use Rattle.term_barrier.specs.declared.pair.factors.Factors.{Factors}
 use Rattle.term_barrier.specs.declared.pair.Pair.{Pair}
 use Rattle.term_barrier.specs.Diffraction.{whole, three_and, double_limit}
-use Rattle.term_barrier.specs.inner.Reaching.{two_edges, pair_number, growth_of, most_number, IsReach}
+use Rattle.term_barrier.specs.inner.Reaching.{two_edges, pair_number, growth_of, most_number, IsReach, StaysBelow}
 use Rattle.term_barrier.specs.inner.Prepared.{pair_value, Passes}
 use Rattle.term_barrier.proofs.Bounds.{known-attenuation}
 use Rattle.term_barrier.proofs.OneLogarithm.{screens, screens-picked}
@@ -71,38 +72,49 @@ picked-most Sure i most h k = k
 picked-most Never i most h k = rw one-is (omega (arith, ints, h))
 picked-most Unsure i most h k = rw one-is (greater-one i.hi most h k)
 
--- what isn't above the low end of an interval raises neither end of it
-not-raised : (bl bh nl nh : Option ℤ) (most : ℤ) → IsOrdered bl bh → IsOrdered nl nh → pos 0 ≤ℤ most → IsSomeAnd nh (λ z. z ≤ℤ most)
-    → most ≤ℤ unwrap_or bl open_low
-    → (greater_low bl nl ≡ bl) × (greater_high bh nh ≡ bh)
-not-raised None bh nl nh most o p h k below = absurd (omega (arith, ints, h, below))
-not-raised (Some b) bh nl None most o p h k below = absurd k
-not-raised (Some b) None None (Some n) most o p h k below = (refl, refl)
-not-raised (Some b) None (Some m) (Some n) most o p h k below = (ap Some (omega (arith, ints, clamps, p, k, below)), refl)
-not-raised (Some b) (Some c) None (Some n) most o p h k below = (refl, ap Some (omega (arith, ints, clamps, o, k, below)))
-not-raised (Some b) (Some c) (Some m) (Some n) most o p h k below =
-    (ap Some (omega (arith, ints, clamps, p, k, below)), ap Some (omega (arith, ints, clamps, o, k, below)))
+lesser-one : (end : Option ℤ) (most : ℤ) → pos (3 * 2 ^ 32) ≤ℤ most → unwrap_or (lesser_low end (Some (pos (2 ^ 32)))) open_low ≤ℤ most
+lesser-one None most h = omega (arith, ints, h)
+lesser-one (Some z) most h = omega (arith, ints, clamps, h)
 
-lesser-is : (best number : Interval) (most : ℤ) → IsInterval best → IsInterval number → pos 0 ≤ℤ most → IsSomeAnd number.hi (λ z. z ≤ℤ most)
-    → most ≤ℤ unwrap_or best.lo open_low → max_of best number ≡ best
+picked-low : (t : Truth) (i : Interval) (most : ℤ) → pos (3 * 2 ^ 32) ≤ℤ most → unwrap_or i.lo open_low ≤ℤ most
+    → unwrap_or (pick_of t i (enc (whole 1))).lo open_low ≤ℤ most
+unfolding pick_of hull_of
+picked-low Sure i most h k = k
+picked-low Never i most h k = rw one-is (omega (arith, ints, h))
+picked-low Unsure i most h k = rw one-is (lesser-one i.lo most h)
+
+-- ---- what isn't above an interval
+
+-- what isn't above an end doesn't raise it
+low-kept : (best next : Option ℤ) (most : ℤ) → pos 0 ≤ℤ most → unwrap_or next open_low ≤ℤ most → most ≤ℤ unwrap_or best open_low → greater_low best next ≡ best
+low-kept None next most h k below = absurd (omega (arith, ints, h, below))
+low-kept (Some x) None most h k below = refl
+low-kept (Some x) (Some y) most h k below = ap Some (omega (arith, ints, clamps, k, below))
+
+high-kept : (best next : Option ℤ) (most : ℤ) → IsSomeAnd next (λ z. z ≤ℤ most) → most ≤ℤ unwrap_or best open_high → greater_high best next ≡ best
+high-kept None next most k below = refl
+high-kept (Some x) None most k below = absurd k
+high-kept (Some x) (Some y) most k below = ap Some (omega (arith, ints, clamps, k, below))
+
+lesser-is : (best number : Interval) (low high : ℤ) → pos 0 ≤ℤ low → unwrap_or number.lo open_low ≤ℤ low → IsSomeAnd number.hi (λ z. z ≤ℤ high)
+    → low ≤ℤ unwrap_or best.lo open_low → high ≤ℤ unwrap_or best.hi open_high → max_of best number ≡ best
 unfolding max_of
-lesser-is best number most i k h n below =
-    let ends = not-raised best.lo best.hi number.lo number.hi most i.ordered k.ordered h n below in
-    rw (ends.0, ends.1) refl
+lesser-is best number low high h l n below above =
+    rw (low-kept best.lo number.lo low h l below, high-kept best.hi number.hi high n above) refl
 
-pub passes : (best : Interval) (band : Band) (pair : Pair) (reach : ℕ) → IsInterval best
-    → IsReach pair.apart pair.z pair.k reach → pos (most_number (growth_of band) reach) ≤ℤ unwrap_or best.lo open_low
-    → Passes best band pair
-passes best band pair reach i reached below =
+pub passes : (best : Interval) (band : Band) (pair : Pair) (factors : Factors) → IsReach pair.apart pair.z pair.k factors
+    → StaysBelow best (growth_of band) factors → Passes best band pair
+passes best band pair factors reached below =
     let number = pair_number band pair.apart pair.z pair.k in
     let interval = number-interval band pair.apart pair.z pair.k in
-    let picked = IsInterval-pick_of pair.convex number (enc (whole 1)) interval (IsInterval-Const (pos 1) 1 (omega arith)) in
-    let most = pos (most_number (growth_of band) reach) in
+    let low = pos (most_number (growth_of band) factors.z factors.k_low) in
+    let high = pos (most_number (growth_of band) factors.z factors.k_high) in
     record {
       number = pick_of pair.convex number (enc (whole 1));
-      interval = picked;
+      interval = IsInterval-pick_of pair.convex number (enc (whole 1)) interval (IsInterval-Const (pos 1) 1 (omega arith));
       decides = argument-decides pair band number refl interval;
       lesser =
-          lesser-is best (pick_of pair.convex number (enc (whole 1))) most i picked (omega (arith, ints))
-          (picked-most pair.convex number most (omega (arith, ints)) (reached band)) below;
+          lesser-is best (pick_of pair.convex number (enc (whole 1))) low high (omega (arith, ints))
+          (picked-low pair.convex number low (omega (arith, ints)) (reached band).0)
+          (picked-most pair.convex number high (omega (arith, ints)) (reached band).1) below.0 below.1;
     }

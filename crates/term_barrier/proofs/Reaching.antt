@@ -1,7 +1,8 @@
 -- The number of two edges under their logarithm isn't above its bound in whole numbers.
-use Rattle.std.proofs.Common.{◌≡◌, ℕ, zero, suc, ◌+◌, ◌-◌, ◌*◌, ◌/◌, ◌<◌, ◌≤◌, ◌^◌, ℤ, pos, negsuc, neg_ℤ, ◌*ℤ◌, ◌+ℤ◌, ◌≤ℤ◌, ◌<ℤ◌, refl, sym, ap, subst, ◌∙◌, arith, lit≤}
-use Rattle.std.specs.Prelude.{Option, Some, None, unwrap_or, unsigned_abs, IsSomeAnd}
+use Rattle.std.proofs.Common.{◌≡◌, ℕ, zero, suc, ◌+◌, ◌-◌, ◌*◌, ◌<◌, ◌≤◌, ◌^◌, ℤ, pos, negsuc, neg_ℤ, ◌*ℤ◌, ◌+ℤ◌, ◌≤ℤ◌, ◌<ℤ◌, refl, sym, ap, subst, ◌∙◌, arith, lit≤, inl, inr}
+use Rattle.std.specs.Prelude.{Option, Some, None, unwrap_or, unsigned_abs, ◌⊎◌, IsSomeAnd}
 use Rattle.std.specs.Int.{div_ceil, int_max}
+use Rattle.std.proofs.lemmas.Bool.{cases_lt}
 use Rattle.std.proofs.lemmas.Int.{ints, clamps}
 use Rattle.std.proofs.lemmas.Nat.{mul-le}
 use Rattle.std.proofs.Math.IntN.{*ℤ_comm}
@@ -10,20 +11,21 @@ use Rattle.fix_interval.specs.Units.{unit, unit-is}
 use Rattle.fix_interval.specs.Interval.{Interval, IsInterval, IsOrdered, open_low, open_high}
 use Rattle.fix_interval.specs.Bounds.{IsBetween, AreBetween}
 use Rattle.fix_interval.specs.Round.{floor_of, ceil_of}
-use Rattle.fix_interval.specs.Values.{ratio_of, add_of, mul_of, end_of, least_product, greatest_product, sum_of_ends}
+use Rattle.fix_interval.specs.Values.{ratio_of, add_of, mul_of, end_of, on_ends, least_of, least_product, greatest_product, product_of_ends, rounded_outward, sum_of_ends}
 use Rattle.fix_interval.specs.Ranges.{LiesIn, from_to}
 use Rattle.fix_interval.specs.Tree.{enc}
-use Rattle.fix_interval.proofs.Multiplying.{end_of-small}
+use Rattle.fix_interval.proofs.Multiplying.{end_of-small, end_of-large, times-mono}
 use Rattle.fix_interval.proofs.Ratios.{ratio_of-one}
 use Rattle.fix_interval.proofs.Ranging.{are_between, lies_in}
 use Rattle.fix_interval.proofs.RangedProducts.{product-lies}
-use Rattle.fix_interval.proofs.Rounding.{ceil_of-pos}
+use Rattle.fix_interval.proofs.Rounding.{ceil_of-pos, floor_of-mono, floor_of-le-ceil_of}
 use Rattle.fix_interval.proofs.Spans.{unit-pos}
 use Rattle.scene_geom.specs.declared.band.Band.{Band}
 use Rattle.scene_geom.specs.declared.band.Band.TheVariants.{Hz63, Hz125, Hz250, Hz500, Hz1000, Hz2000, Hz4000, Hz8000}
 use Rattle.term_barrier.specs.declared.pair.apart.Apart.{Apart}
+use Rattle.term_barrier.specs.declared.pair.factors.Factors.{Factors}
 use Rattle.term_barrier.specs.Diffraction.{c_2_by_wavelength}
-use Rattle.term_barrier.specs.inner.Reaching.{known_c_3, two_edges, pair_number, growth_of, most_number, reach_of, IsNear, IsReach}
+use Rattle.term_barrier.specs.inner.Reaching.{known_c_3, two_edges, pair_number, growth_of, most_number, IsNear, IsReach}
 use Rattle.term_barrier.proofs.LateralBounds.{Naturals, waves, naturals-sum, naturals-quotient}
 
 -- ---- ends
@@ -211,26 +213,24 @@ grown-three band i h =
     let product = product-natural g.c (3 * 2 ^ 32) _ i (omega (arith, g.few)) g.between h in
     wider (pos 0) (pos (div_ceil (g.c * (3 * 2 ^ 32)) (2 ^ 32))) (pos 0) (pos (growth_of band)) _ product (omega (arith, ints)) (omega (arith, ints, times.1, g.is))
 
--- the greatest product of z and K_met, grown and rounded up twice
-twice-rounded : (g z k r : ℕ) → k ≤ 2 ^ 32 → z * k ≤ r * 2 ^ 32 → div_ceil (k * div_ceil (g * z) (2 ^ 32)) (2 ^ 32) ≤ g * r / 2 ^ 32 + 2
-twice-rounded g z k r few h =
-    let p = div_ceil (g * z) (2 ^ 32) in
-    let once = div_ceil_times (g * z) (2 ^ 32) (omega arith) in
-    let twice = div_ceil_times (k * p) (2 ^ 32) (omega arith) in
-    let most : k * (p * 2 ^ 32) ≤ k * (g * z + 2 ^ 32) = mul-le k (p * 2 ^ 32) k (g * z + 2 ^ 32) (omega arith) (omega (arith, once.1)) in
-    let reached : g * (z * k) ≤ g * (r * 2 ^ 32) = mul-le g (z * k) g (r * 2 ^ 32) (omega arith) h in
-    omega (arith, most, reached, twice.1, few)
-
 limited-product : (a b n m : ℕ) → a ≤ 2 ^ n → b ≤ 2 ^ m → a * b ≤ 2 ^ n * 2 ^ m
 limited-product a b n m h k = mul-le a b (2 ^ n) (2 ^ m) h k
 
 growth-few : (band : Band) → growth_of band ≤ 2 ^ 43
 growth-few band = let g = grown band in omega (arith, g.is, g.few)
 
-three-is : (ratio_of (pos 3) 1).hi ≡ Some (pos (3 * 2 ^ 32))
+record IsThree (i : Interval) : Type 0 where
+  low : i.lo ≡ Some (pos (3 * 2 ^ 32))
+  high : i.hi ≡ Some (pos (3 * 2 ^ 32))
+
+three-is : IsThree (ratio_of (pos 3) 1)
 three-is =
     let units : pos 3 *ℤ pos unit ≡ pos (3 * 2 ^ 32) = rw unit-is (omega (arith, ints)) in
-    ap (λ (i : Interval). i.hi) (ratio_of-one (pos 3) (omega arith)) ∙ ap Some units
+    let point = ratio_of-one (pos 3) (omega arith) in
+    record {
+      low = ap (λ (i : Interval). i.lo) point ∙ ap Some units;
+      high = ap (λ (i : Interval). i.hi) point ∙ ap Some units;
+    }
 
 three-end : (l h : ℕ) (three end : Option ℤ) → h ≤ 2 ^ 120 → l ≤ 2 ^ 120 → three ≡ Some (pos (3 * 2 ^ 32)) → IsBetween (neg_ℤ (pos l)) (pos h) end
     → IsSomeAnd (sum_of_ends three end) (λ high. high ≤ℤ pos (3 * 2 ^ 32 + h))
@@ -243,54 +243,110 @@ three-end l h three (Some z) few small e k =
 three-more : (l h : ℕ) (i : Interval) → h ≤ 2 ^ 120 → l ≤ 2 ^ 120 → AreBetween (neg_ℤ (pos l)) (pos h) i
     → IsSomeAnd (add_of (ratio_of (pos 3) 1) i).hi (λ high. high ≤ℤ pos (3 * 2 ^ 32 + h))
 unfolding add_of
-three-more l h i few small k = three-end l h (ratio_of (pos 3) 1).hi i.hi few small three-is k.hi
+three-more l h i few small k = three-end l h (ratio_of (pos 3) 1).hi i.hi few small three-is.high k.hi
 
-number-within : (band : Band) (apart : Apart) (z k : Interval) (zh kh r : ℕ) → AreBetween (pos 0) (pos (3 * 2 ^ 32)) (known_c_3 band apart)
-    → AreBetween (neg_ℤ (pos (2 ^ 62))) (pos zh) z → AreBetween (pos 0) (pos kh) k → zh ≤ 2 ^ 62 → kh ≤ 2 ^ 32 → zh * kh ≤ r * 2 ^ 32
-    → IsSomeAnd (pair_number band apart z k).hi (λ high. high ≤ℤ pos (most_number (growth_of band) r))
-number-within band apart z k zh kh r three hz hk long most reached =
-    let g = growth_of band in
+-- (C_2 / λ) C_3 z
+edges-within : (band : Band) (apart : Apart) (z : Interval) (zh : ℕ) → AreBetween (pos 0) (pos (3 * 2 ^ 32)) (known_c_3 band apart)
+    → AreBetween (neg_ℤ (pos (2 ^ 62))) (pos zh) z → zh ≤ 2 ^ 62
+    → AreBetween (neg_ℤ (pos (div_ceil (growth_of band * 2 ^ 62) (2 ^ 32)))) (pos (div_ceil (growth_of band * zh) (2 ^ 32))) (two_edges band apart z)
+edges-within band apart z zh three hz long =
     let few = growth-few band in
-    let low = div_ceil (g * 2 ^ 62) (2 ^ 32) in
-    let high = div_ceil (g * zh) (2 ^ 32) in
-    let long_few : g * zh ≤ 2 ^ 43 * 2 ^ 62 = limited-product g zh 43 62 few long in
-    let low_few : low ≤ 2 ^ 74 = (let times = div_ceil_times (g * 2 ^ 62) (2 ^ 32) (omega arith) in omega (arith, times.1, few)) in
-    let high_few : high ≤ 2 ^ 74 = (let times = div_ceil_times (g * zh) (2 ^ 32) (omega arith) in omega (arith, times.1, long_few)) in
-    let low_size : kh * low ≤ 2 ^ 32 * 2 ^ 74 = limited-product kh low 32 74 most low_few in
-    let high_size : kh * high ≤ 2 ^ 32 * 2 ^ 74 = limited-product kh high 32 74 most high_few in
-    let grown = product-mixed g (2 ^ 62) zh _ z (omega (arith, few)) (omega (arith, long_few)) (grown-three band (known_c_3 band apart) three) hz in
-    let kept = product-left kh low high _ k (omega (arith, low_size)) (omega (arith, high_size)) grown hk in
-    let sum = three-more (div_ceil (kh * low) (2 ^ 32)) (div_ceil (kh * high) (2 ^ 32)) (mul_of (two_edges band apart z) k)
-    (omega (arith, div_ceil-le (kh * high), high_size)) (omega (arith, div_ceil-le (kh * low), low_size)) kept in
-    below (pair_number band apart z k).hi (div_ceil (kh * high) (2 ^ 32)) sum (twice-rounded g zh kh r most reached)
+    let long_few : growth_of band * zh ≤ 2 ^ 43 * 2 ^ 62 = limited-product (growth_of band) zh 43 62 few long in
+    product-mixed (growth_of band) (2 ^ 62) zh _ z (omega (arith, few)) (omega (arith, long_few)) (grown-three band (known_c_3 band apart) three) hz
+
+edges-few : (band : Band) (zh : ℕ) → zh ≤ 2 ^ 62 → div_ceil (growth_of band * zh) (2 ^ 32) ≤ 2 ^ 74
+edges-few band zh long =
+    let few : growth_of band * zh ≤ 2 ^ 43 * 2 ^ 62 = limited-product (growth_of band) zh 43 62 (growth-few band) long in
+    let times = div_ceil_times (growth_of band * zh) (2 ^ 32) (omega arith) in
+    omega (arith, times.1, few)
+
+number-high : (band : Band) (apart : Apart) (z k : Interval) (zh kh : ℕ) → AreBetween (pos 0) (pos (3 * 2 ^ 32)) (known_c_3 band apart)
+    → AreBetween (neg_ℤ (pos (2 ^ 62))) (pos zh) z → AreBetween (pos 0) (pos kh) k → zh ≤ 2 ^ 62 → kh ≤ 2 ^ 32
+    → IsSomeAnd (pair_number band apart z k).hi (λ high. high ≤ℤ pos (most_number (growth_of band) zh kh))
+number-high band apart z k zh kh three hz hk long most =
+    let low = div_ceil (growth_of band * 2 ^ 62) (2 ^ 32) in
+    let high = div_ceil (growth_of band * zh) (2 ^ 32) in
+    let low_size : kh * low ≤ 2 ^ 32 * 2 ^ 74 = limited-product kh low 32 74 most (edges-few band (2 ^ 62) (omega arith)) in
+    let high_size : kh * high ≤ 2 ^ 32 * 2 ^ 74 = limited-product kh high 32 74 most (edges-few band zh long) in
+    let kept = product-left kh low high _ k (omega (arith, low_size)) (omega (arith, high_size)) (edges-within band apart z zh three hz long) hk in
+    three-more (div_ceil (kh * low) (2 ^ 32)) (div_ceil (kh * high) (2 ^ 32)) (mul_of (two_edges band apart z) k)
+    (omega (arith, div_ceil-le (kh * high), high_size)) (omega (arith, div_ceil-le (kh * low), low_size)) kept
+
+-- ---- its low end
+
+least-first : (p q r s : ℤ) (n : ℕ) → p ≤ℤ pos n → least_of p q r s ≤ℤ pos n
+least-first p q r s n h = omega (arith, ints, clamps, h)
+
+floor-below : (x : ℤ) (n : ℕ) → x ≤ℤ pos n → floor_of x unit ≤ℤ pos (div_ceil n (2 ^ 32))
+floor-below x n h =
+    let up = floor_of-mono x (pos n) unit unit-pos h in
+    let ends = floor_of-le-ceil_of (pos n) unit unit-pos in
+    let rounded : floor_of (pos n) unit ≤ℤ pos (div_ceil n (2 ^ 32)) = rw (ceil-units n) at ends in
+    omega (arith, ints, up, rounded)
+
+-- the product of two low ends is among the four
+product-low : (t l : ℕ) (al ah bh : Option ℤ) → unwrap_or al open_low ≤ℤ pos t
+    → unwrap_or (on_ends product_of_ends al ah (Some (pos l)) bh).lo open_low ≤ℤ pos (div_ceil (l * t) (2 ^ 32))
+product-low t l None ah bh h = omega (arith, ints)
+product-low t l (Some al) None bh h = omega (arith, ints)
+product-low t l (Some al) (Some ah) None h = omega (arith, ints)
+product-low t l (Some al) (Some ah) (Some bh) h =
+    let turned : pos t *ℤ pos l ≡ pos (l * t) = *ℤ_comm (pos t) (pos l) in
+    let times : (al *ℤ pos l) ≤ℤ (pos t *ℤ pos l) = times-mono al (pos t) (pos l) (omega (arith, ints)) h in
+    let first : (al *ℤ pos l) ≤ℤ pos (l * t) = rw turned at times in
+    by_size (least_product al ah (pos l) bh) (greatest_product al ah (pos l) bh)
+    (least-first (al *ℤ pos l) (al *ℤ bh) (ah *ℤ pos l) (ah *ℤ bh) (l * t) first)
+    (cases_lt (unsigned_abs (least_product al ah (pos l) bh)) (2 ^ 126)) (cases_lt (unsigned_abs (greatest_product al ah (pos l) bh)) (2 ^ 126))
   where
-    below : (end : Option ℤ) (d : ℕ) → IsSomeAnd end (λ high. high ≤ℤ pos (3 * 2 ^ 32 + d)) → d ≤ growth_of band * r / 2 ^ 32 + 2
-        → IsSomeAnd end (λ high. high ≤ℤ pos (most_number (growth_of band) r))
-    below None d h k = absurd h
-    below (Some z) d h k = omega (arith, ints, h, k)
+    by_size : (least greatest : ℤ) → least ≤ℤ pos (l * t) → (unsigned_abs least < 2 ^ 126) ⊎ (2 ^ 126 ≤ unsigned_abs least) → (unsigned_abs greatest < 2 ^ 126) ⊎ (2 ^ 126 ≤ unsigned_abs greatest)
+        → unwrap_or (rounded_outward (end_of least) (end_of greatest)).lo open_low ≤ℤ pos (div_ceil (l * t) (2 ^ 32))
+    by_size least greatest o (inr few) k = rw (end_of-large least few) (omega (arith, ints))
+    by_size least greatest o (inl few) (inr k) = rw (end_of-small least few, end_of-large greatest k) (omega (arith, ints))
+    by_size least greatest o (inl few) (inl k) = rw (end_of-small least few, end_of-small greatest k) (floor-below least (l * t) o)
+
+times-low : (t l : ℕ) (a b : Interval) → b.lo ≡ Some (pos l) → unwrap_or a.lo open_low ≤ℤ pos t → unwrap_or (mul_of a b).lo open_low ≤ℤ pos (div_ceil (l * t) (2 ^ 32))
+unfolding mul_of
+times-low t l a b e h = rw e (product-low t l a.lo a.hi b.hi h)
+
+three-low : (end : Option ℤ) (n : ℕ) → unwrap_or end open_low ≤ℤ pos n → unwrap_or (sum_of_ends (Some (pos (3 * 2 ^ 32))) end) open_low ≤ℤ pos (3 * 2 ^ 32 + n)
+three-low None n h = omega (arith, ints)
+three-low (Some z) n h = by_size (pos (3 * 2 ^ 32) +ℤ z) (omega (arith, ints, h)) (cases_lt (unsigned_abs (pos (3 * 2 ^ 32) +ℤ z)) (2 ^ 126)) where
+  by_size : (sum : ℤ) → sum ≤ℤ pos (3 * 2 ^ 32 + n) → (unsigned_abs sum < 2 ^ 126) ⊎ (2 ^ 126 ≤ unsigned_abs sum) → unwrap_or (end_of sum) open_low ≤ℤ pos (3 * 2 ^ 32 + n)
+  by_size sum o (inr few) = rw (end_of-large sum few) (omega (arith, ints))
+  by_size sum o (inl few) = rw (end_of-small sum few) o
+
+number-low : (band : Band) (apart : Apart) (z k : Interval) (zh kl : ℕ) → AreBetween (pos 0) (pos (3 * 2 ^ 32)) (known_c_3 band apart)
+    → AreBetween (neg_ℤ (pos (2 ^ 62))) (pos zh) z → k.lo ≡ Some (pos kl) → zh ≤ 2 ^ 62
+    → unwrap_or (pair_number band apart z k).lo open_low ≤ℤ pos (most_number (growth_of band) zh kl)
+unfolding add_of
+number-low band apart z k zh kl three hz e long =
+    let high = div_ceil (growth_of band * zh) (2 ^ 32) in
+    let low = low-is _ _ (two_edges band apart z) (edges-within band apart z zh three hz long) in
+    rw three-is.low
+    (three-low (mul_of (two_edges band apart z) k).lo (div_ceil (kl * high) (2 ^ 32)) (times-low high kl (two_edges band apart z) k e low.1))
 
 -- ---- the reach
 
-absolute : (x : ℤ) → pos 0 ≤ℤ x → pos (unsigned_abs x) ≡ x
-absolute (pos n) h = refl
-absolute (negsuc n) h = absurd (omega (arith, ints, h))
+low-end : (h : ℤ) (i : Interval) (n : ℕ) → AreBetween (pos 0) h i → pos n ≡ unwrap_or i.lo open_low → i.lo ≡ Some (pos n)
+low-end h i n k e = end i.lo k.lo e where
+  end : (low : Option ℤ) → IsBetween (pos 0) h low → pos n ≡ unwrap_or low open_low → low ≡ Some (pos n)
+  end None k e = absurd k
+  end (Some z) k e = ap Some (sym e)
 
-pub reach-is : (apart : Apart) (z k : Interval) → IsInterval apart.square → IsInterval apart.third → IsInterval z → IsInterval k
+pub reach-is : (apart : Apart) (z k : Interval) (factors : Factors) → IsInterval apart.square → IsInterval apart.third → IsInterval z → IsInterval k
     → AreBetween (pos 0) (pos (2 ^ 90)) apart.square → AreBetween (pos 0) (pos (2 ^ 90)) apart.third
-    → AreBetween (neg_ℤ (pos (2 ^ 62))) (pos (2 ^ 62)) z → AreBetween (pos 0) (pos (2 ^ 32)) k
-    → IsNear apart.square apart.third → IsReach apart z k (reach_of z k)
-reach-is apart z k is it iz ik hs ht hz hk close = λ band.
-    let longest = int_max (unwrap_or z.hi open_high) (pos 0) in
-    let most = unwrap_or k.hi open_high in
-    let z_high = high-is (neg_ℤ (pos (2 ^ 62))) (pos (2 ^ 62)) z hz in
+    → AreBetween (neg_ℤ (pos (2 ^ 62))) (pos (2 ^ 52)) z → AreBetween (pos 0) (pos (2 ^ 32)) k → IsNear apart.square apart.third
+    → pos factors.z ≡ int_max (unwrap_or z.hi open_high) (pos 0) → pos factors.k_low ≡ unwrap_or k.lo open_low → pos factors.k_high ≡ unwrap_or k.hi open_high
+    → IsReach apart z k factors
+reach-is apart z k factors is it iz ik hs ht hz hk close long least most = λ band.
+    let z_high = high-is (neg_ℤ (pos (2 ^ 62))) (pos (2 ^ 52)) z hz in
     let k_high = high-is (pos 0) (pos (2 ^ 32)) k hk in
-    let long : pos (unsigned_abs longest) ≡ longest = absolute longest (omega (arith, ints, clamps)) in
-    let kept : pos (unsigned_abs most) ≡ most = absolute most k_high.0 in
-    number-within band apart z k (unsigned_abs longest) (unsigned_abs most) (reach_of z k) (c_3-three band apart is it hs ht close)
-    (wider _ (unwrap_or z.hi open_high) _ (pos (unsigned_abs longest)) z (to-high _ _ z iz hz) (omega (arith, ints)) (rw long (omega (arith, ints, clamps))))
-    (wider _ (unwrap_or k.hi open_high) _ (pos (unsigned_abs most)) k (to-high _ _ k ik hk) (omega (arith, ints)) (rw kept (omega (arith, ints))))
-    (omega (arith, ints, clamps, long, z_high.1)) (omega (arith, ints, kept, k_high.1))
-    (rounded (unsigned_abs longest * unsigned_abs most))
-  where
-    rounded : (n : ℕ) → n ≤ (n / 2 ^ 32 + 1) * 2 ^ 32
-    rounded n = omega arith
+    let three = c_3-three band apart is it hs ht close in
+    let z_ends : AreBetween (neg_ℤ (pos (2 ^ 62))) (pos factors.z) z =
+    wider _ (unwrap_or z.hi open_high) _ (pos factors.z) z (to-high _ _ z iz hz) (omega (arith, ints)) (omega (arith, ints, clamps, long)) in
+    let k_ends : AreBetween (pos 0) (pos factors.k_high) k =
+    wider _ (unwrap_or k.hi open_high) _ (pos factors.k_high) k (to-high _ _ k ik hk) (omega (arith, ints)) (omega (arith, ints, most)) in
+    let few : factors.z ≤ 2 ^ 62 = omega (arith, ints, clamps, long, z_high.1) in (
+      number-low band apart z k factors.z factors.k_low three z_ends (low-end (pos (2 ^ 32)) k factors.k_low hk least) few,
+      number-high band apart z k factors.z factors.k_high three z_ends k_ends few (omega (arith, ints, most, k_high.1)),
+    )

@@ -2,6 +2,7 @@
 
 pub(crate) mod apart;
 pub(crate) mod convexity;
+pub(crate) mod factors;
 pub(crate) mod joined;
 pub(crate) mod pairing;
 pub(crate) mod reach;
@@ -12,6 +13,7 @@ ghost use Rattle.term_barrier.specs.inner.Reaching.{IsReach};
 
 use crate::pair::apart::Apart;
 use crate::pair::convexity::convexity;
+use crate::pair::factors::Factors;
 use crate::pair::reach::{reach, stays_below};
 use crate::single::bend::{Bend, slant};
 use crate::single::formulas::{
@@ -22,10 +24,10 @@ use path_shape::Path;
 use scene_geom::Band;
 
 /// Two edges over both of which sound bends, or may bend: whether that is sure, what C_3 takes of the distance between
-/// them, z in metres, K_met, and how far z K_met reaches at most, where that is known.
+/// them, z in metres, K_met, and how far z and K_met reach at most, where that is known.
 #[derive(Clone, Copy, Drop)]
 pub(crate) struct Pair {
-    pub reach: Option<u64>,
+    pub reach: Option<Factors>,
     pub convex: Truth,
     pub apart: Apart,
     pub z: Iv,
@@ -34,7 +36,7 @@ pub(crate) struct Pair {
 }
 
 impl Pair {
-    ghost use Rattle.std.specs.Prelude.{◌≡◌, IsTrue, IfSome, IfNone};
+    ghost use Rattle.std.specs.Prelude.{◌≡◌, ◌<◌, ◌^◌, IsTrue, IfSome, IfNone};
     ghost use Rattle.fix_interval.specs.Tree.{Known, enc};
     ghost use Rattle.scene_geom.specs.declared.band.Band.{Band};
     ghost use Rattle.term_barrier.specs.Diffraction.{attenuation, double_limit};
@@ -85,13 +87,14 @@ impl Pair {
         pick(self.convex, b, exact(1))
     }
 
-    /// Whether the number can't raise the greatest so far, in a band with this growth: what it is at most isn't above the
-    /// low end of that, so that neither of its ends is above that of the greatest.
+    /// Whether the number can't raise the greatest so far, in a band with this growth: what each end of it is at most isn't
+    /// above that end of the greatest.
     pub(crate) fn is_passed(&self, best: Iv, growth: u64) -> bool
+        requires { growth < 2 ^ 43 }
         ensures { IsTrue result → (band : Band) → growth ≡ growth_of band → Passes best band self.now }
     {
         match self.reach {
-            Some(reach) => stays_below(best, growth, reach),
+            Some(factors) => stays_below(best, growth, factors),
             None => false,
         }
     }

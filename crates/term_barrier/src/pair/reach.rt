@@ -1,34 +1,42 @@
 //! How far the number of two edges under their logarithm reaches at most, in whole numbers.
 //!
-//! The number is 3 + (C_2 / λ) C_3 z K_met, and C_3 is at most 3. So one product and a comparison tell of most pairs that
-//! they can't raise the greatest number of a band, before anything is divided.
+//! The number is 3 + (C_2 / λ) C_3 z K_met, and C_3 is at most 3. So three products and two comparisons tell of most pairs
+//! that they can't raise the greatest number of a band, before anything is divided.
 
-ghost use Rattle.std.specs.Prelude.{◌≡◌, ◌≤ℤ◌, ◌<ℤ◌, ◌+ℤ◌, ◌*ℤ◌, pos, neg_ℤ, ◌-◌, ◌^◌, unwrap_or, IsTrue, IfSome};
+ghost use Rattle.std.specs.Prelude.{◌≡◌, ◌≤◌, ◌<◌, ◌≤ℤ◌, ◌<ℤ◌, ◌+ℤ◌, ◌+◌, ◌*◌, ◌*ℤ◌, pos, neg_ℤ, ◌-◌, ◌^◌, unwrap_or, IsTrue, IfSome};
+ghost use Rattle.std.specs.Int.{div_ceil, int_max};
 ghost use Rattle.fix_interval.specs.Bounds.{AreBetween};
 ghost use Rattle.fix_interval.specs.Interval.{IsInterval, open_low, open_high};
-ghost use Rattle.term_barrier.specs.inner.Reaching.{growth_of, most_number, reach_of, IsNear, IsReach};
+ghost use Rattle.term_barrier.specs.inner.Reaching.{growth_of, IsNear, IsReach, StaysBelow};
 
 use crate::pair::apart::Apart;
+use crate::pair::factors::Factors;
 use fix_interval::Iv;
 use scene_geom::Band;
+
+/// 3 in units of 2^-32.
+const THREE: i128 = 3 << 32;
+
+/// One unit less than 1, by which a quotient that is rounded down becomes one that is rounded up.
+const ROUNDING: u128 = (1 << 32) - 1;
 
 /// So many units of 2^-32 m² may the ends of a square and of its third be off, that C_3 still is at most 3 in each band:
 /// twice (5 λ)² at 8000 Hz is more.
 const SLACK: i128 = (1 << 28) - 1;
 
-/// How far z K_met of two edges reaches, in units of 2^-32 m: what stands under their logarithm is in each band at most 3 and
-/// the band's growth for each unit. It is known where the ends are such that C_3 is at most 3.
-pub(crate) fn reach(apart: &Apart, z: Iv, k: Iv) -> Option<u64>
+/// How far z and K_met of two edges reach, by which what stands under their logarithm is bounded in each band. It is known
+/// where the ends are such that C_3 is at most 3.
+pub(crate) fn reach(apart: &Apart, z: Iv, k: Iv) -> Option<Factors>
     ensures { IfSome result (IsReach apart.now z k) }
 {
     let (square, third) = (apart.square, apart.third);
     if lies_between(square, 0, 1 << 90)
         && lies_between(third, 0, 1 << 90)
-        && lies_between(z, -(1 << 62), 1 << 62)
+        && lies_between(z, -(1 << 62), 1 << 52)
         && lies_between(k, 0, 1 << 32)
         && is_near(square, third)
     {
-        Some(reach_by(z, k))
+        Some(factors(z, k))
     } else {
         None
     }
@@ -60,21 +68,26 @@ fn thrice(third: Iv) -> i128
     3 * third.lo() + SLACK
 }
 
-/// The greatest product of z and K_met in units of 2^-32 m, rounded up, where z counts as at least 0.
-fn reach_by(z: Iv, k: Iv) -> u64
-    requires z { AreBetween (neg_ℤ (pos (2 ^ 62))) (pos (2 ^ 62)) z }
+/// The high end of z, which counts as at least 0, and both ends of K_met.
+fn factors(z: Iv, k: Iv) -> Factors
+    requires z { AreBetween (neg_ℤ (pos (2 ^ 62))) (pos (2 ^ 52)) z }
     requires k { AreBetween (pos 0) (pos (2 ^ 32)) k }
-    ensures { result ≡ reach_of z k }
+    ensures z { pos result.z ≡ int_max (unwrap_or z.hi open_high) (pos 0) }
+    ensures k_low { pos result.k_low ≡ unwrap_or k.lo open_low }
+    ensures k_high { pos result.k_high ≡ unwrap_or k.hi open_high }
 {
-    let longest = z.hi().max(0) as u128;
-    let most = k.hi() as u128;
-    (longest * most >> 32) as u64 + 1
+    Factors {
+        z: z.hi().max(0) as u64,
+        k_low: k.lo() as u64,
+        k_high: k.hi() as u64,
+    }
 }
 
 /// Three times C_2 / λ, which is rounded up, in units of 2^-32 per metre.
 #[tactic(auto, unfolding(crate::specs::inner::Reaching::growth_of))]
 pub(crate) fn growth(band: Band) -> u64
-    ensures { result ≡ growth_of band }
+    ensures is { result ≡ growth_of band }
+    ensures few { result < 2 ^ 43 }
 {
     match band {
         Band::Hz63 => 47_749_930_527,
@@ -88,18 +101,29 @@ pub(crate) fn growth(band: Band) -> u64
     }
 }
 
-/// Whether the number isn't above the low end of an interval, in a band with this growth.
-pub(crate) fn stays_below(x: Iv, growth: u64, reach: u64) -> bool
-    ensures { IsTrue result → pos (most_number growth reach) ≤ℤ unwrap_or x.lo open_low }
+/// Whether in a band with this growth neither end of the number is above that of an interval.
+pub(crate) fn stays_below(x: Iv, growth: u64, factors: Factors) -> bool
+    requires { growth < 2 ^ 43 }
+    ensures { IsTrue result → StaysBelow x growth factors }
 {
-    greatest_number(growth, reach) <= x.lo()
+    let grown = product(growth, factors.z);
+    most_end(factors.k_high, grown) <= x.hi() && most_end(factors.k_low, grown) <= x.lo()
 }
 
-/// What the number is at most in a band with this growth, in units of 2^-32: 2 units more than its parts give, since they
-/// are rounded up.
-fn greatest_number(growth: u64, reach: u64) -> i128
-    ensures { result ≡ pos (most_number growth reach) }
+/// What an end of the number is at most for that end of K_met and what K_met multiplies, in units of 2^-32.
+fn most_end(k: u64, grown: u64) -> i128
+    requires k { k ≤ 2 ^ 32 }
+    requires grown { grown ≤ 2 ^ 63 }
+    ensures { result ≡ pos (3 * 2 ^ 32 + div_ceil (k * grown) (2 ^ 32)) }
 {
-    let grown = u128::from(growth) * u128::from(reach) >> 32;
-    grown as i128 + (3 << 32) + 2
+    THREE + i128::from(product(k, grown))
+}
+
+/// A product of two numbers of units of 2^-32, in such units and rounded up.
+fn product(a: u64, b: u64) -> u64
+    requires { a * b ≤ 2 ^ 95 }
+    ensures value { result ≡ div_ceil (a * b) (2 ^ 32) }
+    ensures few { result ≤ 2 ^ 63 }
+{
+    (u128::from(a) * u128::from(b) + ROUNDING >> 32) as u64
 }

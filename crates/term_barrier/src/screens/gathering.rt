@@ -104,7 +104,7 @@ fn greatest_above(singles: &[Single], marks: &[bool], band: Band) -> Option<Iv>
 }
 
 /// The greatest of a number and what stands under the logarithm of each two edges that are both marked. A pair is passed
-/// over where its number can't be above the low end of the greatest so far: then neither end of that would change.
+/// over where neither end of its number can be above that end of the greatest so far.
 fn greatest_with_pairs(least: Iv, pairs: &[Joined], marks: &[bool], band: Band) -> Iv
     ensures { Decides double_limit result
         (greatest_from (Some (enc (attenuation double_limit (Known least))))

@@ -1,5 +1,3 @@
-use Rattle.std.proofs.Common.{rules}
-use Rattle.fix_interval.specs.Interval.{IsInterval}
 use Rattle.term_barrier.specs.inner.Reaching.{IsReach}
 use Rattle.term_barrier.proofs.Passing.{passes}
 use Rattle.term_barrier.proofs.pair.Pair.is_passed.Goals as goal
@@ -7,6 +5,5 @@ use Rattle.term_barrier.proofs.pair.Pair.is_passed.Goals as goal
 pub returns-in-Some : goal.returns-in-Some
 returns-in-Some c = λ below band e.
     let pair = c.args.self.now in
-    let best : IsInterval c.args.best = search rules in
-    let reached : IsReach pair.apart pair.z pair.k c.in-Some.reach = rw c.in-Some.is at pair.reached in
-    passes c.args.best band pair c.in-Some.reach best reached (rw e at c.stays_below.ensures below)
+    let reached : IsReach pair.apart pair.z pair.k c.in-Some.factors = rw c.in-Some.is at pair.reached in
+    passes c.args.best band pair c.in-Some.factors reached (rw e at c.stays_below.ensures below)
