@@ -31,3 +31,4 @@ pub mod WholeFactors
 pub mod ShortProducts
 pub mod ShortSums
 pub mod ShortEnds
+pub mod Squares

@@ -23,6 +23,7 @@ pub use powers_of_ten::power_of_ten;
 pub use products::mul;
 pub use products::whole_factors::{over, times};
 pub use quotients::{div, exact, ratio};
+pub use roots::hypotenuse::hypotenuse;
 pub use roots::root;
 pub use truth::Truth;
 pub use values::{add, hull, less, max, min, neg, pick, sub};

@@ -1,5 +1,6 @@
 //! Square roots of intervals.
 
+pub(crate) mod hypotenuse;
 pub(crate) mod square_root;
 
 ghost use Rattle.std.specs.Prelude.{◌≡◌, ◌<◌, ◌^◌, ◌*◌};
