@@ -7,7 +7,7 @@ ghost use Rattle.term_barrier.specs.Edges as form;
 ghost use Rattle.term_barrier.specs.inner.Prepared.{bend_of, slant_of};
 
 use crate::single::components::{across, beside, length_of};
-use fix_interval::{Iv, add, mul, ratio, root, sub};
+use fix_interval::{Iv, hypotenuse, mul, ratio, sub};
 use path_shape::Path;
 use scene_parts::Edge;
 
@@ -94,8 +94,9 @@ fn metres(height: u32) -> Iv
 }
 
 /// The length of a way that is so long in plan and rises so much, in metres.
+#[inline(always)]
 pub(crate) fn slant(length: Iv, rise: Iv) -> Iv
     ensures { result ≡ slant_of length rise }
 {
-    root(add(mul(length, length), mul(rise, rise)))
+    hypotenuse(length, rise)
 }
