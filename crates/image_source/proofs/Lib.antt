@@ -8,3 +8,4 @@ pub mod Passing
 pub mod Meeting
 pub mod Nearby
 pub mod Listing
+pub mod Reaching

@@ -1,6 +1,6 @@
 -- The sides that may reflect to a place: what is asked of them by numbers, and how they are listed.
 use Rattle.std.proofs.Common.{◌≡◌, ℕ, suc, ◌+◌, ◌<◌, List, [], ◌∷◌, ◌++◌, length, drop, map, get_or, refl, ap, sym, subst, ◌∙◌, arith, append_assoc, append-nil}
-use Rattle.std.specs.Prelude.{ℤ, pos, ◌+ℤ◌, ◌-ℤ◌, ◌*ℤ◌, ◌≤ℤ◌, Bool, true, false, not, ◌&&◌, ◌==◌, int_lt, int_le, flat_map, Option, Some, None, slice_get, ◌⊎◌}
+use Rattle.std.specs.Prelude.{ℤ, pos, ◌+ℤ◌, ◌-ℤ◌, ◌*ℤ◌, ◌≤ℤ◌, Bool, true, false, not, ◌&&◌, ◌||◌, ◌==◌, int_lt, flat_map, Option, Some, None, slice_get, ◌⊎◌}
 use Rattle.std.specs.Bool.{then_some}
 use Rattle.std.specs.Option.{option_to_list, option_and_then}
 use Rattle.std.specs.Ordering.{int_eq}
@@ -30,27 +30,16 @@ use Rattle.part_grid.specs.declared.owned.Owned.{Owned}
 use Rattle.part_grid.specs.Numbered.{owned_by, numbered_sides}
 use Rattle.image_source.specs.Mirrors.{at_place, ahead, strikes, stays_below, faces, has_mirror}
 use Rattle.image_source.specs.Facing.{FacingSide, may_reflect_to, may_mirror, facing_in, facing_of, facing_sides}
-use Rattle.image_source.specs.inner.Facing.{area_inside, is_in_front, facing_by, strikes_by, is_passed}
+use Rattle.image_source.specs.inner.Facing.{is_outside_left, is_outside_right, is_in_front, strikes_by, reach, least_reach, reach_end, is_among}
 use Rattle.image_source.proofs.Walls.{signs-some}
 use Rattle.image_source.proofs.Passing.{before-start, behind-end, unstruck}
+use Rattle.image_source.proofs.Reaching.{passed-ahead, long-some}
 
 -- ---- whether a side may mirror a source to a place
 
 -- a path of which heights are left out
 abbrev low_path : Pt → Pt → Ends
 low_path s r = record { s = s; hs = 0; r = r; hr = 0 }
-
--- which way both places are passed
-passed-either : (source receiver end : ℤ) → is_passed source receiver end ≡ true → ((source ≤ℤ pos 0) × (receiver ≤ℤ pos 0)) ⊎ ((end ≤ℤ source) × (end ≤ℤ receiver))
-passed-either source receiver end h = by_start (int_le source (pos 0)) refl h where
-  by_end : (a b : Bool) → int_le end source ≡ a → int_le end receiver ≡ b → (a && b) ≡ true → ((source ≤ℤ pos 0) × (receiver ≤ℤ pos 0)) ⊎ ((end ≤ℤ source) × (end ≤ℤ receiver))
-  by_end true true e f h = inr (omega (arith, ints), omega (arith, ints))
-  by_end true false e f h = absurd (cc)
-  by_end false b e f h = absurd (cc)
-
-  by_start : (test : Bool) → int_le source (pos 0) ≡ test → is_passed source receiver end ≡ true → ((source ≤ℤ pos 0) × (receiver ≤ℤ pos 0)) ⊎ ((end ≤ℤ source) × (end ≤ℤ receiver))
-  by_start true e h = inl (omega (arith, ints), omega (arith, ints, (rw e at h)))
-  by_start false e h = by_end (int_le end source) (int_le end receiver) refl refl (rw e at h)
 
 passed-unstruck : (side : Side) (ends : Ends) → ((ahead side ends.s ≤ℤ pos 0) × (ahead side ends.r ≤ℤ pos 0)) ⊎ ((pos (squared_length side) ≤ℤ ahead side ends.s) × (pos (squared_length side) ≤ℤ ahead side ends.r))
     → (p : Frac) → pos 0 ≤ℤ p.n → p.n ≤ℤ p.d → strikes side ends p ≡ false
@@ -61,19 +50,20 @@ second-false : (a b : Bool) → b ≡ false → false ≡ (a && b)
 second-false true b h = sym h
 second-false false b h = refl
 
--- nothing is mirrored by a side that both places are passed
-passed-beside : (side : Side) (s r : Pt) (source receiver end : ℤ) → source ≡ ahead side s → receiver ≡ ahead side r → end ≡ pos (squared_length side)
-    → are_on_one_side side s r ≡ true → is_passed source receiver end ≡ true → false ≡ may_mirror side s r
-passed-beside side s r source receiver end source-is receiver-is end-is beside passed =
-    let here : is_passed (ahead side s) (ahead side r) (pos (squared_length side)) ≡ true = rw (source-is, receiver-is, end-is) at passed in
+-- nothing is mirrored by a side that passes a source and the receiver
+passed-beside : (side : Side) (s r : Pt) (first : ℤ) (count : ℕ)
+    → first ≡ least_reach (reach side side.from) (reach side r) → first +ℤ pos count ≡ reach_end (reach side side.to) (reach side r) → is_among (reach side s) first count ≡ false
+    → are_on_one_side side s r ≡ true → false ≡ may_mirror side s r
+passed-beside side s r first count begins ends passed beside =
     second-false (are_on_one_side side s r) (strikes side (low_path s r) (specular side s r))
-    (unstruck side (low_path s r) beside (passed-unstruck side (low_path s r) (passed-either (ahead side s) (ahead side r) (pos (squared_length side)) here)))
+    (unstruck side (low_path s r) beside (passed-unstruck side (low_path s r) (passed-ahead side s r first count begins ends passed)))
 
-pub passed-none : (side : Side) (s r : Pt) (source receiver end : ℤ) → source ≡ ahead side s → receiver ≡ ahead side r → end ≡ pos (squared_length side)
-    → is_passed source receiver end ≡ true → false ≡ may_mirror side s r
-passed-none side s r source receiver end source-is receiver-is end-is passed = by (are_on_one_side side s r) refl where
+pub passed-none : (side : Side) (s r : Pt) (first : ℤ) (count : ℕ)
+    → first ≡ least_reach (reach side side.from) (reach side r) → first +ℤ pos count ≡ reach_end (reach side side.to) (reach side r) → is_among (reach side s) first count ≡ false
+    → false ≡ may_mirror side s r
+passed-none side s r first count begins ends passed = by (are_on_one_side side s r) refl where
   by : (test : Bool) → are_on_one_side side s r ≡ test → false ≡ may_mirror side s r
-  by true e = passed-beside side s r source receiver end source-is receiver-is end-is e passed
+  by true e = passed-beside side s r first count begins ends passed e
   by false e = sym (ap (λ (b : Bool). b && strikes side (low_path s r) (specular side s r)) e)
 
 -- where a path strikes the line of a side, of numbers that aren't divided
@@ -101,30 +91,51 @@ struck-is side s r beside =
 
 -- ---- whether a side may reflect to a place
 
-front-is : (shape : Shape) (corners : List Pt) (side : Side) (at : Pt) → is_in_front (orient_of side.from side.to at) (area_inside shape corners) ≡ faces shape corners side at
-front-is Barrier corners side at = refl
-front-is Building corners side at = refl
+-- what lies off the line of a side is in front of a barrier's, and of a building's where its area is on the other hand
+front-of_barrier : (off : ℤ) → is_in_front off true true ≡ (not (int_eq off (pos 0)) && true)
+front-of_barrier off = by (int_lt (pos 0) off) (int_lt off (pos 0)) refl refl where
+  by : (l r : Bool) → int_lt (pos 0) off ≡ l → int_lt off (pos 0) ≡ r → is_in_front off true true ≡ (not (int_eq off (pos 0)) && true)
+  by true true e f = absurd (omega (arith, ints))
+  by true false e f = rw (e, f) refl
+  by false true e f = rw (e, f) refl
+  by false false e f = let on : off ≡ pos 0 = omega (arith, ints) in rw on refl
 
--- of an obstacle that reflects the inside tells
-pub facing-is : (at : Pt) (o : Obstacle) (owned : Owned) → (o.rho == 0) ≡ false → facing_by at (area_inside o.shape o.points) owned ≡ facing_in at o owned
+front-of_building : (off area : ℤ) → is_in_front off (int_lt area (pos 0)) (int_lt (pos 0) area) ≡ (not (int_eq off (pos 0)) && are_opposite off area)
+front-of_building off area = by (int_lt (pos 0) off) (int_lt off (pos 0)) refl refl where
+  either-way : (a b : Bool) → a ≡ (a && true)
+  either-way true b = refl
+  either-way false b = refl
+
+  first-way : (a b : Bool) → a ≡ (a || b && false)
+  first-way true b = refl
+  first-way false true = refl
+  first-way false false = refl
+
+  by : (l r : Bool) → int_lt (pos 0) off ≡ l → int_lt off (pos 0) ≡ r → is_in_front off (int_lt area (pos 0)) (int_lt (pos 0) area) ≡ (not (int_eq off (pos 0)) && are_opposite off area)
+  by true true e f = absurd (omega (arith, ints))
+  by true false e f = rw (e, f) (either-way (int_lt area (pos 0)) true)
+  by false true e f = rw (e, f) (first-way (int_lt (pos 0) area) (int_lt area (pos 0)))
+  by false false e f = let on : off ≡ pos 0 = omega (arith, ints) in rw on refl
+
+front-is : (shape : Shape) (corners : List Pt) (side : Side) (at : Pt)
+    → is_in_front (orient_of side.from side.to at) (is_outside_left shape corners) (is_outside_right shape corners) ≡ (not (int_eq (orient_of side.from side.to at) (pos 0)) && faces shape corners side at)
+front-is Barrier corners side at = front-of_barrier (orient_of side.from side.to at)
+front-is Building corners side at = front-of_building (orient_of side.from side.to at) (area2_of corners)
+
+-- of an obstacle that reflects its outside tells
+pub facing-is : (at : Pt) (o : Obstacle) (owned : Owned) → (o.rho == 0) ≡ false
+    → facing_in at o owned ≡ then_some (is_in_front (orient_of owned.side.from owned.side.to at) (is_outside_left o.shape o.points) (is_outside_right o.shape o.points)) (record { owned = owned; at = at })
 facing-is at o owned some =
     let off = orient_of owned.side.from owned.side.to at in
     let made : FacingSide = record { owned = owned; at = at } in
-    ap (λ (b : Bool). then_some (not (int_eq off (pos 0)) && b) made) (front-is o.shape o.points owned.side at)
-    ∙ ap (λ (b : Bool). then_some (not b && (not (int_eq off (pos 0)) && faces o.shape o.points owned.side at)) made) (sym some)
+    ap (λ (b : Bool). then_some (not b && (not (int_eq off (pos 0)) && faces o.shape o.points owned.side at)) made) some
+    ∙ ap (λ (b : Bool). then_some b made) (sym (front-is o.shape o.points owned.side at))
 
-pub on-line-none : (at : Pt) (area : Option ℤ) (owned : Owned) → orient_of owned.side.from owned.side.to at ≡ pos 0 → None ≡ facing_by at area owned
-on-line-none at area owned e = rw e refl
-
-pub behind-none : (at : Pt) (area : Option ℤ) (owned : Owned) → is_in_front (orient_of owned.side.from owned.side.to at) area ≡ false → None ≡ facing_by at area owned
-behind-none at area owned e = by (not (int_eq (orient_of owned.side.from owned.side.to at) (pos 0))) (is_in_front (orient_of owned.side.from owned.side.to at) area) (record { owned = owned; at = at }) e where
-  by : (a b : Bool) (made : FacingSide) → b ≡ false → None ≡ then_some (a && b) made
-  by true b made e = rw e refl
-  by false b made e = refl
-
-pub in-front-some : (at : Pt) (area : Option ℤ) (owned : Owned) → not (int_eq (orient_of owned.side.from owned.side.to at) (pos 0)) ≡ true → is_in_front (orient_of owned.side.from owned.side.to at) area ≡ true
-    → Some (record { owned = owned; at = at }) ≡ facing_by at area owned
-in-front-some at area owned off front = rw (off, front) refl
+-- a side that a place is in front of is longer than 0
+pub in-front-long : (side : Side) (at : Pt) (left right : Bool) → is_in_front (orient_of side.from side.to at) left right ≡ true → 0 < squared_length side
+in-front-long side at left right h = long-some side at (λ e. on-line (orient_of side.from side.to at) left right e h) where
+  on-line : (off : ℤ) (left right : Bool) → off ≡ pos 0 → is_in_front off left right ≡ true → ⊥
+  on-line off left right e h = let none : false ≡ true = rw e at h in absurd (cc)
 
 -- ---- the list
 

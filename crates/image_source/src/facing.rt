@@ -3,28 +3,32 @@
 ghost use Rattle.std.specs.Prelude.{◌≡◌, ◌≤◌, ◌<◌, ◌^◌, ◌++◌, ◌*ℤ◌, pos, length, IfOk, OnOk, unsigned_abs};
 ghost use Rattle.scene_parts.specs.Sides.{sides_of};
 ghost use Rattle.scene_parts.specs.Ranges.{IsObstacle};
-ghost use Rattle.scene_geom.specs.Reflection.{have_one_sign};
+ghost use Rattle.scene_geom.specs.Point.{orient_of};
+ghost use Rattle.scene_geom.specs.Reflection.{have_one_sign, squared_length};
 ghost use Rattle.image_source.specs.Facing.{facing_of, facing_sides};
 ghost use Rattle.image_source.specs.Facing as form;
-ghost use Rattle.image_source.specs.inner.Facing.{facing_by, strikes_by};
+ghost use Rattle.image_source.specs.inner.Facing.{strikes_by};
 ghost use Rattle.image_source.specs.inner.Facing as inner;
 
-use crate::placing::{ahead, off_line};
+use crate::placing::{FARTHEST, ahead, off_line, reach, step};
 use part_grid::Owned;
 use scene_geom::{Pt, area2};
 use scene_parts::{NoMemory, Obstacle, Shape, side_of, sides};
 use std::alloc::Global;
 use std::marker::Model;
 
-/// A side of an obstacle, with its numbers, and where a place lies to it: how far it is off the side's line, and how far
-/// along the side from its start, as far as the side's end, all times the side's length, in mm².
+/// A side of an obstacle, with its numbers, and a place. What each source is asked by stands first: the side's step, the first
+/// of the reaches along it at which a source isn't passed together with the place, and how many these are. Then come how far
+/// the place is off the side's line, and the place. Reaches and distances are all times the side's length, in mm².
 #[derive(Drop)]
 pub struct FacingSide {
-    owned: Owned,
-    at: Pt,
+    dx: i32,
+    dy: i32,
+    first: i64,
+    count: u64,
     off: i64,
-    ahead: i64,
-    end: i64,
+    at: Pt,
+    owned: Owned,
 }
 
 impl Model for FacingSide {
@@ -35,27 +39,32 @@ impl Model for FacingSide {
 
     ghost view = { λ f. record { owned = f.owned; at = f.at } };
 
-    ghost invariant = { λ f. IsPlaced f.owned.side f.at f.off f.ahead f.end };
+    ghost invariant = { λ f. IsPlaced f.owned.side f.at f.dx f.dy f.first f.count f.off };
 }
 
 impl FacingSide {
-    /// A side of an obstacle that reflects, where it may reflect to a place: the place is off the side's line, and outside a
-    /// building of which twice the area is given.
-    fn of(owned: Owned, area: Option<i128>, at: Pt) -> Option<FacingSide>
-        ensures { result ≡ facing_by at area owned }
+    /// A side of an obstacle, and a place that lies so far off its line.
+    fn of(owned: Owned, at: Pt, off: i64) -> FacingSide
+        requires long { 0 < squared_length owned.side }
+        requires off_line { off ≡ orient_of owned.side.from owned.side.to at }
+        requires within { unsigned_abs off ≤ 128000000000000 }
+        ensures { result ≡ record { owned = owned; at = at } }
     {
         let side = owned.side;
-        let off = off_line(side, at);
-        if off == 0 || !is_in_front(off, area) {
-            return None;
-        }
-        Some(FacingSide {
-            owned,
-            at,
+        let dx = step(side.from.x, side.to.x);
+        let dy = step(side.from.y, side.to.y);
+        let receiver = reach(dx, dy, at);
+        let first = least_reach(reach(dx, dy, side.from), receiver);
+        let end = reach_end(reach(dx, dy, side.to), receiver);
+        FacingSide {
+            dx,
+            dy,
+            first,
+            count: (end - first) as u64,
             off,
-            ahead: ahead(side, at),
-            end: ahead(side, side.to),
-        })
+            at,
+            owned,
+        }
     }
 
     /// The side, with its numbers.
@@ -66,21 +75,36 @@ impl FacingSide {
     }
 
     /// Whether the side may mirror a source at a place to what is at its own place, whatever the heights: both are strictly on
-    /// one side of its line, and the specular point is strictly between its ends. Most sides fail in 64 bits: what most fail by,
-    /// that both places lie before the side or both behind it, is asked first.
+    /// one side of its line, and the specular point is strictly between its ends. What most sides fail by, that both places lie
+    /// before the side or both behind it, is asked first, and in the caller's own loop.
+    #[inline(always)]
     pub fn may_mirror(&self, s: Pt) -> bool
         ensures { result ≡ form.may_mirror self.now.owned.side s self.now.at }
     {
-        let side = self.owned.side;
-        let source = ahead(side, s);
-        if is_passed(source, self.ahead, self.end) {
+        if !is_among(reach(self.dx, self.dy, s), self.first, self.count) {
             return false;
         }
+        self.mirrors(s)
+    }
+
+    /// The same, by what the side's line and both places say.
+    #[inline(never)]
+    fn mirrors(&self, s: Pt) -> bool
+        ensures { result ≡ form.may_mirror self.now.owned.side s self.now.at }
+    {
+        let side = self.owned.side;
         let off = off_line(side, s);
         if !one_sign(off, self.off) {
             return false;
         }
-        strikes(source, off.abs(), self.ahead, self.off.abs(), self.end)
+        let end = ahead(side, side.to);
+        strikes(
+            ahead(side, s),
+            off.abs(),
+            ahead(side, self.at),
+            self.off.abs(),
+            end,
+        )
     }
 }
 
@@ -131,8 +155,8 @@ impl FacingSides {
     }
 }
 
-/// Adds the sides of an obstacle that may reflect to a place. The obstacle has this number. Which way its corners go round
-/// is asked once.
+/// Adds the sides of an obstacle that may reflect to a place. The obstacle has this number. On which hand of its sides its
+/// outside lies is asked once.
 fn add_facing(
     found: &mut Vec<FacingSide>,
     obstacle: &Obstacle,
@@ -144,39 +168,54 @@ fn add_facing(
     if obstacle.rho == 0 {
         return Ok(());
     }
-    let area = area_inside(obstacle);
+    let hands = outside(obstacle);
     for index in 0..sides(obstacle) {
         let side = side_of(obstacle, index);
-        let owned = Owned {
-            obstacle: number,
-            index,
-            side,
-        };
-        if let Some(facing) = FacingSide::of(owned, area, at) {
-            found.push(facing)?;
+        let off = off_line(side, at);
+        if is_in_front(off, hands.left, hands.right) {
+            let owned = Owned {
+                obstacle: number,
+                index,
+                side,
+            };
+            found.push(FacingSide::of(owned, at, off))?;
         }
     }
     Ok(())
 }
 
-/// Twice the signed area of a building, in mm². A barrier has no inside.
-fn area_inside(obstacle: &Obstacle) -> Option<i128>
-    ensures { result ≡ inner.area_inside obstacle.now.shape obstacle.now.points }
+/// The hands of a side of an obstacle, and whether each is outside.
+#[derive(Clone, Copy)]
+struct Hands {
+    left: bool,
+    right: bool,
+}
+
+/// On which hands of its sides an obstacle has its outside: on both, where it is a barrier.
+fn outside(obstacle: &Obstacle) -> Hands
+    ensures left { result.left ≡ inner.is_outside_left obstacle.now.shape obstacle.now.points }
+    ensures right { result.right ≡ inner.is_outside_right obstacle.now.shape obstacle.now.points }
 {
     match obstacle.shape {
-        Shape::Barrier => None,
-        Shape::Building => Some(area2(obstacle.points.items())),
+        Shape::Barrier => Hands {
+            left: true,
+            right: true,
+        },
+        Shape::Building => {
+            let area = area2(obstacle.points.items());
+            Hands {
+                left: area < 0,
+                right: 0 < area,
+            }
+        }
     }
 }
 
-/// Whether what lies off the line of a side by this is in front of it: outside, where the side is a building's.
-fn is_in_front(off: i64, area: Option<i128>) -> bool
-    ensures { result ≡ inner.is_in_front off area }
+/// Whether what lies off the line of a side by this is in front of it, where these hands of it are outside.
+fn is_in_front(off: i64, left: bool, right: bool) -> bool
+    ensures { result ≡ inner.is_in_front off left right }
 {
-    match area {
-        None => true,
-        Some(area) => off < 0 && 0 < area || 0 < off && area < 0,
-    }
+    if 0 < off { left } else { off < 0 && right }
 }
 
 /// Whether both numbers are above 0, or both below.
@@ -186,14 +225,35 @@ fn one_sign(a: i64, b: i64) -> bool
     0 < a && 0 < b || a < 0 && b < 0
 }
 
-/// Whether two places both lie before the start of a side or both behind its end, by how far along it they lie and it ends.
-fn is_passed(source: i64, receiver: i64, end: i64) -> bool
-    ensures { result ≡ inner.is_passed source receiver end }
+/// The least reach along a side of a source that doesn't lie before it together with the receiver: by the reaches of the side's
+/// start and of the receiver.
+fn least_reach(start: i64, receiver: i64) -> i64
+    requires { unsigned_abs start ≤ 64000000000000 }
+    ensures { result ≡ inner.least_reach start receiver }
 {
-    if source <= 0 {
-        return receiver <= 0;
+    if receiver <= start {
+        start + 1
+    } else {
+        -FARTHEST
     }
-    end <= source && end <= receiver
+}
+
+/// The first reach along a side from which on sources lie behind it together with the receiver: by the reaches of the side's
+/// end and of the receiver.
+fn reach_end(end: i64, receiver: i64) -> i64
+    ensures { result ≡ inner.reach_end end receiver }
+{
+    if end <= receiver { end } else { FARTHEST + 1 }
+}
+
+/// Whether a reach is one of so many, from a first one on.
+fn is_among(place: i64, first: i64, count: u64) -> bool
+    requires place { unsigned_abs place ≤ 64000000000000 }
+    requires first { unsigned_abs first ≤ 64000000000001 }
+    requires count { count ≤ 256000000000000 }
+    ensures { result ≡ inner.is_among place first count }
+{
+    (place - first).cast_unsigned() < count
 }
 
 /// Whether the specular point lies strictly between the ends of a side: by how far along it source and receiver lie, how

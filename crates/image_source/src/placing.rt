@@ -1,5 +1,5 @@
 //! What changes evenly along a path, at a place of it.
-ghost use Rattle.std.specs.Prelude.{◌≡◌, ◌≤◌, ◌<◌, ◌^◌, ◌*ℤ◌, ◌-ℤ◌, pos, unsigned_abs};
+ghost use Rattle.std.specs.Prelude.{◌≡◌, ◌≤◌, ◌<◌, ◌^◌, ◌+ℤ◌, ◌*ℤ◌, ◌-ℤ◌, pos, unsigned_abs};
 ghost use Rattle.scene_geom.specs.Plan.{InPlan};
 ghost use Rattle.scene_geom.specs.Point.{orient_of};
 ghost use Rattle.image_source.specs.Mirrors.{at_place};
@@ -64,6 +64,29 @@ pub(crate) fn off_line(side: Side, p: Pt) -> i64
 {
     way(side.from.x, side.to.x) * way(side.from.y, p.y)
         - way(side.from.y, side.to.y) * way(side.from.x, p.x)
+}
+
+/// No point of the plan reaches farther along a side, times the side's length, in mm².
+pub(crate) const FARTHEST: i64 = 64_000_000_000_000;
+
+/// How far along a side's direction a point lies from the origin, times the side's length, in mm²: by the side's step.
+pub(crate) fn reach(dx: i32, dy: i32, p: Pt) -> i64
+    requires across { unsigned_abs dx ≤ 8000000 }
+    requires upward { unsigned_abs dy ≤ 8000000 }
+    ensures value { result ≡ p.x *ℤ dx +ℤ p.y *ℤ dy }
+    ensures within { unsigned_abs result ≤ 64000000000000 }
+{
+    i64::from(p.x) * i64::from(dx) + i64::from(p.y) * i64::from(dy)
+}
+
+/// How far it is from one coordinate to another, in mm, where 32 bits are to hold it.
+pub(crate) fn step(from: i32, to: i32) -> i32
+    requires from_in_plan { InPlan from }
+    requires to_in_plan { InPlan to }
+    ensures value { result ≡ to -ℤ from }
+    ensures within { unsigned_abs result ≤ 8000000 }
+{
+    to - from
 }
 
 /// How far it is from one coordinate to another, in mm.

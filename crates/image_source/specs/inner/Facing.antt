@@ -1,34 +1,24 @@
 -- What is asked of a side by numbers that are kept of it.
-use Rattle.std.specs.Prelude.{◌≡◌, ℤ, pos, ◌+ℤ◌, ◌*ℤ◌, ◌≤◌, unsigned_abs, Bool, true, not, ◌&&◌, if◌then◌else◌, int_le, int_lt, List, Option, None, Some}
-use Rattle.std.specs.Bool.{then_some}
-use Rattle.std.specs.Ordering.{int_eq}
+use Rattle.std.specs.Prelude.{◌≡◌, ℕ, ℤ, pos, neg_ℤ, ◌+ℤ◌, ◌*ℤ◌, ◌≤◌, unsigned_abs, Bool, true, ◌&&◌, if◌then◌else◌, int_le, int_lt, List}
 use Rattle.scene_geom.specs.declared.plan.Pt.{Pt}
-use Rattle.scene_geom.specs.Crossing.{are_opposite}
 use Rattle.scene_geom.specs.Outline.{area2_of}
 use Rattle.scene_geom.specs.declared.plan.Side.{Side}
-use Rattle.scene_geom.specs.Point.{orient_of}
-use Rattle.scene_geom.specs.Reflection.{squared_length}
+use Rattle.scene_geom.specs.Point.{along, orient_of}
 use Rattle.scene_parts.specs.declared.kinds.Shape.{Shape}
 use Rattle.scene_parts.specs.declared.kinds.Shape.TheVariants.{Barrier, Building}
-use Rattle.part_grid.specs.declared.owned.Owned.{Owned}
-use Rattle.image_source.specs.Mirrors.{ahead as ahead_of}
-use Rattle.image_source.specs.Facing.{FacingSide}
 
--- twice the signed area of a building, by the sign of which its inside is told; a barrier has none
-abbrev pub area_inside : Shape → List Pt → Option ℤ
-area_inside Barrier corners = None
-area_inside Building corners = Some (area2_of corners)
+-- An obstacle has its outside on these hands of its sides: a barrier on both, a building on that on which its area isn't
+abbrev pub is_outside_left : Shape → List Pt → Bool
+is_outside_left Barrier corners = true
+is_outside_left Building corners = int_lt (area2_of corners) (pos 0)
 
--- what lies off the line of a side by this is in front of it
-abbrev pub is_in_front : ℤ → Option ℤ → Bool
-is_in_front off None = true
-is_in_front off (Some area) = are_opposite off area
+abbrev pub is_outside_right : Shape → List Pt → Bool
+is_outside_right Barrier corners = true
+is_outside_right Building corners = int_lt (pos 0) (area2_of corners)
 
--- a side of an obstacle that reflects and has this inside, where it may reflect to a place
-abbrev pub facing_by : Pt → Option ℤ → Owned → Option FacingSide
-facing_by at area owned =
-    let off = orient_of owned.side.from owned.side.to at in
-    then_some (not (int_eq off (pos 0)) && is_in_front off area) (record { owned = owned; at = at })
+-- what lies off the line of a side by this is in front of it, where these hands of it are outside
+abbrev pub is_in_front : ℤ → Bool → Bool → Bool
+is_in_front off left right = if int_lt (pos 0) off then left else (int_lt off (pos 0) && right)
 
 -- the specular point lies strictly between the ends of a side: how far source and receiver lie along it, how far they
 -- are off its line, and how far its end lies along it, all times its length
@@ -37,17 +27,29 @@ strikes_by source before receiver behind end =
     int_lt (pos 0) (source *ℤ behind +ℤ receiver *ℤ before)
     && int_lt (source *ℤ behind +ℤ receiver *ℤ before) (end *ℤ (before +ℤ behind))
 
--- source and receiver both lie before the start of a side, or both behind its end
-abbrev pub is_passed : ℤ → ℤ → ℤ → Bool
-is_passed source receiver end =
-    if int_le source (pos 0) then int_le receiver (pos 0) else (int_le end source && int_le end receiver)
+-- how far along a side's direction a point lies from the origin, times the side's length. No point of the plan has a reach
+-- beyond 64,000,000,000,000
+abbrev pub reach : Side → Pt → ℤ
+reach side p = p.x *ℤ (along side).x +ℤ p.y *ℤ (along side).y
 
--- where a place lies to a side: how far off its line, how far along it, and how far along it the side ends, all times
--- its length. 64 bits hold them
-pub record IsPlaced (side : Side) (at : Pt) (off ahead end : ℤ) : Type 0 where
+-- Where the receiver lies before the start of a side, sources before it are passed, and where it lies behind the end, those
+-- behind it. So the sources that aren't passed have reaches from one number on, and below another one
+abbrev pub least_reach : ℤ → ℤ → ℤ
+least_reach start receiver = if int_le receiver start then (start +ℤ pos 1) else neg_ℤ (pos 64000000000000)
+
+abbrev pub reach_end : ℤ → ℤ → ℤ
+reach_end end receiver = if int_le end receiver then end else pos 64000000000001
+
+-- a reach is one of so many, from a first one on
+abbrev pub is_among : ℤ → ℤ → ℕ → Bool
+is_among place first count = int_le first place && int_lt place (first +ℤ pos count)
+
+-- of a side and a place: the side's step, the reaches of the sources that the side doesn't pass, and how far the place is off
+-- its line
+pub record IsPlaced (side : Side) (at : Pt) (dx dy first : ℤ) (count : ℕ) (off : ℤ) : Type 0 where
+  pub across : dx ≡ (along side).x
+  pub upward : dy ≡ (along side).y
+  pub begins : first ≡ least_reach (reach side side.from) (reach side at)
+  pub ends : first +ℤ pos count ≡ reach_end (reach side side.to) (reach side at)
   pub off_line : off ≡ orient_of side.from side.to at
-  pub along : ahead ≡ ahead_of side at
-  pub whole : end ≡ pos (squared_length side)
   pub off_within : unsigned_abs off ≤ 128000000000000
-  pub along_within : unsigned_abs ahead ≤ 128000000000000
-  pub whole_within : unsigned_abs end ≤ 128000000000000

@@ -1,71 +1,28 @@
-use Rattle.std.proofs.Common.{◌≡◌, ◌≤◌, ◌∙◌, ap, sym, subst, refl, arith}
-use Rattle.std.specs.Prelude.{ℤ, pos, true, false, unsigned_abs}
-use Rattle.std.proofs.lemmas.Int.{ints}
-use Rattle.scene_geom.specs.Reflection.{are_on_one_side, have_one_sign}
+use Rattle.std.proofs.Common.{◌≡◌, ◌∙◌, sym, subst, refl, arith}
+use Rattle.std.specs.Prelude.{ℕ, ℤ, false}
 use Rattle.image_source.specs.Facing.{FacingSide, may_mirror}
-use Rattle.image_source.specs.inner.Facing.{strikes_by}
-use Rattle.image_source.proofs.Even.{still-short}
-use Rattle.image_source.proofs.Listing.{passed-none, struck-is}
+use Rattle.image_source.specs.inner.Facing.{is_among}
+use Rattle.image_source.proofs.Listing.{passed-none}
+use Rattle.image_source.proofs.Reaching.{first-within, count-within, still-wide, reached}
 use Rattle.image_source.proofs.facing.FacingSide.may_mirror.Goals as goal
-use Rattle.image_source.proofs.facing.FacingSide.may_mirror.Goals.{After-abs-2}
 
--- both places are on one side of the line
-signs-same : (a b a' b' : ℤ) → a ≡ a' → b ≡ b' → have_one_sign a b ≡ have_one_sign a' b'
-signs-same a b a' b' e f = rw (e, f) refl
+pub is_among-requires-clause-first : goal.is_among-requires-clause-first
+is_among-requires-clause-first c =
+    let h = first-within _ _ _ _ _ _ _ c.self.invariant in
+    rw (still-wide c.self.inside.first (omega (arith, h))) h
 
-on-one-side : (c : After-abs-2) → are_on_one_side c.self.inside.owned.side c.args.s c.self.inside.at ≡ true
-on-one-side c =
-    sym (c.one_sign.ensures ∙ signs-same _ _ _ _ (still-short c.off_line-off.result c.off_line-off.ensures.within ∙ c.off_line-off.ensures.value) (still-short c.self.inside.off c.self.invariant.off_within ∙ c.self.invariant.off_line))
-    ∙ c.if-not-one_sign.false
+pub is_among-requires-clause-count : goal.is_among-requires-clause-count
+is_among-requires-clause-count c = count-within _ _ _ _ _ _ _ c.self.invariant
 
-pub returns-then-is_passed : goal.returns-then-is_passed
-returns-then-is_passed c =
+among-same : (p f p' f' : ℤ) (n : ℕ) → p ≡ p' → f ≡ f' → is_among p f n ≡ is_among p' f' n
+among-same p f p' f' n d e = rw (d, e) refl
+
+pub returns-then-not-is_among : goal.returns-then-not-is_among
+returns-then-not-is_among c =
     let inside = c.self.inside in
     let inv = c.self.invariant in
+    let first = still-wide inside.first (omega (arith, first-within _ _ _ _ _ _ _ inv)) in
+    let source = reached inside.owned.side c.args.s c.reach.result inside.dx inside.dy inv.across inv.upward c.reach.ensures.within c.reach.ensures.value in
     subst (λ (f : FacingSide). false ≡ may_mirror f.owned.side c.args.s f.at) c.self.view_is
-    (passed-none inside.owned.side c.args.s inside.at _ _ _
-    (still-short c.ahead-source.result c.ahead-source.ensures.within ∙ c.ahead-source.ensures.value)
-    (still-short inside.ahead inv.along_within ∙ inv.along)
-    (still-short inside.end inv.whole_within ∙ inv.whole)
-    (sym c.is_passed.ensures ∙ c.if-is_passed.true))
-
--- distances from the line as the code has them
-few : (x a : ℤ) → unsigned_abs a ≤ 128000000000000 → x ≡ pos (unsigned_abs a) → unsigned_abs x ≤ 128000000000000
-few x a h e = omega (arith, ints)
-
-strikes-same : (s b r h e s' b' r' h' e' : ℤ) → s ≡ s' → b ≡ b' → r ≡ r' → h ≡ h' → e ≡ e' → strikes_by s b r h e ≡ strikes_by s' b' r' h' e'
-strikes-same s b r h e s' b' r' h' e' i j k l m = rw (i, j, k, l, m) refl
-
-pub abs-requires-2 : goal.abs-requires-2
-abs-requires-2 c = omega (arith, ints, still-short c.self.inside.off c.self.invariant.off_within, c.self.invariant.off_within)
-
-pub strikes-requires-clause-receiver : goal.strikes-requires-clause-receiver
-strikes-requires-clause-receiver c = rw (still-short c.self.inside.ahead c.self.invariant.along_within) c.self.invariant.along_within
-
-pub strikes-requires-clause-end : goal.strikes-requires-clause-end
-strikes-requires-clause-end c = rw (still-short c.self.inside.end c.self.invariant.whole_within) c.self.invariant.whole_within
-
-behind-few : (c : After-abs-2) → unsigned_abs c.abs-2.result ≤ 128000000000000
-behind-few c = few c.abs-2.result c.self.inside.off c.self.invariant.off_within (c.abs-2.ensures.value ∙ ap (λ (z : ℤ). pos (unsigned_abs z)) (still-short c.self.inside.off c.self.invariant.off_within))
-
-before-few : (c : After-abs-2) → unsigned_abs c.abs.result ≤ 128000000000000
-before-few c = few c.abs.result c.off_line-off.result c.off_line-off.ensures.within (c.abs.ensures.value ∙ ap (λ (z : ℤ). pos (unsigned_abs z)) (still-short c.off_line-off.result c.off_line-off.ensures.within))
-
-pub strikes-requires-clause-behind : goal.strikes-requires-clause-behind
-strikes-requires-clause-behind c = rw (still-short c.abs-2.result (behind-few (goal.at.strikes-requires-clause-behind c).After-abs-2)) (behind-few (goal.at.strikes-requires-clause-behind c).After-abs-2)
-
-pub returns : goal.returns
-returns c =
-    let inside = c.self.inside in
-    let inv = c.self.invariant in
-    let at = (goal.at.returns c).After-abs-2 in
-    let off = still-short c.off_line-off.result c.off_line-off.ensures.within in
-    subst (λ (f : FacingSide). c.strikes.result ≡ may_mirror f.owned.side c.args.s f.at) c.self.view_is
-    (c.strikes.ensures
-    ∙ strikes-same _ _ _ _ _ _ _ _ _ _
-    (still-short c.ahead-source.result c.ahead-source.ensures.within ∙ c.ahead-source.ensures.value)
-    (still-short c.abs.result (before-few at) ∙ c.abs.ensures.value ∙ ap (λ (z : ℤ). pos (unsigned_abs z)) (off ∙ c.off_line-off.ensures.value))
-    (still-short inside.ahead inv.along_within ∙ inv.along)
-    (still-short c.abs-2.result (behind-few at) ∙ c.abs-2.ensures.value ∙ ap (λ (z : ℤ). pos (unsigned_abs z)) (still-short inside.off inv.off_within ∙ inv.off_line))
-    (still-short inside.end inv.whole_within ∙ inv.whole)
-    ∙ struck-is inside.owned.side c.args.s inside.at (on-one-side at))
+    (passed-none inside.owned.side c.args.s inside.at inside.first inside.count inv.begins inv.ends
+    (sym (c.is_among.ensures ∙ among-same _ _ _ _ inside.count source first) ∙ c.if-not-is_among.true))
