@@ -97,7 +97,8 @@ fn size_from_zero(x: Iv) -> Option<Size>
 /// The absolute values of a quantity with short ends that isn't positive: those of its ends, exchanged.
 #[inline(always)]
 fn size_to_zero(x: Iv) -> Option<Size>
-    ensures { IfSome result (λ s. x ≡ record { lo = Some (neg_ℤ (pos s.greatest)); hi = Some (neg_ℤ (pos s.least)) }) }
+    ensures { IfSome result
+        (λ s. x ≡ record { lo = Some (neg_ℤ (pos s.greatest)); hi = Some (neg_ℤ (pos s.least)) }) }
 {
     let (lo, hi) = (x.lo(), x.hi());
     if -SHORT < lo && hi <= 0 {
