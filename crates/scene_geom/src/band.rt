@@ -1,5 +1,6 @@
 //! The octave bands of ISO 9613-2.
-ghost use Rattle.std.specs.Prelude.{◌≡◌, ◌<◌, ◌≤◌};
+ghost use Rattle.std.specs.Prelude.{◌≡◌, ◌<◌, ◌≤◌, map};
+ghost use Rattle.std.specs.List.{AllByRecursion};
 ghost use Rattle.scene_geom.specs.Bands.{all_bands, place_of, frequency_of};
 
 /// An octave band, by its nominal midband frequency.
@@ -20,15 +21,26 @@ impl Band {
     pub fn all() -> [Band; 8]
         ensures { result ≡ all_bands }
     {
+        Band::of_each(|band| band)
+    }
+
+    /// What a function gives in each of the eight bands, from the lowest.
+    #[inline(always)]
+    pub fn of_each<T, F: Fn(Band) -> T>(f: F) -> [T; 8]
+        requires { F.IsAlwaysCallable f }
+        ensures { (value : Band → T)
+            × AllByRecursion (λ band. F.post f band (value band)) all_bands
+            × (result ≡ map value all_bands) }
+    {
         [
-            Band::Hz63,
-            Band::Hz125,
-            Band::Hz250,
-            Band::Hz500,
-            Band::Hz1000,
-            Band::Hz2000,
-            Band::Hz4000,
-            Band::Hz8000,
+            f(Band::Hz63),
+            f(Band::Hz125),
+            f(Band::Hz250),
+            f(Band::Hz500),
+            f(Band::Hz1000),
+            f(Band::Hz2000),
+            f(Band::Hz4000),
+            f(Band::Hz8000),
         ]
     }
 
