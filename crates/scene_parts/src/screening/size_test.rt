@@ -62,14 +62,5 @@ pub fn bands_of(obstacle: &Obstacle, ends: Ends) -> [bool; 8]
     ensures { result ≡ map (λ band. counts_in band ends obstacle.now) all_bands }
 {
     let breadth = Breadth::of(obstacle, ends.s, ends.r);
-    [
-        breadth.exceeds_wavelength(Band::Hz63),
-        breadth.exceeds_wavelength(Band::Hz125),
-        breadth.exceeds_wavelength(Band::Hz250),
-        breadth.exceeds_wavelength(Band::Hz500),
-        breadth.exceeds_wavelength(Band::Hz1000),
-        breadth.exceeds_wavelength(Band::Hz2000),
-        breadth.exceeds_wavelength(Band::Hz4000),
-        breadth.exceeds_wavelength(Band::Hz8000),
-    ]
+    Band::of_each(|band| breadth.exceeds_wavelength(band))
 }
