@@ -34,16 +34,7 @@ pub fn a_fol(foliage: &[Foliage], path: &Path, d: Iv) -> [Iv; 8]
 fn in_bands(through: Iv) -> [Iv; 8]
     ensures { result ≡ map (λ band. enc (foliage_in band (Known through))) all_bands }
 {
-    [
-        a_fol_over(through, Band::Hz63),
-        a_fol_over(through, Band::Hz125),
-        a_fol_over(through, Band::Hz250),
-        a_fol_over(through, Band::Hz500),
-        a_fol_over(through, Band::Hz1000),
-        a_fol_over(through, Band::Hz2000),
-        a_fol_over(through, Band::Hz4000),
-        a_fol_over(through, Band::Hz8000),
-    ]
+    Band::of_each(|band| a_fol_over(through, band))
 }
 
 /// The attenuation by dense foliage in dB in a band (ISO 9613-2, Table A.1), over a distance through it in metres
