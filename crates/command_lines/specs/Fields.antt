@@ -6,7 +6,7 @@ use Rattle.scene_parts.specs.declared.kinds.Field.{Field}
 use Rattle.scene_parts.specs.declared.outlines.RawPt.{RawPt}
 use Rattle.command_lines.specs.declared.faults.LineFault.{LineFault}
 use Rattle.command_lines.specs.declared.faults.LineFault.TheVariants.{Missing, WrongType}
-use Rattle.command_lines.specs.Texts.{field_name}
+use Rattle.scene_parts.specs.Words.{field_word}
 use Rattle.command_lines.specs.Values.{text_of, name_of, any_name_of, whole_of, points_of, powers_of}
 
 pub data FieldType : Type 0 where
@@ -39,7 +39,7 @@ optional field type = record { field = field; type = type; may_be_absent = true 
 
 -- the value of a field of a line, where it is there
 abbrev pub value_at : Field → Data → Option Data
-value_at field line = get (field_name field) line
+value_at field line = get (field_word field) line
 
 -- a line has this value at a field
 abbrev pub Has : Data → Field → Data → Type 0

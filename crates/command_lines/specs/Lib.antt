@@ -1,4 +1,3 @@
-pub mod Texts
 pub mod Values
 pub mod Fields
 pub mod Answers

@@ -4,7 +4,6 @@
 mod commands;
 mod faults;
 mod reading;
-mod texts;
 mod values;
 mod words;
 
@@ -13,4 +12,3 @@ pub use commands::contours::ContourSpec;
 pub use commands::line_sources::LineSpec;
 pub use faults::LineFault;
 pub use reading::command;
-pub use texts::{class_text, field_text};

@@ -2,7 +2,7 @@
 use crate::ground_rows::{FOLIAGE, GROUND};
 use crate::request_rows::REQUESTS;
 use crate::rows::{FORMS, MISSING, RANGES, TYPES, VALUES};
-use command_lines::{Command, LineFault, class_text, command, field_text};
+use command_lines::{Command, LineFault, command};
 use scene_book::Edit;
 use scene_parts::{Class, Field, PartFault, Word};
 use std::alloc::{AllocError, Global};
@@ -51,8 +51,8 @@ fn fault_told(alloc: Global, fault: &LineFault) -> Result<String, AllocError> {
         LineFault::NotJson => String::from_str(alloc, "NotJson"),
         LineFault::NotObject => String::from_str(alloc, "NotObject"),
         LineFault::UnknownDo { word } => with_word(alloc, "UnknownDo", word),
-        LineFault::Missing { field } => format!(in alloc; "Missing,{}", field_text(*field)),
-        LineFault::WrongType { field } => format!(in alloc; "WrongType,{}", field_text(*field)),
+        LineFault::Missing { field } => format!(in alloc; "Missing,{}", field.word()),
+        LineFault::WrongType { field } => format!(in alloc; "WrongType,{}", field.word()),
         LineFault::Part(fault) => part_told(alloc, fault),
     }
 }
@@ -61,7 +61,7 @@ fn part_told(alloc: Global, fault: &PartFault) -> Result<String, AllocError> {
     match fault {
         PartFault::NoMemory => Err(AllocError),
         PartFault::OutOfRange { field, value } => {
-            format!(in alloc; "OutOfRange,{},{}", field_text(*field), value)
+            format!(in alloc; "OutOfRange,{},{}", field.word(), value)
         }
         PartFault::OutsideMethod { kind } => with_word(alloc, "OutsideMethod", kind),
         PartFault::UnknownKind { kind } => with_word(alloc, "UnknownKind", kind),
@@ -109,8 +109,8 @@ fn lines_are_told_so(rt: HostRuntime) -> Result<(), Fail> {
 
 #[test]
 fn classes_have_their_words(rt: HostRuntime) {
-    assert_eq!(rt; class_text(Class::Obstacle), "obstacle");
-    assert_eq!(rt; class_text(Class::Foliage), "foliage");
-    assert_eq!(rt; field_text(Field::C0), "c0");
-    assert_eq!(rt; field_text(Field::Ground), "ground");
+    assert_eq!(rt; Class::Obstacle.word(), "obstacle");
+    assert_eq!(rt; Class::Foliage.word(), "foliage");
+    assert_eq!(rt; Field::C0.word(), "c0");
+    assert_eq!(rt; Field::Ground.word(), "ground");
 }

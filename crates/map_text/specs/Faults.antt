@@ -5,7 +5,7 @@ use Rattle.scene_parts.specs.declared.faults.PartFault.{PartFault}
 use Rattle.scene_parts.specs.declared.faults.PartFault.TheVariants as parts
 use Rattle.scene_book.specs.declared.edits.EditFault.{EditFault}
 use Rattle.scene_book.specs.declared.edits.EditFault.TheVariants as edits
-use Rattle.command_lines.specs.Texts.{field_name, class_name}
+use Rattle.scene_parts.specs.Words.{field_word, class_word}
 use Rattle.command_lines.specs.declared.faults.LineFault.{LineFault}
 use Rattle.command_lines.specs.declared.faults.LineFault.TheVariants as lines
 use Rattle.scene_parts.specs.Answers.{lacks_memory as part_lacks_memory}
@@ -32,7 +32,7 @@ about_both fault first second = record { fault = fault; first = first; second = 
 abbrev pub part_fault_text : PartFault → FaultText
 part_fault_text parts.NoMemory = plain []
 part_fault_text (parts.OutOfRange field value) =
-    about_both (codes "OutOfRange") (field_name field) (signed_decimal value)
+    about_both (codes "OutOfRange") (field_word field) (signed_decimal value)
 part_fault_text (parts.OutsideMethod kind) = about (codes "OutsideMethod") kind
 part_fault_text (parts.UnknownKind kind) = about (codes "UnknownKind") kind
 part_fault_text (parts.TooLight density) = about (codes "TooLight") (decimal density)
@@ -47,17 +47,17 @@ line_fault_text lines.NoMemory = plain []
 line_fault_text lines.NotJson = plain (codes "NotJson")
 line_fault_text lines.NotObject = plain (codes "NotObject")
 line_fault_text (lines.UnknownDo word) = about (codes "UnknownDo") word
-line_fault_text (lines.Missing field) = about (codes "Missing") (field_name field)
-line_fault_text (lines.WrongType field) = about (codes "WrongType") (field_name field)
+line_fault_text (lines.Missing field) = about (codes "Missing") (field_word field)
+line_fault_text (lines.WrongType field) = about (codes "WrongType") (field_word field)
 line_fault_text (lines.Part fault) = part_fault_text fault
 
 abbrev pub edit_fault_text : EditFault → FaultText
 edit_fault_text edits.NoMemory = plain []
 edit_fault_text (edits.NoSuchName name) = about (codes "NoSuchName") name
 edit_fault_text (edits.OtherClass name class) =
-    about_both (codes "OtherClass") name (class_name class)
+    about_both (codes "OtherClass") name (class_word class)
 edit_fault_text (edits.Full class limit) =
-    about_both (codes "Full") (class_name class) (decimal limit)
+    about_both (codes "Full") (class_word class) (decimal limit)
 
 -- Want of memory is no refusal, and its texts are never written.
 abbrev pub refusal_text : Refusal → FaultText

@@ -8,7 +8,7 @@ ghost use Rattle.map_text.specs.declared.refusals.Refusal.TheVariants as refusal
 ghost use Rattle.map_text.specs.Rows.{fault_row, said_row, refused_row};
 
 use crate::refusals::Refusal;
-use command_lines::{LineFault, class_text, field_text};
+use command_lines::LineFault;
 use csv_rows::{RowWriter, digits};
 use scene_book::EditFault;
 use scene_parts::{Class, Field, NoMemory, PartFault};
@@ -80,7 +80,7 @@ impl RefusedLine {
         self.row(
             writer,
             b"OutOfRange",
-            field_text(field).as_bytes(),
+            field.word().as_bytes(),
             value.as_bytes(),
         )
     }
@@ -99,12 +99,7 @@ impl RefusedLine {
             ≡ said_row self.version self.number (edit_fault_text (edits.Full class limit))) }
     {
         let limit = digits(limit);
-        self.row(
-            writer,
-            b"Full",
-            class_text(class).as_bytes(),
-            limit.as_bytes(),
-        )
+        self.row(writer, b"Full", class.word().as_bytes(), limit.as_bytes())
     }
 
     fn part_fault(self, writer: &mut RowWriter, fault: &PartFault) -> Result<Vec<u8>, NoMemory>
@@ -145,10 +140,10 @@ impl RefusedLine {
             LineFault::NotObject => self.row(writer, b"NotObject", b"", b""),
             LineFault::UnknownDo { word } => self.row(writer, b"UnknownDo", word.items(), b""),
             LineFault::Missing { field } => {
-                self.row(writer, b"Missing", field_text(*field).as_bytes(), b"")
+                self.row(writer, b"Missing", field.word().as_bytes(), b"")
             }
             LineFault::WrongType { field } => {
-                self.row(writer, b"WrongType", field_text(*field).as_bytes(), b"")
+                self.row(writer, b"WrongType", field.word().as_bytes(), b"")
             }
             LineFault::Part(fault) => self.part_fault(writer, fault),
         }
@@ -163,12 +158,7 @@ impl RefusedLine {
             EditFault::NoMemory => Err(NoMemory),
             EditFault::NoSuchName { name } => self.row(writer, b"NoSuchName", name.items(), b""),
             EditFault::OtherClass { name, class } => {
-                self.row(
-                    writer,
-                    b"OtherClass",
-                    name.items(),
-                    class_text(*class).as_bytes(),
-                )
+                self.row(writer, b"OtherClass", name.items(), class.word().as_bytes())
             }
             EditFault::Full { class, limit } => self.full(writer, *class, *limit),
         }

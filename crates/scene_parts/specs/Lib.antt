@@ -1,5 +1,6 @@
 pub mod Limits
 pub mod Names
+pub mod Words
 pub mod Views
 pub mod Sides
 pub mod Ranges

@@ -1,4 +1,6 @@
 //! Words of lines that name one of a few: kinds of sources, shapes of obstacles, air, ground, fields and classes.
+ghost use Rattle.std.specs.Prelude.{◌≡◌};
+ghost use Rattle.scene_parts.specs.Words.{field_word, class_word};
 
 /// What makes a source's sound. The level doesn't depend on it.
 #[derive(Clone, Copy, Debug, PartialEq, Eq)]
@@ -63,6 +65,39 @@ pub enum Field {
     To,
 }
 
+impl Field {
+    /// The word of a field, as lines and rows have it.
+    #[tactic(auto, unfolding(crate::specs::Words::field_word))]
+    pub fn word(self) -> &'static str
+        ensures { result.now ≡ field_word self }
+    {
+        match self {
+            Field::Do => "do",
+            Field::Name => "name",
+            Field::Kind => "kind",
+            Field::X => "x",
+            Field::Y => "y",
+            Field::H => "h",
+            Field::Lw => "lw",
+            Field::Dc => "dc",
+            Field::Points => "points",
+            Field::Density => "density",
+            Field::Rho => "rho",
+            Field::G => "g",
+            Field::Step => "step",
+            Field::Columns => "columns",
+            Field::Rows => "rows",
+            Field::Reach => "reach",
+            Field::Air => "air",
+            Field::C0 => "c0",
+            Field::Ground => "ground",
+            Field::Piece => "piece",
+            Field::Level => "level",
+            Field::To => "to",
+        }
+    }
+}
+
 /// A class of parts. `Obstacle` counts barriers and buildings together, `Side` their sides.
 #[derive(Clone, Copy, Debug, PartialEq, Eq)]
 pub enum Class {
@@ -74,4 +109,23 @@ pub enum Class {
     Receiver,
     Obstacle,
     Side,
+}
+
+impl Class {
+    /// The word of a class, as rows have it.
+    #[tactic(auto, unfolding(crate::specs::Words::class_word))]
+    pub fn word(self) -> &'static str
+        ensures { result.now ≡ class_word self }
+    {
+        match self {
+            Class::Source => "source",
+            Class::Barrier => "barrier",
+            Class::Building => "building",
+            Class::Zone => "zone",
+            Class::Foliage => "foliage",
+            Class::Receiver => "receiver",
+            Class::Obstacle => "obstacle",
+            Class::Side => "side",
+        }
+    }
 }

@@ -7,7 +7,6 @@ ghost use Rattle.command_lines.specs.Fields as types;
 ghost use Rattle.command_lines.specs.Values.{text_of, name_of, any_name_of, whole_of, points_of, powers_of};
 
 use crate::faults::LineFault;
-use crate::texts::field_text;
 use crate::values::names::{is_part_name, is_plain_name};
 use crate::values::points::points_in;
 use crate::values::powers::powers_in;
@@ -19,7 +18,7 @@ use std::alloc::Global;
 fn given(line: &Value, field: Field) -> Option<&Value>
     ensures { option_map (λ value. view value.now) result ≡ value_at field (view line.now) }
 {
-    line.get(field_text(field))
+    line.get(field.word())
 }
 
 /// The value of a field of a line, or `Missing`.
