@@ -2,6 +2,7 @@ pub mod Limits
 pub mod Names
 pub mod Words
 pub mod Views
+pub mod Seen
 pub mod Sides
 pub mod Ranges
 pub mod Answers

@@ -20,12 +20,13 @@ pub struct PointSource {
 impl Model for PointSource {
     ghost use Rattle.scene_parts.specs.Views.{Source};
     ghost use Rattle.scene_parts.specs.Ranges.{IsSource};
+    ghost use Rattle.scene_parts.specs.Seen.{source_seen};
 
     ghost Value = { Source };
 
-    ghost view = { λ s. record { name = s.name; kind = s.kind; at = s.at; h = s.h; lw = s.lw; dc = s.dc } };
+    ghost view = { source_seen };
 
-    ghost invariant = { λ s. IsSource (record { name = s.name; kind = s.kind; at = s.at; h = s.h; lw = s.lw; dc = s.dc }) };
+    ghost invariant = { λ s. IsSource (source_seen s) };
 }
 
 /// A barrier or a building (ISO 9613-2, 7.4 and 7.5): its height in mm, and what its sides reflect per mille.
@@ -41,12 +42,13 @@ pub struct Obstacle {
 impl Model for Obstacle {
     ghost use Rattle.scene_parts.specs.Views.{Obstacle as ObstacleView};
     ghost use Rattle.scene_parts.specs.Ranges.{IsObstacle};
+    ghost use Rattle.scene_parts.specs.Seen.{obstacle_seen};
 
     ghost Value = { ObstacleView };
 
-    ghost view = { λ o. record { name = o.name; shape = o.shape; points = o.points; h = o.h; rho = o.rho } };
+    ghost view = { obstacle_seen };
 
-    ghost invariant = { λ o. IsObstacle (record { name = o.name; shape = o.shape; points = o.points; h = o.h; rho = o.rho }) };
+    ghost invariant = { λ o. IsObstacle (obstacle_seen o) };
 }
 
 /// A zone of ground (ISO 9613-2, 7.3.1): its ground factor in hundredths.
@@ -60,12 +62,13 @@ pub struct Zone {
 impl Model for Zone {
     ghost use Rattle.scene_parts.specs.Views.{Zone as ZoneView};
     ghost use Rattle.scene_parts.specs.Ranges.{IsZone};
+    ghost use Rattle.scene_parts.specs.Seen.{zone_seen};
 
     ghost Value = { ZoneView };
 
-    ghost view = { λ z. record { name = z.name; points = z.points; g = z.g } };
+    ghost view = { zone_seen };
 
-    ghost invariant = { λ z. IsZone (record { name = z.name; points = z.points; g = z.g }) };
+    ghost invariant = { λ z. IsZone (zone_seen z) };
 }
 
 /// Dense foliage (ISO 9613-2, Table A.1): trees and shrubs so dense that one can't see through them, with their height
@@ -80,12 +83,13 @@ pub struct Foliage {
 impl Model for Foliage {
     ghost use Rattle.scene_parts.specs.Views.{Foliage as FoliageView};
     ghost use Rattle.scene_parts.specs.Ranges.{IsFoliage};
+    ghost use Rattle.scene_parts.specs.Seen.{foliage_seen};
 
     ghost Value = { FoliageView };
 
-    ghost view = { λ f. record { name = f.name; points = f.points; h = f.h } };
+    ghost view = { foliage_seen };
 
-    ghost invariant = { λ f. IsFoliage (record { name = f.name; points = f.points; h = f.h }) };
+    ghost invariant = { λ f. IsFoliage (foliage_seen f) };
 }
 
 /// A receiver: a point at a height above ground, in mm.
@@ -99,12 +103,13 @@ pub struct Receiver {
 impl Model for Receiver {
     ghost use Rattle.scene_parts.specs.Views.{Receiver as ReceiverView};
     ghost use Rattle.scene_parts.specs.Ranges.{IsReceiver};
+    ghost use Rattle.scene_parts.specs.Seen.{receiver_seen};
 
     ghost Value = { ReceiverView };
 
-    ghost view = { λ r. record { name = r.name; at = r.at; h = r.h } };
+    ghost view = { receiver_seen };
 
-    ghost invariant = { λ r. IsReceiver (record { name = r.name; at = r.at; h = r.h }) };
+    ghost invariant = { λ r. IsReceiver (receiver_seen r) };
 }
 
 /// A part of a scene.

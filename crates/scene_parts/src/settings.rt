@@ -18,12 +18,13 @@ pub struct Globals {
 impl Model for Globals {
     ghost use Rattle.scene_parts.specs.Views.{Globals as GlobalsView};
     ghost use Rattle.scene_parts.specs.Ranges.{AreGlobals};
+    ghost use Rattle.scene_parts.specs.Seen.{globals_seen};
 
     ghost Value = { GlobalsView };
 
-    ghost view = { λ s. record { reach = s.reach; g = s.g; air = s.air; c0 = s.c0; method = s.ground } };
+    ghost view = { globals_seen };
 
-    ghost invariant = { λ s. AreGlobals (record { reach = s.reach; g = s.g; air = s.air; c0 = s.c0; method = s.ground }) };
+    ghost invariant = { λ s. AreGlobals (globals_seen s) };
 
     ghost inverse = { λ s. record { reach = s.reach; g = s.g; air = s.air; c0 = s.c0; ground = s.method } };
 }
@@ -41,12 +42,13 @@ pub struct SetSpec {
 impl Model for SetSpec {
     ghost use Rattle.scene_parts.specs.Views.{Setting};
     ghost use Rattle.scene_parts.specs.Ranges.{IsSetting};
+    ghost use Rattle.scene_parts.specs.Seen.{setting_seen};
 
     ghost Value = { Setting };
 
-    ghost view = { λ s. record { reach = s.reach; g = s.g; air = s.air; c0 = s.c0; method = s.ground } };
+    ghost view = { setting_seen };
 
-    ghost invariant = { λ s. IsSetting (record { reach = s.reach; g = s.g; air = s.air; c0 = s.c0; method = s.ground }) };
+    ghost invariant = { λ s. IsSetting (setting_seen s) };
 }
 
 /// A grid of receivers: the place of the first, the distance to the next in mm, and their height in mm.
@@ -63,10 +65,11 @@ pub struct GridSpec {
 impl Model for GridSpec {
     ghost use Rattle.scene_parts.specs.Views.{Grid};
     ghost use Rattle.scene_parts.specs.Ranges.{IsGrid};
+    ghost use Rattle.scene_parts.specs.Seen.{grid_seen};
 
     ghost Value = { Grid };
 
-    ghost view = { λ s. record { name = s.name; at = s.at; step = s.step; columns = s.columns; rows = s.rows; h = s.h } };
+    ghost view = { grid_seen };
 
-    ghost invariant = { λ s. IsGrid (record { name = s.name; at = s.at; step = s.step; columns = s.columns; rows = s.rows; h = s.h }) };
+    ghost invariant = { λ s. IsGrid (grid_seen s) };
 }
