@@ -4,7 +4,7 @@ use Rattle.std.specs.Fmt.{decimal}
 use Rattle.std.specs.List.{list_all, list_any, range_with_len}
 use Rattle.std.specs.Char.{is_ascii_digit}
 use Rattle.scene_geom.specs.declared.plan.Side.{Side}
-use Rattle.scene_parts.specs.Views.{Source}
+use Rattle.scene_parts.specs.Views.{Source, point_source}
 use Rattle.scene_parts.specs.Ranges.{is_power}
 use Rattle.scene_parts.specs.Sides.{squared_length}
 use Rattle.scene_parts.specs.Answers.{◌>>◌}
@@ -56,14 +56,8 @@ numbered name number = name ++ 47 ∷ [] ++ decimal number
 
 -- the source of a piece of a leg; the number is that of the piece in the whole line
 abbrev pub source_at : LineSource → CutLeg → ℕ → ℕ → Source
-source_at line cut number i = record {
-  name = numbered line.name number;
-  kind = line.kind;
-  at = place_of cut.side i cut.count;
-  h = line.h;
-  lw = cut.lw;
-  dc = line.dc;
-}
+source_at line cut number i =
+    point_source (numbered line.name number) line.kind (place_of cut.side i cut.count) line.h cut.lw line.dc
 
 -- the sources of a leg, numbered on from a number
 abbrev pub sources_on : LineSource → CutLeg → ℕ → List Source

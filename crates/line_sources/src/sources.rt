@@ -83,12 +83,6 @@ fn source(
     ensures { IfOk result (λ made. made ≡ source_at line.now leg.now number i) }
 {
     let name = numbered(alloc, line.name.items(), number)?;
-    Ok(PointSource {
-        name,
-        kind: line.kind,
-        at: place(leg.side, i, leg.count),
-        h: line.h,
-        lw: leg.lw,
-        dc: line.dc,
-    })
+    let at = place(leg.side, i, leg.count);
+    Ok(PointSource::of(name, line.kind, at, line.h, leg.lw, line.dc))
 }

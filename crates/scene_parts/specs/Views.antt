@@ -16,6 +16,10 @@ pub record Source : Type 0 where
   pub lw : List (Option ℤ)
   pub dc : ℤ
 
+-- the point source of these values
+abbrev pub point_source : List ℕ → Kind → Pt → ℕ → List (Option ℤ) → ℤ → Source
+point_source name kind at h lw dc = record { name = name; kind = kind; at = at; h = h; lw = lw; dc = dc }
+
 -- a barrier or a building (ISO 9613-2, 7.4 and 7.5): its corners, its height above ground in mm, and the
 -- sound reflected by its sides per mille
 pub record Obstacle : Type 0 where

@@ -1,4 +1,8 @@
 //! The parts of a scene. No value of these types is out of its range.
+ghost use Rattle.std.specs.Prelude.{◌≡◌};
+ghost use Rattle.scene_parts.specs.Views.{point_source};
+ghost use Rattle.scene_parts.specs.Ranges.{IsSource};
+
 use crate::kinds::{Kind, Shape};
 use crate::outlines::Outline;
 use crate::texts::Name;
@@ -27,6 +31,23 @@ impl Model for PointSource {
     ghost view = { source_seen };
 
     ghost invariant = { λ s. IsSource (source_seen s) };
+}
+
+impl PointSource {
+    /// The point source of these values, which lie in its ranges.
+    pub fn of(name: Name, kind: Kind, at: Pt, h: u32, lw: [Option<i32>; 8], dc: i32) -> Self
+        requires { IsSource (point_source name kind at h lw dc) }
+        ensures { result ≡ point_source name kind at h lw dc }
+    {
+        PointSource {
+            name,
+            kind,
+            at,
+            h,
+            lw,
+            dc,
+        }
+    }
 }
 
 /// A barrier or a building (ISO 9613-2, 7.4 and 7.5): its height in mm, and what its sides reflect per mille.
