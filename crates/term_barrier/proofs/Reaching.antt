@@ -126,31 +126,23 @@ product-mixed a l b i k small few h m =
     (subst (λ (range : Interval). LiesIn range (mul_of i k)) (mixed-range a l b small few)
     (product-lies _ _ i k (lies_in _ _ i h) (lies_in _ _ k m)))
 
--- and where it is the second that isn't
-mixed-left : (a l b : ℕ) → a * l < 2 ^ 126 → a * b < 2 ^ 126
-    → mul_of (from_to (neg_ℤ (pos l)) (pos b)) (from_to (pos 0) (pos a))
-    ≡ from_to (neg_ℤ (pos (div_ceil (a * l) (2 ^ 32)))) (pos (div_ceil (a * b) (2 ^ 32)))
+-- and where it is the second that isn't: products commute
+commuted : (al ah bl bh : ℤ) → mul_of (from_to bl bh) (from_to al ah) ≡ mul_of (from_to al ah) (from_to bl bh)
 unfolding mul_of
-mixed-left a l b small few =
-    let times : neg_ℤ (pos l) *ℤ pos a ≡ neg_ℤ (pos (a * l)) = *ℤ_comm (neg_ℤ (pos l)) (pos a) ∙ negated-times a l in
-    let turned : pos b *ℤ pos a ≡ pos (a * b) = *ℤ_comm (pos b) (pos a) in
-    let least : least_product (neg_ℤ (pos l)) (pos b) (pos 0) (pos a) ≡ neg_ℤ (pos (a * l)) = omega (arith, ints, clamps, times, turned) in
-    let greatest : greatest_product (neg_ℤ (pos l)) (pos b) (pos 0) (pos a) ≡ pos (a * b) = omega (arith, ints, clamps, times, turned) in
-    rw (
-      least,
-      greatest,
-      end_of-small (neg_ℤ (pos (a * l))) (omega (arith, ints, small)),
-      end_of-small (pos (a * b)) few,
-      floor-units (a * l),
-      ceil-units (a * b),
-    )
-    refl
+commuted al ah bl bh =
+    let p = *ℤ_comm bl al in
+    let q = *ℤ_comm bl ah in
+    let r = *ℤ_comm bh al in
+    let s = *ℤ_comm bh ah in
+    let least : least_product bl bh al ah ≡ least_product al ah bl bh = omega (arith, ints, clamps, p, q, r, s) in
+    let greatest : greatest_product bl bh al ah ≡ greatest_product al ah bl bh = omega (arith, ints, clamps, p, q, r, s) in
+    rw (least, greatest) refl
 
 product-left : (a l b : ℕ) (i k : Interval) → a * l < 2 ^ 126 → a * b < 2 ^ 126 → AreBetween (neg_ℤ (pos l)) (pos b) i → AreBetween (pos 0) (pos a) k
     → AreBetween (neg_ℤ (pos (div_ceil (a * l) (2 ^ 32)))) (pos (div_ceil (a * b) (2 ^ 32))) (mul_of i k)
 product-left a l b i k small few h m =
     are_between _ _ _
-    (subst (λ (range : Interval). LiesIn range (mul_of i k)) (mixed-left a l b small few)
+    (subst (λ (range : Interval). LiesIn range (mul_of i k)) (commuted (pos 0) (pos a) (neg_ℤ (pos l)) (pos b) ∙ mixed-range a l b small few)
     (product-lies _ _ i k (lies_in _ _ i h) (lies_in _ _ k m)))
 
 -- ---- C_3 is at most 3

@@ -11,6 +11,6 @@ mod sides;
 mod single;
 mod top;
 
-pub use screens::Screens;
+pub use screens::{EdgeBuffers, Screens};
 pub use sides::{RoundSides, d_z_side};
 pub use top::{a_bar, d_z_top};

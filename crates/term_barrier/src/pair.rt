@@ -91,7 +91,8 @@ impl Pair {
     /// above that end of the greatest.
     pub(crate) fn is_passed(&self, best: Iv, growth: u64) -> bool
         requires { growth < 2 ^ 43 }
-        ensures { IsTrue result → (band : Band) → growth ≡ growth_of band → Passes best band self.now }
+        ensures { IsTrue result
+            → (band : Band) → growth ≡ growth_of band → Passes best band self.now }
     {
         match self.reach {
             Some(factors) => stays_below(best, growth, factors),

@@ -43,7 +43,8 @@ impl Single {
 
     /// What stands under the logarithm in a band: 3 + (C_2 / λ) z K_met.
     pub(crate) fn argument(&self, band: Band) -> Iv
-        ensures { result ≡ enc (three_and (Mul (at_one_edge band (Known self.now.z)) (Known self.now.k))) }
+        ensures { result
+            ≡ enc (three_and (Mul (at_one_edge band (Known self.now.z)) (Known self.now.k))) }
     {
         three_and(mul(at_one_edge(band, self.z), self.k))
     }

@@ -69,7 +69,8 @@ fn best_over(path: &Path, edges: &[Edge], d: Iv, band: Band) -> Option<Iv>
 /// The greatest D_z of an edge alone.
 fn best_alone(path: &Path, edges: &[Edge], d: Iv, band: Band) -> Option<Iv>
     requires { All FitsEdge edges.now }
-    ensures { result ≡ greatest_from None (map (single_value path.now d band) (edges_above edges.now)) }
+    ensures { result
+        ≡ greatest_from None (map (single_value path.now d band) (edges_above edges.now)) }
 {
     let mut best = None;
     for edge in edges {
@@ -94,7 +95,8 @@ fn best_with(
     requires others { All FitsEdge others.now }
     ensures { result
         ≡ greatest_from best
-        (map (both_value path.now d band) (flat_map (both_ways edge.now.edge) (edges_above others.now))) }
+        (map (both_value path.now d band)
+        (flat_map (both_ways edge.now.edge) (edges_above others.now))) }
 {
     let mut best = best;
     for other in others {

@@ -41,8 +41,8 @@ pair_number band apart z k = enc (three_and (Mul (Known (two_edges band apart z)
 unfoldable pub growth_of : Band → ℕ
 growth_of band = 3 * div_ceil (c_2 * frequency_of band * 2 ^ 32) sound_speed
 
--- what an end of the number is at most, in units, for that end of K_met: 3 and the product of it with what C_2 C_3 / λ and z
--- are at most, rounded up after each factor
+-- what an end of the number is at most, in units, for that end of K_met: 3 and the product of it with what C_2 C_3 / λ
+-- and z are at most, rounded up after each factor
 abbrev pub most_number : ℕ → ℕ → ℕ → ℕ
 most_number growth z k = 3 * 2 ^ 32 + div_ceil (k * div_ceil (growth * z) (2 ^ 32)) (2 ^ 32)
 
@@ -55,7 +55,9 @@ abbrev pub IsReach : Apart → Interval → Interval → Factors → Type 0
 IsReach apart z k factors =
     (band : Band)
     → (unwrap_or (pair_number band apart z k).lo open_low ≤ℤ pos (most_number (growth_of band) factors.z factors.k_low))
-    × IsSomeAnd (pair_number band apart z k).hi (λ high. high ≤ℤ pos (most_number (growth_of band) factors.z factors.k_high))
+    × IsSomeAnd
+    (pair_number band apart z k).hi
+    (λ high. high ≤ℤ pos (most_number (growth_of band) factors.z factors.k_high))
 
 -- in a band with this growth, neither end of such a number is above that of an interval
 abbrev pub StaysBelow : Interval → ℕ → Factors → Type 0

@@ -1,6 +1,6 @@
 //! Pairs of edges over both of which sound may bend.
 
-ghost use Rattle.std.specs.Prelude.{◌≡◌, ◌<◌, ◌+◌, ◌∷◌, [], length, drop, flat_map, All, IfOk, OnOk};
+ghost use Rattle.std.specs.Prelude.{◌≡◌, ◌<◌, ◌+◌, ◌∷◌, [], length, drop, flat_map, All, OnOk};
 ghost use Rattle.term_barrier.specs.Screening.{pairs_of, both_ways, edges_in};
 ghost use Rattle.term_barrier.specs.inner.Prepared.{bend_of, risen, Adds, IsSingle};
 
@@ -11,28 +11,31 @@ use crate::single::bend::Bend;
 use fix_interval::Iv;
 use path_shape::Path;
 use scene_parts::NoMemory;
-use std::alloc::Global;
+
+/// A list has room for at least so many pairs, so that one that is lent to many paths hardly ever grows.
+const LEAST_ROOM: usize = 64;
 
 /// The ordered pairs of edges that rise above the line of sight, but those over which sound never bends: such a pair is at
-/// 0 dB in every band.
+/// 0 dB in every band. They stand in place of what a list held.
 pub(crate) fn prepare_pairs(
-    alloc: Global,
+    pairs: &mut Vec<Joined>,
     path: &Path,
     singles: &[Single],
     d: Iv,
-) -> Result<Vec<Joined>, NoMemory>
+) -> Result<(), NoMemory>
     requires { All (IsSingle path.now d) singles.now }
-    ensures { IfOk result (λ pairs. Adds path.now d [] pairs.items
+    ensures { OnOk result (Adds path.now d [] pairs.new.items
         (pairs_of (risen 0 (edges_in singles.now)))) }
 {
-    let mut pairs = Vec::new(alloc);
+    pairs.clear();
+    pairs.reserve(LEAST_ROOM)?;
     for i in 0..singles.len() {
         let first = &singles[i].bend;
         if first.edge.above {
-            add_pairs(&mut pairs, path, i, first, singles, d)?;
+            add_pairs(pairs, path, i, first, singles, d)?;
         }
     }
-    Ok(pairs)
+    Ok(())
 }
 
 /// Adds the pairs of an edge, numbered `i`, and each one behind it in the list, in either order.
@@ -48,7 +51,8 @@ fn add_pairs(
     requires first { first.now ≡ bend_of path.now first.now.edge }
     requires singles { All (IsSingle path.now d) singles.now }
     ensures { OnOk result (Adds path.now d pairs.old.items pairs.new.items
-        (flat_map (both_ways (i, first.now.edge)) (risen (i + 1) (edges_in (drop (i + 1) singles.now))))) }
+        (flat_map (both_ways (i, first.now.edge))
+        (risen (i + 1) (edges_in (drop (i + 1) singles.now))))) }
 {
     for j in i + 1..singles.len() {
         let second = &singles[j].bend;

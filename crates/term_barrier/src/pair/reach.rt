@@ -125,5 +125,5 @@ fn product(a: u64, b: u64) -> u64
     ensures value { result ≡ div_ceil (a * b) (2 ^ 32) }
     ensures few { result ≤ 2 ^ 63 }
 {
-    (u128::from(a) * u128::from(b) + ROUNDING >> 32) as u64
+    ((u128::from(a) * u128::from(b) + ROUNDING) >> 32) as u64
 }

@@ -1,6 +1,6 @@
 //! What the bands of a path share, gathered over its edges, and what each band makes of it.
 
-ghost use Rattle.std.specs.Prelude.{◌≡◌, ◌<◌, ◌+◌, Some, None, length, map, flat_map, is_some, ◌&&◌, All, IfSome, IfOk};
+ghost use Rattle.std.specs.Prelude.{◌≡◌, ◌<◌, ◌+◌, Some, None, length, map, flat_map, is_some, ◌&&◌, All, IfSome, OnOk};
 ghost use Rattle.fix_interval.specs.Tree.{Known, enc};
 ghost use Rattle.term_barrier.specs.Diffraction.{attenuation, single_limit, double_limit};
 ghost use Rattle.term_barrier.specs.Edges.{FitsEdge};
@@ -19,24 +19,24 @@ use fix_interval::{Iv, exact, max, min};
 use path_shape::Path;
 use scene_geom::Band;
 use scene_parts::{Edge, NoMemory};
-use std::alloc::Global;
 
-/// Each edge of a path alone.
+/// Each edge of a path alone, in place of what a list held.
 pub(crate) fn prepare(
-    alloc: Global,
+    singles: &mut Vec<Single>,
     path: &Path,
     edges: &[Edge],
     d: Iv,
-) -> Result<Vec<Single>, NoMemory>
+) -> Result<(), NoMemory>
     requires { All FitsEdge edges.now }
-    ensures edges { IfOk result (λ singles. edges_in singles.items ≡ edges.now) }
-    ensures singles { IfOk result (λ singles. All (IsSingle path.now d) singles.items) }
+    ensures edges { OnOk result (edges_in singles.new.items ≡ edges.now) }
+    ensures singles { OnOk result (All (IsSingle path.now d) singles.new.items) }
 {
-    let mut singles = Vec::new(alloc);
+    singles.clear();
+    singles.reserve(edges.len())?;
     for edge in edges {
         singles.push(Single::of(path, edge, d))?;
     }
-    Ok(singles)
+    Ok(())
 }
 
 /// The greatest D_z of marked edges that rise above the line of sight and of each two of them, where one rises. Where all
@@ -173,7 +173,8 @@ fn best_with(
     requires first { IsSingle path.now d first.now }
     requires singles { All (IsSingle path.now d) singles.now }
     ensures { result ≡ greatest_from best
-        (map (joint_value path.now d band) (flat_map (both_ways first.now) (rising_from (i + 1) marks.now singles.now))) }
+        (map (joint_value path.now d band)
+        (flat_map (both_ways first.now) (rising_from (i + 1) marks.now singles.now))) }
 {
     let mut best = best;
     for j in i + 1..singles.len() {
@@ -189,7 +190,8 @@ fn best_with(
 
 /// The greatest that stands under the logarithm of a marked edge alone.
 pub(crate) fn greatest_argument(singles: &[Single], marks: &[bool], band: Band) -> Option<Iv>
-    ensures { result ≡ greatest_from None (map (known_argument band) (marked marks.now singles.now)) }
+    ensures { result
+        ≡ greatest_from None (map (known_argument band) (marked marks.now singles.now)) }
 {
     let mut best = None;
     for i in 0..singles.len() {

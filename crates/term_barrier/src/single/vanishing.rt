@@ -19,7 +19,8 @@ const LEAST_DIFFERENCE: i128 = 1 << 11;
 
 /// Whether it is sure that K_met is less than the least end above 0.
 pub(crate) fn vanishes(d_ss: Iv, d_sr: Iv, d: Iv, z: Iv) -> bool
-    ensures { IsTrue result → enc (form.k_met (Known d_ss) (Known d_sr) (Known d) (Known z)) ≡ record { lo = Some (pos 0); hi = Some (pos 1) } }
+    ensures { IsTrue result → enc (form.k_met (Known d_ss) (Known d_sr) (Known d) (Known z))
+        ≡ record { lo = Some (pos 0); hi = Some (pos 1) } }
 {
     let product = whole_metres(d_ss) * whole_metres(d_sr) * whole_metres(d);
     lies_between(z, LEAST_DIFFERENCE, product.into())

@@ -14,11 +14,11 @@ over : (c : goal.After-less_ground)
     ≡ enc (screening c.args.self.now.path (Known c.args.self.now.path.dp) (marked c.args.marks.now c.args.self.now.edges) (Known c.args.self.now.d) (Known c.args.gr) c.args.band)
 over c =
     let s = c.self.inside in
-    let argument = greatest_from None (map (known_argument c.args.band) (marked c.args.marks.now s.singles.items)) in
+    let argument = greatest_from None (map (known_argument c.args.band) (marked c.args.marks.now s.singles.now)) in
     c.less_ground.ensures
     ∙ ap (λ (best : Option Interval). screened_by best argument c.args.gr) (sym c.in-Some.is)
-    ∙ screened-known c.args.self.now s.path s.d c.args.gr s.singles.items s.pairs.items c.args.band c.args.marks.now c.best_over.result argument
-    c.self.invariant c.self.view_is (rw c.as_slice-singles.ensures.value at c.best_over.ensures) refl
+    ∙ screened-known c.args.self.now s.path s.d c.args.gr s.singles.now s.pairs.now c.args.band c.args.marks.now c.best_over.result argument
+    c.self.invariant c.self.view_is c.best_over.ensures refl
 
 below : (c : goal.After-below_line)
     → c.below_line.result
@@ -27,9 +27,8 @@ below c =
     let s = c.self.inside in
     c.below_line.ensures
     ∙ ap (λ (best : Option Interval). screened_by best c.greatest_argument.result c.args.gr) (sym c.in-None.is)
-    ∙ screened-known c.args.self.now s.path s.d c.args.gr s.singles.items s.pairs.items c.args.band c.args.marks.now c.best_over.result c.greatest_argument.result
-    c.self.invariant c.self.view_is (rw c.as_slice-singles.ensures.value at c.best_over.ensures)
-    (rw c.as_slice-singles.ensures.value at c.greatest_argument.ensures)
+    ∙ screened-known c.args.self.now s.path s.d c.args.gr s.singles.now s.pairs.now c.args.band c.args.marks.now c.best_over.result c.greatest_argument.result
+    c.self.invariant c.self.view_is c.best_over.ensures c.greatest_argument.ensures
 
 pub returns-in-Some-clause-value : goal.returns-in-Some-clause-value
 returns-in-Some-clause-value c = over c
