@@ -12,7 +12,7 @@ use scene_parts::Edge;
 use std::alloc::{AllocError, Global};
 use std::process::Abort;
 use std::test::Fail;
-use term_barrier::{Screens, a_bar, d_z_side, d_z_top};
+use term_barrier::{EdgeBuffers, Screens, a_bar, d_z_side, d_z_top};
 
 /// A side that crosses the line of sight, its height in mm, and whether it rises above the line.
 type Wall = ((i64, i64), (i64, i64), u32, bool);
@@ -376,14 +376,14 @@ fn corners_attenuate(rt: HostRuntime) -> Result<(), Fail> {
 /// What is screened of a case's path where all these edges count, and where none does.
 fn has_marked(
     rt: &impl Abort,
-    alloc: Global,
+    buffers: &mut EdgeBuffers,
     case: &Case,
     path: &Path,
     edges: &[Edge],
 ) -> Result<(), AllocError>
     requires { All FitsEdge edges.now }
 {
-    match Screens::of(alloc, path, edges, metres(case.square)) {
+    match Screens::of(buffers, path, edges, metres(case.square)) {
         Ok(screens) => {
             leaves_out(rt, case, &screens);
             Ok(())
@@ -393,10 +393,15 @@ fn has_marked(
 }
 
 /// What is screened of a case's path where all its edges count, and where none does.
-fn expect_marked(rt: &impl Abort, alloc: Global, case: &Case) -> Result<(), AllocError> {
+fn expect_marked(
+    rt: &impl Abort,
+    alloc: Global,
+    buffers: &mut EdgeBuffers,
+    case: &Case,
+) -> Result<(), AllocError> {
     let path = direct(case.source, case.receiver);
     let edges = edges_of(alloc, case)?;
-    has_marked(rt, alloc, case, &path, &edges)
+    has_marked(rt, buffers, case, &path, &edges)
 }
 
 /// Asserts that of a case's path all is screened by all edges, and nothing by none.
@@ -408,9 +413,11 @@ fn leaves_out(rt: &impl Abort, case: &Case, screens: &Screens) {
     has_ends(rt, none, (0, 0));
 }
 
+/// The same of some cases, with buffers that are lent to one path after another.
 fn all_marked(rt: &impl Abort, alloc: Global, cases: &[Case]) -> Result<(), AllocError> {
+    let mut buffers = EdgeBuffers::new(alloc);
     for case in cases {
-        expect_marked(rt, alloc, case)?;
+        expect_marked(rt, alloc, &mut buffers, case)?;
     }
     Ok(())
 }
@@ -455,7 +462,8 @@ fn expect_beside(rt: &impl Abort, alloc: Global, edges: &[Edge]) -> Result<(), A
     requires { All FitsEdge edges.now }
 {
     let path = direct((0, 0, 2000), (100_000, 0, 2000));
-    match Screens::of(alloc, &path, edges, metres(10_000_000_000)) {
+    let mut buffers = EdgeBuffers::new(alloc);
+    match Screens::of(&mut buffers, &path, edges, metres(10_000_000_000)) {
         Ok(screens) => {
             has_beside(rt, &screens);
             Ok(())
