@@ -37,6 +37,11 @@ is_first : (hand : Hand) (s r : Pt) (points : List Pt) → Sorted hand s r point
 is_first hand s r [] sorted = tt
 is_first hand s r (p ∷ rest) sorted = first_clear hand s r p rest sorted
 
+-- a string has its end at least
+pub has_end : (hand : Hand) (r : Pt) (sorted held : List Pt) (begin : ℕ) → drop begin held ≡ wound hand (sorted ++ r ∷ []) → 1 ≤ length held - begin
+has_end hand r [] held begin is = omega (arith, length-drop begin held, ap length is)
+has_end hand r (p ∷ sorted) held begin is = omega (arith, length-drop begin held, ap length is)
+
 -- ---- the buffer
 -- what the buffer holds: the points on the hand in their order, the string wound round them with its end behind it, and
 -- what is cut out of it

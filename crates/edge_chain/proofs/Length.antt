@@ -1,6 +1,6 @@
 -- A chain isn't long. How far a point stands off the line from S to R grows along a chain up to one point and then
 -- falls. While it grows, a coordinate of the plan turns round once at most, and while it falls, once more.
-use Rattle.std.proofs.Common.{◌≡◌, ℕ, zero, suc, ◌+◌, ◌*◌, ◌≤◌, Bool, true, false, arith, ap, sym, refl, ◌∙◌, ◌⊎◌, inl, inr, List, [], ◌∷◌, ◌++◌}
+use Rattle.std.proofs.Common.{◌≡◌, ℕ, zero, suc, ◌+◌, ◌≤◌, Bool, true, false, arith, ap, refl, inl, inr, List, [], ◌∷◌, ◌++◌}
 use Rattle.std.specs.Prelude.{ℤ, pos, negsuc, neg_ℤ, int_lt, not, ◌&&◌, ◌+ℤ◌, ◌-ℤ◌, ◌*ℤ◌, ◌≤ℤ◌, ◌<ℤ◌, unsigned_abs, Contains}
 use Rattle.std.specs.List.{list_all}
 use Rattle.std.proofs.lemmas.Int.{ints, by_lt_z}
@@ -12,7 +12,7 @@ use Rattle.scene_geom.proofs.Whole.{sub_mul, mul_sub}
 use Rattle.scene_geom.proofs.Vectors.{cross-between}
 use Rattle.edge_chain.specs.declared.hand.Hand.{Hand}
 use Rattle.edge_chain.specs.declared.hand.Hand.TheVariants.{Left, Right}
-use Rattle.edge_chain.specs.Chain.{off_line, turns_away, is_outermost, is_stretched, points_beside, IsChain}
+use Rattle.edge_chain.specs.Chain.{off_line, turns_away, is_outermost, points_beside}
 use Rattle.edge_chain.specs.Laws.{way_along_axes, ChainsAreShort}
 use Rattle.edge_chain.proofs.Signs.{positive_mul, negative_mul, of_product, four_vectors, of_negatives}
 use Rattle.edge_chain.proofs.Hands.{turned}

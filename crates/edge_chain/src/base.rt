@@ -1,12 +1,11 @@
 //! A line from source to receiver, and the order of the points on one hand of it.
-ghost use Rattle.std.specs.Prelude.{◌≡◌, ◌&&◌, ◌≤◌, unsigned_abs, IfOk};
+ghost use Rattle.std.specs.Prelude.{◌≡◌, ◌&&◌, ◌≤◌, ◌++◌, unsigned_abs, OnOk};
 ghost use Rattle.edge_chain.specs.Chain.{off_line, is_beside, points_beside};
 ghost use Rattle.edge_chain.specs.inner.Bearing.{bearing_order, turn_of};
 
 use crate::hand::Hand;
 use scene_geom::Pt;
 use scene_parts::NoMemory;
-use std::alloc::Global;
 use std::cmp::Ordering;
 
 /// The line from a source to a receiver, and a hand of it.
@@ -18,18 +17,17 @@ pub struct Base {
 }
 
 impl Base {
-    /// The points that lie strictly on the hand, in their order.
-    pub fn points_beside(self, alloc: Global, points: &[Pt]) -> Result<Vec<Pt>, NoMemory>
-        ensures { IfOk result (λ beside. beside.items
-            ≡ points_beside points.now self.s self.r self.hand) }
+    /// Adds the points that lie strictly on the hand, in their order.
+    pub fn add_points_beside(self, points: &[Pt], beside: &mut Vec<Pt>) -> Result<(), NoMemory>
+        ensures { OnOk result (beside.new.items
+            ≡ beside.old.items ++ points_beside points.now self.s self.r self.hand) }
     {
-        let mut beside = Vec::new(alloc);
         for point in points {
             if self.has_beside(*point) {
                 beside.push(*point)?;
             }
         }
-        Ok(beside)
+        Ok(())
     }
 
     /// The order of points by their bearing from the source, from the ray that is farthest off the receiver, and on one

@@ -11,4 +11,4 @@ mod winding;
 
 pub use blocking::is_blocked;
 pub use hand::Hand;
-pub use stretching::chain;
+pub use stretching::{chain, stretch};

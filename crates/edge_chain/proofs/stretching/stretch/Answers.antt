@@ -1,10 +1,16 @@
-use Rattle.std.proofs.Common.{arith, rules}
+use Rattle.std.proofs.Common.{◌≡◌, length, arith, rules}
 use Rattle.std.proofs.lemmas.Fn.{always_returns_same}
 use Rattle.std.proofs.lemmas.Grind.{common_steps}
 use Rattle.std.proofs.lemmas.List.Sorted.{sorted_far}
 use Rattle.edge_chain.proofs.Bearings.{comes_before, is_order}
-use Rattle.edge_chain.proofs.Chains.{Buffer, is_chain, is_value}
-use Rattle.edge_chain.proofs.stretching.chain.Goals as goal
+use Rattle.edge_chain.proofs.Chains.{Buffer, has_end, is_chain, is_value}
+use Rattle.edge_chain.proofs.stretching.stretch.Goals as goal
+
+pub overflow_sub-count-2 : goal.overflow_sub-count-2
+overflow_sub-count-2 c =
+    let held : c.len.result ≡ length c.wind-begin.new.points = search rules in
+    let end = has_end c.args.hand c.args.r c.sort_unstable_by.new.self.items c.wind-begin.new.points c.wind-begin.result (search rules) in
+    omega (arith, end, held)
 
 -- what the buffer holds at the end
 buffer : (c : goal.After-truncate)
