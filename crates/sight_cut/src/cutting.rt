@@ -25,7 +25,8 @@ pub fn cuts(
     ensures { IfOk result (λ cuts. cuts.items
         ≡ cuts_of band (record { s = s; hs = hs; r = r; hr = hr }) obstacles.now) }
 {
-    let crossings = crossings(alloc, obstacles, Ends { s, hs, r, hr })?;
+    let mut crossings = Vec::new(alloc);
+    find_crossings(obstacles, Ends { s, hs, r, hr }, &mut crossings)?;
     cuts_in(alloc, crossings.as_slice(), band)
 }
 
@@ -47,22 +48,22 @@ pub(crate) fn cuts_in(
     Ok(cuts)
 }
 
-/// All sides of all obstacles that cross the line of sight, in their order.
-pub fn crossings(
-    alloc: Global,
+/// All sides of all obstacles that cross the line of sight, in their order, in place of what the list held.
+pub fn find_crossings(
     obstacles: &[Obstacle],
     ends: Ends,
-) -> Result<Vec<Crossing>, NoMemory>
+    crossings: &mut Vec<Crossing>,
+) -> Result<(), NoMemory>
     requires few { length obstacles.now < 2 ^ 32 }
-    ensures { IfOk result (λ found. found.items ≡ crossings_of ends obstacles.now) }
+    ensures { OnOk result (crossings.new.items ≡ crossings_of ends obstacles.now) }
 {
-    let mut found = Vec::new(alloc);
+    crossings.clear();
     let mut number = 0u32;
     for obstacle in obstacles {
-        add_crossings(&mut found, obstacle, number, ends)?;
+        add_crossings(crossings, obstacle, number, ends)?;
         number += 1;
     }
-    Ok(found)
+    Ok(())
 }
 
 /// Adds the crossings of an obstacle.

@@ -7,5 +7,5 @@ mod cutting;
 pub mod laws;
 mod near;
 
-pub use cutting::{crossings, cuts};
-pub use near::{crossings_near, cuts_near, grid_of};
+pub use cutting::{cuts, find_crossings};
+pub use near::{cuts_near, find_crossings_near, grid_of};

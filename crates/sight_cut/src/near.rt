@@ -57,28 +57,29 @@ pub fn cuts_near(
 {
     let mut found = Found::new(alloc);
     let ends = Ends { s, hs, r, hr };
-    let crossings = crossings_near(alloc, grid, obstacles, ends, &mut found)?;
+    let mut crossings = Vec::new(alloc);
+    find_crossings_near(grid, obstacles, ends, &mut found, &mut crossings)?;
     cuts_in(alloc, crossings.as_slice(), band)
 }
 
-/// What `crossings` gives, by the index of the obstacles: only the sides near the line of sight are looked at. The
+/// What `find_crossings` finds, by the index of the obstacles: only the sides near the line of sight are looked at. The
 /// buffers are lent to the search.
-pub fn crossings_near(
-    alloc: Global,
+pub fn find_crossings_near(
     grid: &Grid,
     obstacles: &[Obstacle],
     ends: Ends,
     found: &mut Found,
-) -> Result<Vec<Crossing>, NoMemory>
+    crossings: &mut Vec<Crossing>,
+) -> Result<(), NoMemory>
     requires stands { grid.now ≡ numbered (map sides_of obstacles.now) }
-    ensures { IfOk result (λ crossings. crossings.items ≡ crossings_of ends obstacles.now) }
+    ensures { OnOk result (crossings.new.items ≡ crossings_of ends obstacles.now) }
 {
+    crossings.clear();
     grid.find_near(ends.s, ends.r, found)?;
-    let mut crossings = Vec::new(alloc);
     for near in found.sides() {
         let obstacle = &obstacles[near.obstacle as usize];
         let numbers = (near.obstacle, near.index);
-        add_crossing(&mut crossings, obstacle, numbers, near.side, ends)?;
+        add_crossing(crossings, obstacle, numbers, near.side, ends)?;
     }
-    Ok(crossings)
+    Ok(())
 }

@@ -5,7 +5,7 @@ use Rattle.scene_parts.specs.Sides.{sides_of}
 use Rattle.part_grid.specs.Near.{sides_near}
 use Rattle.part_grid.proofs.Numbered.{obstacle-within}
 use Rattle.sight_cut.proofs.Nearby.{near_sides, near_crossing, near-at, near-are-all, side-added}
-use Rattle.sight_cut.proofs.near.crossings_near.Goals as goal
+use Rattle.sight_cut.proofs.near.find_crossings_near.Goals as goal
 
 -- the sides that are gone through are those near the line
 pub bounds-obstacles-near : goal.bounds-obstacles-near

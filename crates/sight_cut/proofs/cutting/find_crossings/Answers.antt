@@ -3,12 +3,12 @@ use Rattle.std.proofs.lemmas.List.{drop_all}
 use Rattle.scene_parts.specs.Sides.{sides_of}
 use Rattle.sight_cut.specs.Cuts.{crossings_along, crossings_from}
 use Rattle.sight_cut.proofs.Found.{obstacle-added}
-use Rattle.sight_cut.proofs.cutting.crossings.Goals as goal
+use Rattle.sight_cut.proofs.cutting.find_crossings.Goals as goal
 
 pub loop-obstacle-preserved : goal.loop-obstacle-preserved
 loop-obstacle-preserved c =
     let o = c.obstacle-item.result in
-    let numbered = ap (λ n. c.loop-obstacle.found.items ++ crossings_along c.args.ends n 0 o (sides_of o)) c.loop-obstacle.invariant.1 in (
+    let numbered = ap (λ n. c.loop-obstacle.crossings.items ++ crossings_along c.args.ends n 0 o (sides_of o)) c.loop-obstacle.invariant.1 in (
       obstacle-added c.args.ends c.args.obstacles.now c.loop-obstacle.obstacle-index o _ _ _ c.loop-obstacle-test.true c.obstacle-item.is
           (c.in_ok-add_crossings.ensures ∙ numbered) c.loop-obstacle.invariant.0,
       omega (arith, c.loop-obstacle.invariant.1),
@@ -20,5 +20,5 @@ overflow_add-number c = omega (arith, c.loop-obstacle.invariant.1, c.loop-obstac
 pub returns : goal.returns
 returns c =
     let none : drop c.loop-obstacle.obstacle-index c.args.obstacles.now ≡ [] = drop_all c.loop-obstacle.obstacle-index c.args.obstacles.now c.loop-obstacle-test.false in
-    sym (append-nil c.loop-obstacle.found.items) ∙ ap (λ os. c.loop-obstacle.found.items ++ crossings_from c.args.ends c.loop-obstacle.obstacle-index os) (sym none)
+    sym (append-nil c.loop-obstacle.crossings.items) ∙ ap (λ os. c.loop-obstacle.crossings.items ++ crossings_from c.args.ends c.loop-obstacle.obstacle-index os) (sym none)
     ∙ c.loop-obstacle.invariant.0
