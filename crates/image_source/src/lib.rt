@@ -18,6 +18,6 @@ pub use dimension::{big_enough, big_enough_in_bands, dimension_squared, needed_s
 pub use facing::{FacingSide, FacingSides};
 pub use image::Mirror;
 pub use leg::Leg;
-pub use near::{leg_crossings_near, leg_cuts_near};
+pub use near::{find_leg_crossings_near, leg_cuts_near};
 pub use reflecting::{has_mirror, mirror};
-pub use search::{leg_crossings, leg_cuts};
+pub use search::{find_leg_crossings, leg_cuts};

@@ -31,30 +31,30 @@ pub fn leg_cuts_near(
 {
     let mut found = Found::new(alloc);
     let ends = Ends { s, hs, r, hr };
-    let crossings = leg_crossings_near(alloc, grid, obstacles, m, ends, &mut found)?;
+    let mut crossings = Vec::new(alloc);
+    find_leg_crossings_near(grid, obstacles, m, ends, &mut found, &mut crossings)?;
     cuts_in(alloc, crossings.as_slice(), band)
 }
 
-/// What `leg_crossings` gives, by the index of the obstacles: of their sides only those near a leg are looked at. The
+/// What `find_leg_crossings` finds, by the index of the obstacles: of their sides only those near a leg are looked at. The
 /// buffers are lent to the search.
-pub fn leg_crossings_near(
-    alloc: Global,
+pub fn find_leg_crossings_near(
     grid: &Grid,
     obstacles: &[Obstacle],
     m: &Mirror,
     ends: Ends,
     found: &mut Found,
-) -> Result<Vec<(Leg, Crossing)>, NoMemory>
+    crossings: &mut Vec<(Leg, Crossing)>,
+) -> Result<(), NoMemory>
     requires stands { grid.now ≡ numbered (map sides_of obstacles.now) }
-    ensures { IfOk result (λ crossings. crossings.items
+    ensures { OnOk result (crossings.new.items
         ≡ leg_crossings_of m.now ends obstacles.now) }
 {
-    let mut crossings = Vec::new(alloc);
+    crossings.clear();
     find_near_leg(grid, Leg::First, m, ends, found)?;
-    add_near(&mut crossings, grid, obstacles, Leg::First, m, ends, found)?;
+    add_near(crossings, grid, obstacles, Leg::First, m, ends, found)?;
     find_near_leg(grid, Leg::Second, m, ends, found)?;
-    add_near(&mut crossings, grid, obstacles, Leg::Second, m, ends, found)?;
-    Ok(crossings)
+    add_near(crossings, grid, obstacles, Leg::Second, m, ends, found)
 }
 
 /// Finds the sides whose cells meet a leg.

@@ -31,7 +31,8 @@ pub fn leg_cuts(
     ensures { IfOk result (λ cuts. cuts.items
         ≡ leg_cuts_of band m.now (record { s = s; hs = hs; r = r; hr = hr }) obstacles.now) }
 {
-    let crossings = leg_crossings(alloc, obstacles, m, Ends { s, hs, r, hr })?;
+    let mut crossings = Vec::new(alloc);
+    find_leg_crossings(obstacles, m, Ends { s, hs, r, hr }, &mut crossings)?;
     cuts_in(alloc, crossings.as_slice(), band)
 }
 
@@ -54,20 +55,19 @@ pub(crate) fn cuts_in(
 }
 
 /// All sides of all obstacles that cross a leg of a reflection between these ends, in the order of legs, obstacles and
-/// sides, each with the bands in which its obstacle is large enough.
-pub fn leg_crossings(
-    alloc: Global,
+/// sides, each with the bands in which its obstacle is large enough, in place of what the list held.
+pub fn find_leg_crossings(
     obstacles: &[Obstacle],
     m: &Mirror,
     ends: Ends,
-) -> Result<Vec<(Leg, Crossing)>, NoMemory>
+    crossings: &mut Vec<(Leg, Crossing)>,
+) -> Result<(), NoMemory>
     requires few { length obstacles.now < 2 ^ 32 }
-    ensures { IfOk result (λ found. found.items ≡ leg_crossings_of m.now ends obstacles.now) }
+    ensures { OnOk result (crossings.new.items ≡ leg_crossings_of m.now ends obstacles.now) }
 {
-    let mut found = Vec::new(alloc);
-    add_leg(&mut found, obstacles, Leg::First, m, ends)?;
-    add_leg(&mut found, obstacles, Leg::Second, m, ends)?;
-    Ok(found)
+    crossings.clear();
+    add_leg(crossings, obstacles, Leg::First, m, ends)?;
+    add_leg(crossings, obstacles, Leg::Second, m, ends)
 }
 
 /// Adds the crossings of all obstacles with a leg.
