@@ -6,11 +6,11 @@ ghost use Rattle.part_grid.specs.Numbered.{numbered};
 
 use crate::obstacles::add_obstacle;
 use crate::places::at;
-use image_source::{Leg, Mirror, leg_crossings, leg_crossings_near, mirror};
+use image_source::{Leg, Mirror, find_leg_crossings, find_leg_crossings_near, mirror};
 use part_grid::{Found, Grid};
 use scene_geom::Pt;
 use scene_parts::{Crossing, Ends, NoMemory, Obstacle, Shape, sides};
-use sight_cut::{crossings, crossings_near, grid_of};
+use sight_cut::{find_crossings, find_crossings_near, grid_of};
 use std::alloc::{AllocError, Global};
 use std::process::Abort;
 use std::test::Fail;
@@ -31,6 +31,14 @@ const SPOTS: [(i64, i64); 7] = [
 struct Counts {
     lines: usize,
     legs: usize,
+}
+
+/// What is lent to the searches by the index, from path to path.
+#[derive(Drop)]
+struct Lent {
+    found: Found,
+    crossings: Vec<Crossing>,
+    on_legs: Vec<(Leg, Crossing)>,
 }
 
 /// Adds a barrier and a building at one of 64 places.
@@ -93,14 +101,15 @@ fn compare_lines(
     grid: &Grid,
     obstacles: &[Obstacle],
     ends: Ends,
-    found: &mut Found,
+    lent: &mut Lent,
 ) -> Result<usize, NoMemory>
     requires few { length obstacles.now < 2 ^ 32 }
     requires stands { grid.now ≡ numbered (map sides_of obstacles.now) }
 {
-    let all = crossings(alloc, obstacles, ends)?;
-    let near = crossings_near(alloc, grid, obstacles, ends, found)?;
-    are_same(rt, &all, &near);
+    let mut all = Vec::new(alloc);
+    find_crossings(obstacles, ends, &mut all)?;
+    find_crossings_near(grid, obstacles, ends, &mut lent.found, &mut lent.crossings)?;
+    are_same(rt, &all, &lent.crossings);
     Ok(all.len())
 }
 
@@ -112,14 +121,15 @@ fn compare_legs(
     obstacles: &[Obstacle],
     m: &Mirror,
     ends: Ends,
-    found: &mut Found,
+    lent: &mut Lent,
 ) -> Result<usize, NoMemory>
     requires few { length obstacles.now < 2 ^ 32 }
     requires stands { grid.now ≡ numbered (map sides_of obstacles.now) }
 {
-    let all = leg_crossings(alloc, obstacles, m, ends)?;
-    let near = leg_crossings_near(alloc, grid, obstacles, m, ends, found)?;
-    are_same_on_legs(rt, &all, &near);
+    let mut all = Vec::new(alloc);
+    find_leg_crossings(obstacles, m, ends, &mut all)?;
+    find_leg_crossings_near(grid, obstacles, m, ends, &mut lent.found, &mut lent.on_legs)?;
+    are_same_on_legs(rt, &all, &lent.on_legs);
     Ok(all.len())
 }
 
@@ -131,7 +141,7 @@ fn compare_wall(
     obstacles: &[Obstacle],
     wall: &Obstacle,
     ends: Ends,
-    found: &mut Found,
+    lent: &mut Lent,
 ) -> Result<usize, NoMemory>
     requires few { length obstacles.now < 2 ^ 32 }
     requires stands { grid.now ≡ numbered (map sides_of obstacles.now) }
@@ -139,7 +149,7 @@ fn compare_wall(
     let mut legs = 0;
     for i in 0..sides(wall) {
         if let Some(m) = mirror(wall, i, ends.s, ends.hs, ends.r, ends.hr) {
-            let count = compare_legs(rt, alloc, grid, obstacles, &m, ends, found)?;
+            let count = compare_legs(rt, alloc, grid, obstacles, &m, ends, lent)?;
             legs = count.max(legs);
         }
     }
@@ -153,15 +163,15 @@ fn compare_by(
     grid: &Grid,
     obstacles: &[Obstacle],
     ends: Ends,
-    found: &mut Found,
+    lent: &mut Lent,
 ) -> Result<Counts, NoMemory>
     requires few { length obstacles.now < 2 ^ 32 }
     requires stands { grid.now ≡ numbered (map sides_of obstacles.now) }
 {
-    let lines = compare_lines(rt, alloc, grid, obstacles, ends, found)?;
+    let lines = compare_lines(rt, alloc, grid, obstacles, ends, lent)?;
     let mut legs = 0;
     for wall in obstacles {
-        legs = compare_wall(rt, alloc, grid, obstacles, wall, ends, found)?.max(legs);
+        legs = compare_wall(rt, alloc, grid, obstacles, wall, ends, lent)?.max(legs);
     }
     Ok(Counts { lines, legs })
 }
@@ -172,11 +182,11 @@ fn compare(
     alloc: Global,
     obstacles: &[Obstacle],
     ends: Ends,
-    found: &mut Found,
+    lent: &mut Lent,
 ) -> Result<Counts, NoMemory> {
     assert!(rt; obstacles.len() < 1000);
     let grid = grid_of(alloc, obstacles)?;
-    compare_by(rt, alloc, &grid, obstacles, ends, found)
+    compare_by(rt, alloc, &grid, obstacles, ends, lent)
 }
 
 /// The same between all spots: the most that were found.
@@ -184,12 +194,12 @@ fn compare_all(
     rt: &impl Abort,
     alloc: Global,
     obstacles: &[Obstacle],
-    found: &mut Found,
+    lent: &mut Lent,
 ) -> Result<Counts, NoMemory> {
     let (mut lines, mut legs) = (0, 0);
     for s in &SPOTS {
         for r in &SPOTS {
-            let counts = compare(rt, alloc, obstacles, ends(at(*s), at(*r)), found)?;
+            let counts = compare(rt, alloc, obstacles, ends(at(*s), at(*r)), lent)?;
             lines = counts.lines.max(lines);
             legs = counts.legs.max(legs);
         }
@@ -209,8 +219,12 @@ fn are_same_on_legs(rt: &impl Abort, all: &[(Leg, Crossing)], near: &[(Leg, Cros
 #[test]
 fn the_index_finds_what_is_found_without_it(rt: HostRuntime) -> Result<(), Fail> {
     let obstacles = town(rt.alloc())?;
-    let mut found = Found::new(rt.alloc());
-    let Ok(most) = compare_all(&rt, rt.alloc(), &obstacles, &mut found) else {
+    let mut lent = Lent {
+        found: Found::new(rt.alloc()),
+        crossings: Vec::new(rt.alloc()),
+        on_legs: Vec::new(rt.alloc()),
+    };
+    let Ok(most) = compare_all(&rt, rt.alloc(), &obstacles, &mut lent) else {
         return Err(AllocError.into());
     };
     assert!(rt; most.lines > 5 && most.legs > 5);
