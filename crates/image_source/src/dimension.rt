@@ -38,16 +38,7 @@ pub fn big_enough_in_bands(side: Side, h: u32, m: &Mirror, d: Iv) -> [Truth; 8]
 {
     let seen = dimension_squared(side, h, m, d);
     let legs = legs_product(m, d);
-    [
-        less(needed_over(legs, Band::Hz63), seen),
-        less(needed_over(legs, Band::Hz125), seen),
-        less(needed_over(legs, Band::Hz250), seen),
-        less(needed_over(legs, Band::Hz500), seen),
-        less(needed_over(legs, Band::Hz1000), seen),
-        less(needed_over(legs, Band::Hz2000), seen),
-        less(needed_over(legs, Band::Hz4000), seen),
-        less(needed_over(legs, Band::Hz8000), seen),
-    ]
+    Band::of_each(|band| less(needed_over(legs, band), seen))
 }
 
 /// (l_min cos β)² of the reflection in a side of a wall of height `h` in mm, whose path is `d` metres long: the square of
