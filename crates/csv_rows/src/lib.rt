@@ -5,7 +5,7 @@ mod numbers;
 mod texts;
 mod writing;
 
-pub use numbers::{MOST_DIGITS, digits};
+pub use numbers::{MAX_DIGITS, digits};
 pub use scene_parts::NoMemory;
 pub use texts::{RowText, RowTexts};
 pub use writing::RowWriter;

@@ -10,7 +10,7 @@ use scene_parts::NoMemory;
 use std::alloc::Global;
 
 /// How many bytes of earlier rows a writer of the kit is kept with at most.
-const MOST_KEPT: usize = 65_536;
+const MAX_KEPT: usize = 65_536;
 
 /// Makes the texts of rows, one after another. One writer of the kit serves many rows, since a new one costs several times
 /// what a row does: it holds an array of 8 KB. The bytes of the rows that it has written stay behind it, so another takes
@@ -59,7 +59,7 @@ impl RowWriter {
         let mut writer = self.take_writer()?;
         let fields = [kind, version, receiver, state, by, low, high];
         let text = written(self.alloc, &mut writer, &fields)?;
-        if writer.get_ref().len() <= MOST_KEPT {
+        if writer.get_ref().len() <= MAX_KEPT {
             self.writer = Some(writer);
         }
         Ok(text)

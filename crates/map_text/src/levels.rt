@@ -13,10 +13,10 @@ use scene_geom::Band;
 use scene_parts::{Name, NoMemory};
 
 /// How many bytes an end takes at most: those of three numbers of 64 bits, and of a point.
-const MOST_BYTES: usize = 64;
+const MAX_BYTES: usize = 64;
 
 #[tactic(auto, unfolding(crate::specs::Rows::hundredths_text))]
-fn decibels(hundredths: u64) -> ArrayString<MOST_BYTES>
+fn decibels(hundredths: u64) -> ArrayString<MAX_BYTES>
     ensures { result.bytes ≡ hundredths_text hundredths }
 {
     let mut buffer = Buffer::new();
@@ -29,7 +29,7 @@ fn decibels(hundredths: u64) -> ArrayString<MOST_BYTES>
 }
 
 /// The text of a low end, which is rounded down.
-fn low_text(end: i128) -> ArrayString<MOST_BYTES>
+fn low_text(end: i128) -> ArrayString<MAX_BYTES>
     requires { IsPrintable end }
     ensures { result.bytes ≡ low_text (Some end) }
 {
@@ -37,7 +37,7 @@ fn low_text(end: i128) -> ArrayString<MOST_BYTES>
 }
 
 /// The text of a high end, which is rounded up.
-fn high_text(end: i128) -> ArrayString<MOST_BYTES>
+fn high_text(end: i128) -> ArrayString<MAX_BYTES>
     requires { IsPrintable end }
     ensures { result.bytes ≡ high_text (Some end) }
 {

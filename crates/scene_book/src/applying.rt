@@ -5,7 +5,7 @@ ghost use Rattle.scene_book.specs.Applying.{apply_of, put_of, remove_of, grid_of
 
 use super::edits::{Edit, EditFault};
 use super::grids::receivers;
-use super::limits::{MOST_RECEIVERS, at_most, same_class};
+use super::limits::{MAX_RECEIVERS, at_most, same_class};
 use super::scene::{Scene, shape_class};
 use scene_parts::{Class, GridSpec, Name, NoMemory, Part, Receiver};
 use std::alloc::Global;
@@ -57,7 +57,7 @@ impl Scene {
         ensures value { Leaves self.new result (grid_of grid.now self.old) }
         ensures unchanged { OnErr result (self.new ≡ self.old) }
     {
-        at_most(Class::Receiver, MOST_RECEIVERS, count(grid))?;
+        at_most(Class::Receiver, MAX_RECEIVERS, count(grid))?;
         let receivers = receivers(alloc, grid)?;
         self.all_own(&receivers)?;
         self.put_receivers(alloc, receivers)?;

@@ -6,22 +6,22 @@ use super::edits::EditFault;
 use scene_parts::Class;
 
 /// The sources of a scene.
-pub const MOST_SOURCES: u32 = 128;
+pub const MAX_SOURCES: u32 = 128;
 
 /// The barriers and buildings of a scene together.
-pub const MOST_OBSTACLES: u32 = 4096;
+pub const MAX_OBSTACLES: u32 = 4096;
 
 /// Their sides together.
-pub const MOST_SIDES: u32 = 16384;
+pub const MAX_SIDES: u32 = 16384;
 
 /// The zones of a scene.
-pub const MOST_ZONES: u32 = 1024;
+pub const MAX_ZONES: u32 = 1024;
 
 /// The foliage of a scene.
-pub const MOST_FOLIAGE: u32 = 1024;
+pub const MAX_FOLIAGE: u32 = 1024;
 
 /// The receivers of a scene.
-pub const MOST_RECEIVERS: u32 = 4096;
+pub const MAX_RECEIVERS: u32 = 4096;
 
 /// At most so many, or `Full`.
 pub(crate) fn at_most(class: Class, limit: u32, count: usize) -> Result<(), EditFault>

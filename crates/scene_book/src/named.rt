@@ -3,7 +3,7 @@ ghost use Rattle.scene_parts.specs.declared.kinds.Class.TheVariants as classes;
 ghost use Rattle.scene_parts.specs.declared.parts.Part.TheVariants as parts;
 ghost use Rattle.scene_book.specs.Limits.{most_sources, most_obstacles, most_zones, most_foliage, most_receivers};
 
-use super::limits::{MOST_FOLIAGE, MOST_OBSTACLES, MOST_RECEIVERS, MOST_SOURCES, MOST_ZONES};
+use super::limits::{MAX_FOLIAGE, MAX_OBSTACLES, MAX_RECEIVERS, MAX_SOURCES, MAX_ZONES};
 use super::register::Named;
 use scene_parts::{Class, Foliage, NoMemory, Obstacle, Part, PointSource, Receiver, Zone};
 
@@ -18,7 +18,7 @@ impl Named for PointSource {
 
     const CLASS: Class = Class::Source;
 
-    const MOST: u32 = MOST_SOURCES;
+    const MOST: u32 = MAX_SOURCES;
 
     fn name(&self) -> &[u8] {
         self.name.items()
@@ -44,7 +44,7 @@ impl Named for Obstacle {
 
     const CLASS: Class = Class::Obstacle;
 
-    const MOST: u32 = MOST_OBSTACLES;
+    const MOST: u32 = MAX_OBSTACLES;
 
     fn name(&self) -> &[u8] {
         self.name.items()
@@ -70,7 +70,7 @@ impl Named for Zone {
 
     const CLASS: Class = Class::Zone;
 
-    const MOST: u32 = MOST_ZONES;
+    const MOST: u32 = MAX_ZONES;
 
     fn name(&self) -> &[u8] {
         self.name.items()
@@ -96,7 +96,7 @@ impl Named for Foliage {
 
     const CLASS: Class = Class::Foliage;
 
-    const MOST: u32 = MOST_FOLIAGE;
+    const MOST: u32 = MAX_FOLIAGE;
 
     fn name(&self) -> &[u8] {
         self.name.items()
@@ -122,7 +122,7 @@ impl Named for Receiver {
 
     const CLASS: Class = Class::Receiver;
 
-    const MOST: u32 = MOST_RECEIVERS;
+    const MOST: u32 = MAX_RECEIVERS;
 
     fn name(&self) -> &[u8] {
         self.name.items()

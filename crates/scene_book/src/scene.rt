@@ -8,10 +8,10 @@ ghost use Rattle.scene_book.specs.Book.{IsWithin, NamesAreApart, empty_book, sid
 ghost use Rattle.scene_book.specs.Applying.{holder, class_of_shape, part_named, put_where_room, put_receivers as put_receivers_of, without_any, in_limits, with_part, lacks_memory, Leaves};
 
 use super::edits::EditFault;
-use super::limits::{MOST_SIDES, at_most};
+use super::limits::{MAX_SIDES, at_most};
 use super::register::{Named, part_like};
 use super::shared::Shared;
-use scene_parts::limits::FARTHEST_REACH;
+use scene_parts::limits::MAX_REACH;
 use scene_parts::{
     Air, Class, Foliage, Globals, Ground, NoMemory, Obstacle, Part, PointSource, Receiver, SetSpec,
     Shape, Zone, sides,
@@ -57,7 +57,7 @@ impl Scene {
             receivers: Shared::new(),
             sides: 0,
             globals: Globals {
-                reach: FARTHEST_REACH,
+                reach: MAX_REACH,
                 g: 0,
                 air: Air::Celsius10Humidity70,
                 c0: 0,
@@ -222,7 +222,7 @@ impl Scene {
     {
         self.obstacles.check_room(obstacle)?;
         let total = self.sides_with(obstacle);
-        at_most(Class::Side, MOST_SIDES, total as usize)?;
+        at_most(Class::Side, MAX_SIDES, total as usize)?;
         Ok(total)
     }
 

@@ -16,7 +16,7 @@ use crate::plan::{Pt, Side};
 
 /// The length of the longest side that reflects, in mm. With it 128 bits hold all products over the
 /// legs.
-const LONGEST_WALL: i64 = 262_143;
+const MAX_WALL_LENGTH: i64 = 262_143;
 
 /// A path by way of a wall, unfolded: each leg leads towards the image of the path's other end in
 /// the line of the wall.
@@ -43,7 +43,7 @@ pub fn on_one_side(side: Side, p: Pt, q: Pt) -> bool
 pub fn is_short(side: Side) -> bool
     ensures { result ≡ form.is_short side }
 {
-    wall_square(side) <= LONGEST_WALL * LONGEST_WALL
+    wall_square(side) <= MAX_WALL_LENGTH * MAX_WALL_LENGTH
 }
 
 /// The path from a source to a receiver by way of a side of a wall, which is at most 262,143 mm long

@@ -7,7 +7,7 @@ ghost use Rattle.scene_undo.specs.Versions.{is_kept, is_too_large, kept_in, IsCu
 
 use super::edits::Inverse;
 use scene_book::Edit;
-use scene_book::limits::MOST_RECEIVERS;
+use scene_book::limits::MAX_RECEIVERS;
 use scene_parts::NoMemory;
 use std::alloc::Global;
 
@@ -38,7 +38,7 @@ pub fn never_fits(edit: &Edit) -> bool
 {
     match edit {
         Edit::Grid(grid) => {
-            u64::from(grid.columns) * u64::from(grid.rows) > u64::from(MOST_RECEIVERS)
+            u64::from(grid.columns) * u64::from(grid.rows) > u64::from(MAX_RECEIVERS)
         }
         _ => false,
     }

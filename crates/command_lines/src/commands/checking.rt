@@ -10,14 +10,13 @@ ghost use Rattle.command_lines.specs.Checking.{level_of, checked_contour as chec
 
 use crate::commands::contours::{ContourSpec, RawContour};
 use crate::commands::limits::{
-    GREATEST_LINE_POWER, GREATEST_VERSION, HIGHEST_LEVEL, LEAST_LINE_POWER, LONGEST_PIECE,
-    SHORTEST_PIECE,
+    MAX_LEVEL, MAX_LINE_POWER, MAX_PIECE_LENGTH, MAX_VERSION, MIN_LINE_POWER, MIN_PIECE_LENGTH,
 };
 use crate::commands::line_sources::{LineSpec, RawLineSource};
 use scene_parts::fields::{
     check_outline, corners, directivity, height, in_range, kind_named, powers, within,
 };
-use scene_parts::limits::MOST_COLUMNS;
+use scene_parts::limits::MAX_COLUMNS;
 use scene_parts::{Field, Outline, PartFault, Shape};
 use std::alloc::Global;
 
@@ -27,8 +26,8 @@ pub fn checked_contour(raw: RawContour) -> Result<ContourSpec, PartFault>
     ensures { result ≡ checked_contour_of raw }
 {
     let level = level(raw.level)?;
-    let columns = in_range(Field::Columns, 1, MOST_COLUMNS, raw.columns)?;
-    let rows = in_range(Field::Rows, 1, MOST_COLUMNS, raw.rows)?;
+    let columns = in_range(Field::Columns, 1, MAX_COLUMNS, raw.columns)?;
+    let rows = in_range(Field::Rows, 1, MAX_COLUMNS, raw.rows)?;
     let name = raw.name.into_name();
     Ok(ContourSpec {
         name,
@@ -45,7 +44,7 @@ fn level(level: i64) -> Result<i32, PartFault>
     ensures low { IfOk result (λ level. pos 0 ≤ℤ level) }
     ensures high { IfOk result (λ level. level ≤ℤ pos highest_level) }
 {
-    Ok(within(Field::Level, 0, HIGHEST_LEVEL, level)? as i32)
+    Ok(within(Field::Level, 0, MAX_LEVEL, level)? as i32)
 }
 
 /// The version that an undo names, or `OutOfRange`.
@@ -53,7 +52,7 @@ fn level(level: i64) -> Result<i32, PartFault>
 pub fn version(version: i64) -> Result<u64, PartFault>
     ensures { result ≡ version_of version }
 {
-    Ok(within(Field::To, 0, GREATEST_VERSION, version)? as u64)
+    Ok(within(Field::To, 0, MAX_VERSION, version)? as u64)
 }
 
 /// The line source that a line gives, or the first fault in the order of their numbers: `OutOfRange` of the points, the
@@ -117,9 +116,9 @@ fn line_values(alloc: Global, raw: &RawLineSource) -> Result<LineValues, PartFau
 {
     let points = corners(alloc, raw.points.items())?;
     let h = height(raw.h)?;
-    let lw = powers(LEAST_LINE_POWER, GREATEST_LINE_POWER, raw.lw)?;
+    let lw = powers(MIN_LINE_POWER, MAX_LINE_POWER, raw.lw)?;
     let dc = directivity(raw.dc)?;
-    let piece = in_range(Field::Piece, SHORTEST_PIECE, LONGEST_PIECE, raw.piece)?;
+    let piece = in_range(Field::Piece, MIN_PIECE_LENGTH, MAX_PIECE_LENGTH, raw.piece)?;
     Ok(LineValues {
         points,
         h,

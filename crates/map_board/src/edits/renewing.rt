@@ -17,7 +17,7 @@ use crate::edits::testing::{PathTest, count_at, cut, slice_if_any};
 use crate::past::Past;
 use crate::rows::{Cache, HeldRow, KeptLevels};
 use path_cache::{Bundle, RowSums};
-use scene_book::limits::MOST_RECEIVERS;
+use scene_book::limits::MAX_RECEIVERS;
 use scene_book::{Edit, Logged, Scene};
 use scene_parts::{Globals, Part, Receiver};
 use std::alloc::Global;
@@ -53,7 +53,7 @@ pub(crate) fn rows_more(edit: &Edit, count: usize) -> usize
     match edit {
         Edit::Put(Part::Receiver(_)) => 1,
         Edit::Grid(grid) => {
-            let left = (MOST_RECEIVERS as usize).saturating_sub(count);
+            let left = (MAX_RECEIVERS as usize).saturating_sub(count);
             ((grid.columns * grid.rows) as usize).min(left)
         }
         _ => 0,

@@ -15,7 +15,7 @@ use std::thread::Threads;
 use touch_test::{may_touch, touches};
 
 /// How many paths a thread has to test at the least. Fewer cost less than the start of a thread.
-const LEAST_PATHS: usize = 4096;
+const MIN_PATHS: usize = 4096;
 
 /// A kept path: a bundle, the receiver to which it leads, and whether it is marked already, so that no test is needed.
 #[derive(Clone, Copy)]
@@ -109,7 +109,7 @@ fn test_each<R: Threads + Sync>(
 {
     let tests = paths
         .par_iter()
-        .with_min_len(LEAST_PATHS)
+        .with_min_len(MIN_PATHS)
         .map(
             |path: &Path<'_>| -> bool
                 ensures { result ≡ test_of logged.entry.now (path_seen path.now) }
@@ -125,7 +125,7 @@ fn count_for_threads(receivers: &[Receiver], rows: &[HeldRow], logged: &Logged) 
     requires { length rows.now ≤ length receivers.now }
 {
     let all = count_all(rows);
-    if all < 2 * LEAST_PATHS {
+    if all < 2 * MIN_PATHS {
         return None;
     }
     let mut near = 0usize;
@@ -136,7 +136,7 @@ fn count_for_threads(receivers: &[Receiver], rows: &[HeldRow], logged: &Logged) 
             }
         }
     }
-    (near >= 2 * LEAST_PATHS && near >= all / 2).then_some(all)
+    (near >= 2 * MIN_PATHS && near >= all / 2).then_some(all)
 }
 
 /// How many paths the rows keep.

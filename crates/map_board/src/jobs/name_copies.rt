@@ -6,12 +6,12 @@ use scene_parts::Name;
 use std::marker::Model;
 
 // The bytes that a name may have.
-const MOST_BYTES: usize = 42;
+const MAX_BYTES: usize = 42;
 
 /// A copy of a name, which lies in the value itself. Contracts see it as its bytes.
 #[derive(Drop)]
 pub(crate) struct NameCopy {
-    bytes: ArrayVec<u8, MOST_BYTES>,
+    bytes: ArrayVec<u8, MAX_BYTES>,
 }
 
 impl Model for NameCopy {

@@ -11,7 +11,7 @@ use crate::checks::ranges::{
 use crate::checks::raw::RawPart;
 use crate::faults::PartFault;
 use crate::kinds::{Field, Shape};
-use crate::limits::{FARTHEST_REACH, WIDEST_STEP};
+use crate::limits::{MAX_REACH, MAX_STEP};
 use crate::outlines::shapes::{check_density, check_outline, check_surface, corners};
 use crate::parts::{Foliage, Obstacle, Part, PointSource, Receiver, Zone};
 use crate::settings::{GridSpec, SetSpec};
@@ -188,7 +188,7 @@ fn grid(raw: RawPart) -> Result<Checked, PartFault>
         unreachable!()
     };
     let at = plan_point(Field::X, Field::Y, x, y)?;
-    let step = in_range(Field::Step, 1, WIDEST_STEP, step)?;
+    let step = in_range(Field::Step, 1, MAX_STEP, step)?;
     let columns = column_count(at, step, columns)?;
     let rows = row_count(at, step, rows)?;
     let h = height(h)?;
@@ -218,7 +218,7 @@ fn setting(raw: RawPart) -> Result<Checked, PartFault>
         unreachable!()
     };
     Ok(Checked::Set(SetSpec {
-        reach: optional_in_range(Field::Reach, 1, FARTHEST_REACH, reach)?,
+        reach: optional_in_range(Field::Reach, 1, MAX_REACH, reach)?,
         g: optional_in_range(Field::G, 0, 100, g)?.map(|g| g as u8),
         c0: optional_in_range(Field::C0, 0, 1000, c0)?.map(|c0| c0 as u16),
         air: optional_air(air)?,

@@ -8,7 +8,7 @@ ghost use Rattle.scene_parts.specs.Checking.{within as within_of, in_range as in
 
 use crate::faults::PartFault;
 use crate::kinds::Field;
-use crate::limits::{GREATEST_HEIGHT, MOST_COLUMNS, PLAN_END};
+use crate::limits::{MAX_COLUMNS, MAX_COORDINATE, MAX_HEIGHT};
 use scene_geom::Pt;
 
 /// A number from `low` to `high`, or `OutOfRange`.
@@ -56,8 +56,8 @@ pub fn optional_in_range(
 pub fn plan_point(across: Field, up: Field, x: i64, y: i64) -> Result<Pt, PartFault>
     ensures { result ≡ plan_point_of across up x y }
 {
-    let east = within(across, -PLAN_END, PLAN_END, x)?;
-    let north = within(up, -PLAN_END, PLAN_END, y)?;
+    let east = within(across, -MAX_COORDINATE, MAX_COORDINATE, x)?;
+    let north = within(up, -MAX_COORDINATE, MAX_COORDINATE, y)?;
     Ok(Pt::new(east, north))
 }
 
@@ -67,7 +67,7 @@ pub fn height(h: i64) -> Result<u32, PartFault>
     ensures value { result ≡ height_of h }
     ensures height { IfOk result (λ n. IsHeight n) }
 {
-    in_range(Field::H, 1, GREATEST_HEIGHT, h)
+    in_range(Field::H, 1, MAX_HEIGHT, h)
 }
 
 /// The number of columns of a grid from its first receiver on, the last on the plan, or `OutOfRange`.
@@ -98,8 +98,8 @@ fn reaching(field: Field, start: i32, step: u32, count: i64) -> Result<u32, Part
     ensures count { IfOk result (λ n. IsCount n) }
     ensures on_plan { IfOk result (λ n. last_place start step n ≤ℤ pos plan_end) }
 {
-    let n = in_range(field, 1, MOST_COLUMNS, count)?;
-    if last_at(start, step, n) <= PLAN_END {
+    let n = in_range(field, 1, MAX_COLUMNS, count)?;
+    if last_at(start, step, n) <= MAX_COORDINATE {
         Ok(n)
     } else {
         Err(PartFault::OutOfRange {

@@ -13,7 +13,7 @@ ghost use Rattle.scene_parts.specs.Checking.{corner_of, corners_of, check_outlin
 use crate::checks::ranges::plan_point;
 use crate::faults::PartFault;
 use crate::kinds::{Field, Shape};
-use crate::limits::{LEAST_DENSITY, LONGEST_SIDE, MOST_CORNERS, WEAK_REFLECTION};
+use crate::limits::{MAX_CORNERS, MAX_SIDE_LENGTH, MIN_DENSITY, WEAK_REFLECTION};
 use crate::memory::NoMemory;
 use crate::outlines::{Outline, RawPt};
 use crate::screening::edges::{side_at, side_count};
@@ -31,7 +31,7 @@ pub fn corners(alloc: Global, points: &[RawPt]) -> Result<Outline, PartFault>
         let corner = corner(*point)?;
         add_corner(&mut corners, corner)?;
     }
-    if points.len() > MOST_CORNERS {
+    if points.len() > MAX_CORNERS {
         return Err(PartFault::OutOfRange {
             field: Field::Points,
             value: points.len() as i64,
@@ -56,7 +56,7 @@ fn corner(point: RawPt) -> Result<Pt, PartFault>
 pub fn check_density(density: u32) -> Result<(), PartFault>
     ensures { result ≡ check_density_of density }
 {
-    if density < LEAST_DENSITY {
+    if density < MIN_DENSITY {
         return Err(PartFault::TooLight { density });
     }
     Ok(())
@@ -151,7 +151,7 @@ fn check_sides(shape: Shape, corners: &[Pt]) -> Result<(), PartFault>
 fn is_short_side(side: Side) -> bool
     ensures { result ≡ is_short side }
 {
-    squared(side) <= LONGEST_SIDE * LONGEST_SIDE
+    squared(side) <= MAX_SIDE_LENGTH * MAX_SIDE_LENGTH
 }
 
 /// The squared length of a side, in mm².

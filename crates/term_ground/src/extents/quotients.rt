@@ -17,7 +17,7 @@ const DIVIDEND_LIMIT: u64 = 1 << 32;
 const LENGTH_LIMIT: i64 = 1 << 47;
 
 /// The number of units of the least length that divides by short divisions.
-const LEAST_LENGTH: i64 = 1 << 16;
+const MIN_LENGTH: i64 = 1 << 16;
 
 /// Whether a length is exactly 0, as that of a zone which lies before a region is.
 #[inline(always)]
@@ -77,7 +77,7 @@ fn are_lengths(x: Extent, by: Extent) -> bool
     ensures least { result ≡ true → pos (2 ^ 16) ≤ℤ by.lo }
     ensures most { result ≡ true → by.hi <ℤ pos (2 ^ 48) }
 {
-    0 <= x.lo && x.hi < LENGTH_LIMIT && LEAST_LENGTH <= by.lo && by.hi < 2 * LENGTH_LIMIT
+    0 <= x.lo && x.hi < LENGTH_LIMIT && MIN_LENGTH <= by.lo && by.hi < 2 * LENGTH_LIMIT
 }
 
 /// The quotient of lengths within them.
