@@ -25,7 +25,7 @@ use Rattle.term_barrier.specs.Diffraction.{whole, ten_lg, attenuation, single_li
 use Rattle.term_barrier.specs.Edges.{single_argument, pair_argument, where_convex}
 use Rattle.term_barrier.specs.Limits.{IsGroundEffect, IsScreening}
 use Rattle.term_barrier.specs.Screening.{edges_above, pairs_of, top_attenuation, screening}
-use Rattle.term_barrier.specs.inner.Prepared.{greater_of, greatest_from, single_value, both_value, best_over, best_argument, below_line, screened_by}
+use Rattle.term_barrier.specs.inner.Prepared.{max_with_of, greatest_from, single_value, both_value, best_over, best_argument, below_line, screened_by}
 use Rattle.term_barrier.proofs.Screened.{top-is, screening-is}
 
 -- ---- ten times a logarithm of what is at least 1
@@ -190,13 +190,13 @@ abbrev pub IsLimitedIfAny : Option Interval → Type 0
 IsLimitedIfAny None = Unit {0}
 IsLimitedIfAny (Some i) = IsLimited i
 
-limited-next : (best : Option Interval) (i : Interval) → IsLimitedIfAny best → IsLimited i → IsLimitedIfAny (greater_of best i)
+limited-next : (best : Option Interval) (i : Interval) → IsLimitedIfAny best → IsLimited i → IsLimitedIfAny (max_with_of best i)
 limited-next None i h k = k
 limited-next (Some best) i h k = limited-max best i h k
 
 limited-greatest : {A : Type 0} (f : A → Interval) → ((x : A) → IsLimited (f x)) → (best : Option Interval) → IsLimitedIfAny best → (xs : List A) → IsLimitedIfAny (greatest_from best (map f xs))
 limited-greatest f each best h [] = h
-limited-greatest f each best h (x ∷ xs) = limited-greatest f each (greater_of best (f x)) (limited-next best (f x) h (each x)) xs
+limited-greatest f each best h (x ∷ xs) = limited-greatest f each (max_with_of best (f x)) (limited-next best (f x) h (each x)) xs
 
 pub limited-over : (path : Path) (d : Interval) (band : Band) (edges : List Edge) → IsLimitedIfAny (best_over path d band edges)
 limited-over path d band edges =

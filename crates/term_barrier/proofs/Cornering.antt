@@ -9,7 +9,7 @@ use Rattle.scene_geom.specs.declared.band.Band.TheVariants.{Hz63, Hz125, Hz250, 
 use Rattle.scene_geom.specs.Bands.{all_bands}
 use Rattle.path_shape.specs.Shape.{plan_length}
 use Rattle.term_barrier.specs.Diffraction.{c_3, at_one_edge, at_two_edges, path_difference, three_and, attenuation, ten_lg, single_limit, double_limit}
-use Rattle.term_barrier.specs.inner.Reaching.{apart_of, two_edges}
+use Rattle.term_barrier.specs.inner.Reaching.{spacing_of, two_edges}
 use Rattle.term_barrier.specs.Lateral.{in_band, steps, between_corners, last_corner, height_square, lateral_difference, side_attenuation}
 
 -- a sum of formulas
@@ -35,7 +35,7 @@ one-corner s hs r hr first (next ∷ others) d band z none e = absurd (omega ari
 
 pub more-corners : (s : Pt) (hs : ℕ) (r : Pt) (hr : ℕ) (first : Pt) (others : List Pt) (d : Interval) (band : Band) (e z : Interval) → 0 < length others
     → e ≡ enc (between_corners first others) → z ≡ enc (lateral_difference s hs r hr first others (Known d))
-    → enc (attenuation double_limit (Known (enc (three_and (Known (two_edges band (apart_of e) z)))))) ≡ enc (side_attenuation s hs r hr (first ∷ others) (Known d) band)
+    → enc (attenuation double_limit (Known (enc (three_and (Known (two_edges band (spacing_of e) z)))))) ≡ enc (side_attenuation s hs r hr (first ∷ others) (Known d) band)
 unfolding attenuation ten_lg at_two_edges c_3
 more-corners s hs r hr first [] d band e z some f g = absurd (omega arith)
 more-corners s hs r hr first (next ∷ others) d band e z some f g = rw (f, g) refl
@@ -55,7 +55,7 @@ pub last-end : (last : Pt) (here : List Pt) (total : Pt) → here ≡ [] → las
 last-end last here total f h = rw f at h
 
 -- (C_2 / λ) C_3 z from what C_3 takes of e
-pub two-known : (band : Band) (e z : Interval) → two_edges band (apart_of e) z ≡ enc (at_two_edges band (Known e) (Known z))
+pub two-known : (band : Band) (e z : Interval) → two_edges band (spacing_of e) z ≡ enc (at_two_edges band (Known e) (Known z))
 unfolding at_two_edges c_3
 two-known band e z = refl
 

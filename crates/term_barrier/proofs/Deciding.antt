@@ -7,7 +7,7 @@ use Rattle.fix_interval.specs.Interval.{Interval, IsInterval}
 use Rattle.fix_interval.specs.Values.{max_of, greater_high}
 use Rattle.fix_interval.proofs.Intervals.{IsInterval-max_of}
 use Rattle.term_barrier.specs.Diffraction.{double_limit}
-use Rattle.term_barrier.specs.inner.Prepared.{greater_of, greatest_from, Decides, Numbered, are_marked, marked_values}
+use Rattle.term_barrier.specs.inner.Prepared.{max_with_of, greatest_from, Decides, Numbered, are_marked, marked_values}
 use Rattle.term_barrier.proofs.OneLogarithm.{screens, screens-max}
 
 -- so far a number decides: with D_z of the rest behind, D_z of it gives the greatest of all
@@ -26,7 +26,7 @@ bounded-max a b h = bounded-both a.hi b.hi h
 
 -- one more number
 pub deciding-more : (limit : ℕ) (number : Interval) (rest : List Interval) (best total : Option Interval) → limit ≤ 25 → IsInterval number
-    → Deciding limit best (screens limit number ∷ rest) total → Deciding limit (greater_of best number) rest total
+    → Deciding limit best (screens limit number ∷ rest) total → Deciding limit (max_with_of best number) rest total
 deciding-more limit number rest None total few whole h = record { interval = whole; decides = λ k. h.decides tt }
 deciding-more limit number rest (Some best) total few whole h = record {
   interval = IsInterval-max_of best number h.interval whole;
@@ -49,7 +49,7 @@ deciding-passed marks x xs best number total whole is lesser h = by_mark (are_ma
 
 -- of a list in which each thing that passes a test has a number: one that passes, and one that doesn't
 pub deciding-kept : {A : Type 0} (limit : ℕ) (f : A → Interval) (p : A → Bool) (x : A) (number : Interval) (here next : List A) (best more total : Option Interval)
-    → limit ≤ 25 → here ≡ x ∷ next → p x ≡ true → f x ≡ screens limit number → IsInterval number → more ≡ greater_of best number
+    → limit ≤ 25 → here ≡ x ∷ next → p x ≡ true → f x ≡ screens limit number → IsInterval number → more ≡ max_with_of best number
     → Deciding limit best (map f (filter p here)) total → Deciding limit more (map f (filter p next)) total
 deciding-kept limit f p x number here next best more total few e t is whole m h =
     rw m (deciding-more limit number (map f (filter p next)) best total few whole (rw (e, t, is) at h))

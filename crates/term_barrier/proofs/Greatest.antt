@@ -5,11 +5,11 @@ use Rattle.std.specs.Option.{option_map}
 use Rattle.std.specs.List.{reduce}
 use Rattle.fix_interval.specs.Interval.{Interval}
 use Rattle.fix_interval.specs.Tree.{Tree, Max, enc}
-use Rattle.term_barrier.specs.inner.Prepared.{greater_of, greatest_from}
+use Rattle.term_barrier.specs.inner.Prepared.{max_with_of, greatest_from}
 
 pub greatest-append : (best : Option Interval) (xs ys : List Interval) → greatest_from best (xs ++ ys) ≡ greatest_from (greatest_from best xs) ys
 greatest-append best [] ys = refl
-greatest-append best (x ∷ xs) ys = greatest-append (greater_of best x) xs ys
+greatest-append best (x ∷ xs) ys = greatest-append (max_with_of best x) xs ys
 
 greatest-fold : (t : Tree) (ts : List Tree) → greatest_from (Some (enc t)) (map enc ts) ≡ Some (enc (fold Max t ts))
 greatest-fold t [] = refl

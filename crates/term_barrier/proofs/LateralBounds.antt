@@ -28,7 +28,7 @@ use Rattle.scene_geom.specs.declared.band.Band.{Band}
 use Rattle.scene_geom.specs.declared.band.Band.TheVariants.{Hz63, Hz125, Hz250, Hz500, Hz1000, Hz2000, Hz4000, Hz8000}
 use Rattle.path_shape.specs.Shape.{plan_length}
 use Rattle.term_barrier.specs.Diffraction.{whole, c_2_by_wavelength, five_wavelengths_squared, c_3, path_difference, at_one_edge, at_two_edges, three_and, ten_lg, attenuation, single_limit, double_limit}
-use Rattle.term_barrier.specs.inner.Reaching.{apart_of, two_edges}
+use Rattle.term_barrier.specs.inner.Reaching.{spacing_of, two_edges}
 use Rattle.term_barrier.specs.Lateral.{between_corners, last_corner, height_square}
 use Rattle.term_barrier.specs.Limits.{most_top, IsDistance}
 use Rattle.term_barrier.proofs.Lengths.{Near, near-length, near-sum, near-wider, near-corners, near-between}
@@ -299,7 +299,7 @@ one-between band z h =
     (between _ _ {t = at_one_edge band (Known z)} (product (part-between _ _ {t = c_2_by_wavelength band} (c_2-between band)) (part-between _ _ {t = Known z} h)) refl)
 
 pub several-between : (band : Band) (e z : Interval) → Near (2 ^ 33) (2 ^ 62) e → AreBetween (neg_ℤ (pos (2 ^ 60))) (pos (2 ^ 63)) z
-    → AreBetween (pos 0) most_top (enc (attenuation double_limit (Known (enc (three_and (Known (two_edges band (apart_of e) z)))))))
+    → AreBetween (pos 0) most_top (enc (attenuation double_limit (Known (enc (three_and (Known (two_edges band (spacing_of e) z)))))))
 unfolding attenuation ten_lg at_two_edges c_3 unit mul_of
 several-between band e z near h =
     attenuated double_limit (enc (at_two_edges band (Known e) (Known z))) (omega arith)

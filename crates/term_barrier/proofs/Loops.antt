@@ -4,7 +4,7 @@ use Rattle.std.specs.Prelude.{filter, flat_map, Option}
 use Rattle.std.proofs.lemmas.List.{drop_more, drop_all, map-append}
 use Rattle.fix_interval.specs.Interval.{Interval}
 use Rattle.term_barrier.specs.Screening.{marked, both_ways, pairs_of}
-use Rattle.term_barrier.specs.inner.Prepared.{greater_of, greatest_from, is_marked}
+use Rattle.term_barrier.specs.inner.Prepared.{max_with_of, greatest_from, is_marked}
 use Rattle.term_barrier.proofs.Lists.{marked-none, marked-step}
 use Rattle.term_barrier.proofs.Greatest.{greatest-append}
 
@@ -13,7 +13,7 @@ drop-item xs i x below is = drop_more xs i x below ∙ ap (λ y. y ∷ drop (i +
 
 -- one that counts, one that doesn't, and one of a list whose items all count
 pub kept-step : {A : Type 0} (f : A → Interval) (p : A → Bool) (x : A) (here next : List A) (best more total : Option Interval)
-    → here ≡ x ∷ next → p x ≡ true → more ≡ greater_of best (f x)
+    → here ≡ x ∷ next → p x ≡ true → more ≡ max_with_of best (f x)
     → greatest_from best (map f (filter p here)) ≡ total → greatest_from more (map f (filter p next)) ≡ total
 kept-step f p x here next best more total e t m h = rw m (rw (e, t) at h)
 
@@ -23,7 +23,7 @@ pub left-step : {A : Type 0} (f : A → Interval) (p : A → Bool) (x : A) (here
 left-step f p x here next best more total e t m h = rw m (rw (e, t) at h)
 
 pub every-step : {A : Type 0} (f : A → Interval) (x : A) (here next : List A) (best more total : Option Interval)
-    → here ≡ x ∷ next → more ≡ greater_of best (f x)
+    → here ≡ x ∷ next → more ≡ max_with_of best (f x)
     → greatest_from best (map f here) ≡ total → greatest_from more (map f next) ≡ total
 every-step f x here next best more total e m h = rw m (rw e at h)
 
@@ -43,7 +43,7 @@ left-pairs f p x here next best more total e t m h = rw m (rw (e, t) at h)
 
 -- the pairs of an item with the first of some, where that counts
 pub kept-both : {A : Type 0} (f : A × A → Interval) (p : A → Bool) (x y : A) (here next : List A) (best more total : Option Interval)
-    → here ≡ y ∷ next → p y ≡ true → more ≡ greater_of (greater_of best (f (x, y))) (f (y, x))
+    → here ≡ y ∷ next → p y ≡ true → more ≡ max_with_of (max_with_of best (f (x, y))) (f (y, x))
     → greatest_from best (map f (flat_map (both_ways x) (filter p here))) ≡ total
     → greatest_from more (map f (flat_map (both_ways x) (filter p next))) ≡ total
 kept-both f p x y here next best more total e t m h = rw m (rw (e, t) at h)

@@ -8,12 +8,12 @@ use Rattle.fix_interval.specs.Tree.{Known, enc}
 use Rattle.scene_geom.specs.declared.band.Band.{Band}
 use Rattle.scene_parts.specs.declared.screening.edge.Edge.{Edge}
 use Rattle.path_shape.specs.declared.path.Path.{Path}
-use Rattle.term_barrier.specs.declared.single.Single.{Single}
-use Rattle.term_barrier.specs.declared.pair.joined.Joined.{Joined}
+use Rattle.term_barrier.specs.declared.single.SingleDiffraction.{SingleDiffraction}
+use Rattle.term_barrier.specs.declared.pair.edge_pair.EdgePair.{EdgePair}
 use Rattle.term_barrier.specs.Diffraction.{at_one_edge, attenuation, ten_lg, double_limit}
 use Rattle.term_barrier.specs.Edges.{single_argument}
 use Rattle.term_barrier.specs.Screening.{Passing, is_above, edges_above, marked, pairs_of, screening, edges_in}
-use Rattle.term_barrier.specs.inner.Prepared.{single_of, known_argument, known_single, single_is_above, single_value, argument_value, both_value, joint_value, risen, rising_from, is_marked, joined_value, numbered_value, are_marked, marked_values, Numbered, IsSingle, IsRaised, IsDecided, ArePrepared, greatest_from, best_alone, best_marked, best_over, best_argument, screened_by}
+use Rattle.term_barrier.specs.inner.Prepared.{single_of, known_argument, known_single, single_is_above, single_value, argument_value, both_value, joint_value, risen, rising_from, is_marked, edge_pair_value, numbered_value, are_marked, marked_values, Numbered, IsSingle, IsRaised, IsDecided, ArePrepared, greatest_from, best_alone, best_marked, best_over, best_argument, screened_by}
 use Rattle.term_barrier.proofs.Screened.{screening-is}
 use Rattle.term_barrier.proofs.Lists.{map-map, map-same, filter-map, both, each, filter-pairs, map-pairs, marked-map, marked-none, marked-step}
 
@@ -79,11 +79,11 @@ pairs-marked path d band marks edges =
     ∙ ap (map (both_value path d band)) (map-pairs edge_in (filter (is_numbered marks) (risen 0 edges)))
     ∙ ap (λ edges. map (both_value path d band) (pairs_of edges)) (risen-marked marks 0 edges)
 
-abbrev edge_of : Single → Edge
-edge_of single = single.bend.edge
+abbrev edge_of : SingleDiffraction → Edge
+edge_of single = single.passage.edge
 
 -- the pairs of what was prepared are those of the edges
-rising-known : (path : Path) (d : Interval) (band : Band) (marks : List Bool) (singles : List Single)
+rising-known : (path : Path) (d : Interval) (band : Band) (marks : List Bool) (singles : List SingleDiffraction)
     → map (joint_value path d band) (pairs_of (rising_from 0 marks singles))
     ≡ map (both_value path d band) (pairs_of (edges_above (marked marks (edges_in singles))))
 rising-known path d band marks singles =
@@ -94,33 +94,33 @@ rising-known path d band marks singles =
     (sym (filter-map is_above edge_of (marked marks singles)) ∙ ap edges_above (sym (marked-map edge_of marks singles)))
 
 -- what was prepared of edges alone is that of its own edges
-pub singles-are : (path : Path) (d : Interval) (singles : List Single) → All (IsSingle path d) singles → singles ≡ map (single_of path d) (edges_in singles)
+pub singles-are : (path : Path) (d : Interval) (singles : List SingleDiffraction) → All (IsSingle path d) singles → singles ≡ map (single_of path d) (edges_in singles)
 singles-are path d singles h = along singles (recursion_from_All (IsSingle path d) singles h) where
-  along : (singles : List Single) → AllByRecursion (IsSingle path d) singles → singles ≡ map (single_of path d) (edges_in singles)
+  along : (singles : List SingleDiffraction) → AllByRecursion (IsSingle path d) singles → singles ≡ map (single_of path d) (edges_in singles)
   along [] h = refl
   along (single ∷ singles) h = next single singles h.0 (along singles h.1) where
-    next : (single : Single) (singles : List Single) → IsSingle path d single → singles ≡ map (single_of path d) (edges_in singles)
+    next : (single : SingleDiffraction) (singles : List SingleDiffraction) → IsSingle path d single → singles ≡ map (single_of path d) (edges_in singles)
         → single ∷ singles ≡ map (single_of path d) (edges_in (single ∷ singles))
-    next single singles h k = ap (λ s. s ∷ singles) h.is ∙ ap (λ others. single_of path d single.bend.edge ∷ others) k
+    next single singles h k = ap (λ s. s ∷ singles) h.is ∙ ap (λ others. single_of path d single.passage.edge ∷ others) k
 
 -- ---- what is greatest
 
-pub over-known : (path : Path) (d : Interval) (singles : List Single) (band : Band) (marks : List Bool)
+pub over-known : (path : Path) (d : Interval) (singles : List SingleDiffraction) (band : Band) (marks : List Bool)
     → All (IsSingle path d) singles → best_marked path d band marks singles ≡ best_over path d band (marked marks (edges_in singles))
 over-known path d singles band marks h =
     let edges = edges_in singles in
-    let first = ap (λ (singles : List Single). map (known_single band) (filter single_is_above (marked marks singles))) (singles-are path d singles h) ∙ singles-known path d band marks edges in
+    let first = ap (λ (singles : List SingleDiffraction). map (known_single band) (filter single_is_above (marked marks singles))) (singles-are path d singles h) ∙ singles-known path d band marks edges in
     ap (λ (from : Option Interval). greatest_from from (map (joint_value path d band) (pairs_of (rising_from 0 marks singles)))) (ap (greatest_from None) first)
     ∙ ap (greatest_from (greatest_from None (map (single_value path d band) (edges_above (marked marks edges))))) (rising-known path d band marks singles)
 
 -- where the pairs that were kept decide, so do all pairs
-pub decided-all : (path : Path) (d : Interval) (singles : List Single) (pairs : List Joined) (band : Band) (marks : List Bool) (number : Interval)
+pub decided-all : (path : Path) (d : Interval) (singles : List SingleDiffraction) (pairs : List EdgePair) (band : Band) (marks : List Bool) (number : Interval)
     → ArePrepared path d singles pairs → IsDecided band marks singles pairs number
     → Some (enc (attenuation double_limit (Known number))) ≡ best_marked path d band marks singles
 decided-all path d singles pairs band marks number h k = by_best (best_alone band marks singles) refl k where
   by_best : (best : Option Interval) → best_alone band marks singles ≡ best
       → IsSomeAnd best (λ best. IsRaised best
-      × (greatest_from (Some best) (marked_values marks (map (joined_value band) pairs)) ≡ Some (enc (attenuation double_limit (Known number)))))
+      × (greatest_from (Some best) (marked_values marks (map (edge_pair_value band) pairs)) ≡ Some (enc (attenuation double_limit (Known number)))))
       → Some (enc (attenuation double_limit (Known number))) ≡ best_marked path d band marks singles
   by_best None e k = absurd k
   by_best (Some best) e k =
@@ -128,14 +128,14 @@ decided-all path d singles pairs band marks number h k = by_best (best_alone ban
       ∙ ap (greatest_from (Some best)) (pairs-marked path d band marks (edges_in singles) ∙ sym (rising-known path d band marks singles))
       ∙ ap (λ (from : Option Interval). greatest_from from (map (joint_value path d band) (pairs_of (rising_from 0 marks singles)))) (sym e)
 
-pub argument-over : (path : Path) (d : Interval) (singles : List Single) (band : Band) (marks : List Bool) → All (IsSingle path d) singles
+pub argument-over : (path : Path) (d : Interval) (singles : List SingleDiffraction) (band : Band) (marks : List Bool) → All (IsSingle path d) singles
     → greatest_from None (map (known_argument band) (marked marks singles)) ≡ best_argument path d band (marked marks (edges_in singles))
 argument-over path d singles band marks h =
-    ap (λ (singles : List Single). greatest_from None (map (known_argument band) (marked marks singles))) (singles-are path d singles h)
+    ap (λ (singles : List SingleDiffraction). greatest_from None (map (known_argument band) (marked marks singles))) (singles-are path d singles h)
     ∙ ap (greatest_from None) (arguments-known path d band marks (edges_in singles))
 
 -- A_bar, from what was prepared
-pub screened-known : (now : Passing) (path : Path) (d gr : Interval) (singles : List Single) (pairs : List Joined) (band : Band) (marks : List Bool)
+pub screened-known : (now : Passing) (path : Path) (d gr : Interval) (singles : List SingleDiffraction) (pairs : List EdgePair) (band : Band) (marks : List Bool)
     (best argument : Option Interval) → ArePrepared path d singles pairs
     → record { path = path; edges = edges_in singles; d = d } ≡ now
     → best ≡ best_marked path d band marks singles

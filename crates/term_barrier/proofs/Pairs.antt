@@ -11,12 +11,12 @@ use Rattle.fix_interval.specs.Tree.{Tree, Known, Mul, enc}
 use Rattle.scene_geom.specs.declared.band.Band.{Band}
 use Rattle.scene_parts.specs.declared.screening.edge.Edge.{Edge}
 use Rattle.path_shape.specs.declared.path.Path.{Path}
-use Rattle.term_barrier.specs.declared.single.bend.Bend.{Bend}
-use Rattle.term_barrier.specs.declared.pair.apart.Apart.{Apart}
+use Rattle.term_barrier.specs.declared.single.passage.EdgePassage.{EdgePassage}
+use Rattle.term_barrier.specs.declared.pair.spacing.EdgeSpacing.{EdgeSpacing}
 use Rattle.term_barrier.specs.Diffraction.{whole, three_and, attenuation, ten_lg, at_two_edges, c_3, double_limit}
 use Rattle.term_barrier.specs.Edges.{across, edge_to_edge, pair_difference, pair_k, pair_argument, pair_attenuation, where_convex}
-use Rattle.term_barrier.specs.inner.Reaching.{apart_of, two_edges}
-use Rattle.term_barrier.specs.inner.Prepared.{bend_of, both_of, convexity_of, IsConvexity, IsNoPair}
+use Rattle.term_barrier.specs.inner.Reaching.{spacing_of, two_edges}
+use Rattle.term_barrier.specs.inner.Prepared.{passage_of, both_of, convexity_of, IsConvexity, IsNoPair}
 
 -- ---- choices
 
@@ -65,35 +65,35 @@ unfolding where_convex
 known-quantity path first second t = refl
 
 -- whether sound bends over both, as it was found
-convexity-is : (path : Path) (first second : Edge) → IsConvexity path first second (convexity_of (bend_of path first) (bend_of path second))
+convexity-is : (path : Path) (first second : Edge) → IsConvexity path first second (convexity_of (passage_of path first) (passage_of path second))
 unfolding where_convex
 convexity-is path first second = λ quantity. rw (pick-both, pick-both) refl
 
 abbrev its_attenuation : Path → Edge → Edge → Interval → Band → Tree
 its_attenuation path first second d band = attenuation double_limit (pair_argument path first second (Known d) band)
 
-its-known : (path : Path) (d : Interval) (first second : Edge) (apart : Apart) (z k : Interval) (band : Band)
-    → apart ≡ apart_of (enc (edge_to_edge (across first) first second))
+its-known : (path : Path) (d : Interval) (first second : Edge) (spacing : EdgeSpacing) (z k : Interval) (band : Band)
+    → spacing ≡ spacing_of (enc (edge_to_edge (across first) first second))
     → z ≡ enc (pair_difference path first second (Known d)) → k ≡ enc (pair_k path first second (Known d))
-    → enc (attenuation double_limit (three_and (Mul (Known (two_edges band apart z)) (Known k)))) ≡ enc (its_attenuation path first second d band)
+    → enc (attenuation double_limit (three_and (Mul (Known (two_edges band spacing z)) (Known k)))) ≡ enc (its_attenuation path first second d band)
 unfolding attenuation ten_lg at_two_edges c_3 pair_argument
-its-known path d first second apart z k band e f g = rw (e, f, g) refl
+its-known path d first second spacing z k band e f g = rw (e, f, g) refl
 
-pub convexity-from : (path : Path) (first second : Bend) (convex : Truth) → first ≡ bend_of path first.edge → second ≡ bend_of path second.edge
+pub convexity-from : (path : Path) (first second : EdgePassage) (convex : Truth) → first ≡ passage_of path first.edge → second ≡ passage_of path second.edge
     → convex ≡ convexity_of first second → IsConvexity path first.edge second.edge convex
 convexity-from path first second convex e f is =
     subst (IsConvexity path first.edge second.edge)
-    (ap (λ (bend : Bend). convexity_of bend (bend_of path second.edge)) (sym e) ∙ ap (convexity_of first) (sym f) ∙ sym is)
+    (ap (λ (passage : EdgePassage). convexity_of passage (passage_of path second.edge)) (sym e) ∙ ap (convexity_of first) (sym f) ∙ sym is)
     (convexity-is path first.edge second.edge)
 
-pub pair-is : (path : Path) (d : Interval) (first second : Edge) (convex : Truth) (apart : Apart) (z k : Interval) → IsConvexity path first second convex
-    → apart ≡ apart_of (enc (edge_to_edge (across first) first second))
+pub pair-is : (path : Path) (d : Interval) (first second : Edge) (convex : Truth) (spacing : EdgeSpacing) (z k : Interval) → IsConvexity path first second convex
+    → spacing ≡ spacing_of (enc (edge_to_edge (across first) first second))
     → z ≡ enc (pair_difference path first second (Known d)) → k ≡ enc (pair_k path first second (Known d)) → (band : Band)
-    → pick_of convex (enc (attenuation double_limit (three_and (Mul (Known (two_edges band apart z)) (Known k))))) (enc (whole 0))
+    → pick_of convex (enc (attenuation double_limit (three_and (Mul (Known (two_edges band spacing z)) (Known k))))) (enc (whole 0))
     ≡ enc (pair_attenuation path (Known path.dp) first second (Known d) band)
-pair-is path d first second convex apart z k is e f g = λ band.
-    is (enc (attenuation double_limit (three_and (Mul (Known (two_edges band apart z)) (Known k)))))
-    ∙ ap (λ (i : Interval). enc (where_convex path (Known path.dp) first second (Known i))) (its-known path d first second apart z k band e f g)
+pair-is path d first second convex spacing z k is e f g = λ band.
+    is (enc (attenuation double_limit (three_and (Mul (Known (two_edges band spacing z)) (Known k)))))
+    ∙ ap (λ (i : Interval). enc (where_convex path (Known path.dp) first second (Known i))) (its-known path d first second spacing z k band e f g)
     ∙ known-quantity path first second (its_attenuation path first second d band)
 
 pub pair-never : (path : Path) (d : Interval) (first second : Edge) (convex : Truth) → IsConvexity path first second convex → convex ≡ Never

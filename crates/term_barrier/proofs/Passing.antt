@@ -13,9 +13,9 @@ use Rattle.fix_interval.proofs.Intervals.{IsInterval-All, IsInterval-add_of, IsI
 use Rattle.fix_interval.proofs.Multiplying.{end_of-small, end_of-large, least_of-le-greatest_of, IsInterval-outward}
 use Rattle.fix_interval.proofs.Ratios.{IsInterval-Const}
 use Rattle.scene_geom.specs.declared.band.Band.{Band}
-use Rattle.term_barrier.specs.declared.pair.apart.Apart.{Apart}
+use Rattle.term_barrier.specs.declared.pair.spacing.EdgeSpacing.{EdgeSpacing}
 use Rattle.term_barrier.specs.declared.pair.factors.Factors.{Factors}
-use Rattle.term_barrier.specs.declared.pair.Pair.{Pair}
+use Rattle.term_barrier.specs.declared.pair.DoubleDiffraction.{DoubleDiffraction}
 use Rattle.term_barrier.specs.Diffraction.{whole, three_and, double_limit}
 use Rattle.term_barrier.specs.inner.Reaching.{two_edges, pair_number, growth_of, most_number, IsReach, StaysBelow}
 use Rattle.term_barrier.specs.inner.Prepared.{pair_value, Passes}
@@ -24,10 +24,10 @@ use Rattle.term_barrier.proofs.OneLogarithm.{screens, screens-picked}
 
 -- ---- the number that decides
 
-pub argument-decides : (pair : Pair) (band : Band) (number : Interval) → number ≡ pair_number band pair.apart pair.z pair.k → IsInterval number
+pub argument-decides : (pair : DoubleDiffraction) (band : Band) (number : Interval) → number ≡ pair_number band pair.spacing pair.z pair.k → IsInterval number
     → pair_value pair band ≡ screens double_limit (pick_of pair.convex number (enc (whole 1)))
 argument-decides pair band number e interval =
-    let formula = three_and (Mul (Known (two_edges band pair.apart pair.z)) (Known pair.k)) in
+    let formula = three_and (Mul (Known (two_edges band pair.spacing pair.z)) (Known pair.k)) in
     ap (λ (i : Interval). pick_of pair.convex i (enc (whole 0))) (sym (ap (screens double_limit) e ∙ known-attenuation double_limit formula))
     ∙ screens-picked pair.convex number interval
 
@@ -51,9 +51,9 @@ times-interval : (a b : Interval) → IsInterval (mul_of a b)
 unfolding mul_of
 times-interval a b = product-interval a.lo a.hi b.lo b.hi
 
-number-interval : (band : Band) (apart : Apart) (z k : Interval) → IsInterval (pair_number band apart z k)
-number-interval band apart z k =
-    IsInterval-add_of (ratio_of (pos 3) 1) (mul_of (two_edges band apart z) k) (IsInterval-Const (pos 3) 1 (omega arith)) (times-interval (two_edges band apart z) k)
+number-interval : (band : Band) (spacing : EdgeSpacing) (z k : Interval) → IsInterval (pair_number band spacing z k)
+number-interval band spacing z k =
+    IsInterval-add_of (ratio_of (pos 3) 1) (mul_of (two_edges band spacing z) k) (IsInterval-Const (pos 3) 1 (omega arith)) (times-interval (two_edges band spacing z) k)
 
 -- ---- what it is at most
 
@@ -102,11 +102,11 @@ unfolding max_of
 lesser-is best number low high h l n below above =
     rw (low-kept best.lo number.lo low h l below, high-kept best.hi number.hi high n above) refl
 
-pub passes : (best : Interval) (band : Band) (pair : Pair) (factors : Factors) → IsReach pair.apart pair.z pair.k factors
+pub passes : (best : Interval) (band : Band) (pair : DoubleDiffraction) (factors : Factors) → IsReach pair.spacing pair.z pair.k factors
     → StaysBelow best (growth_of band) factors → Passes best band pair
 passes best band pair factors reached below =
-    let number = pair_number band pair.apart pair.z pair.k in
-    let interval = number-interval band pair.apart pair.z pair.k in
+    let number = pair_number band pair.spacing pair.z pair.k in
+    let interval = number-interval band pair.spacing pair.z pair.k in
     let low = pos (most_number (growth_of band) factors.z factors.k_low) in
     let high = pos (most_number (growth_of band) factors.z factors.k_high) in
     record {

@@ -22,7 +22,7 @@ use Rattle.fix_interval.proofs.Rounding.{ceil_of-pos, floor_of-mono, floor_of-le
 use Rattle.fix_interval.proofs.Spans.{unit-pos}
 use Rattle.scene_geom.specs.declared.band.Band.{Band}
 use Rattle.scene_geom.specs.declared.band.Band.TheVariants.{Hz63, Hz125, Hz250, Hz500, Hz1000, Hz2000, Hz4000, Hz8000}
-use Rattle.term_barrier.specs.declared.pair.apart.Apart.{Apart}
+use Rattle.term_barrier.specs.declared.pair.spacing.EdgeSpacing.{EdgeSpacing}
 use Rattle.term_barrier.specs.declared.pair.factors.Factors.{Factors}
 use Rattle.term_barrier.specs.Diffraction.{c_2_by_wavelength}
 use Rattle.term_barrier.specs.inner.Reaching.{known_c_3, two_edges, pair_number, growth_of, most_number, IsNear, IsReach}
@@ -164,12 +164,12 @@ natural-ends b i o k = by_ends i.lo i.hi refl refl o.ordered k.lo k.hi where
   by_ends (Some (pos l)) (Some (pos h)) e f o k m =
       record { low = l; high = h; are = record { lo_is = e; hi_is = f }; ordered = omega (arith, ints, o); few = omega (arith, ints, m.1) }
 
-c_3-three : (band : Band) (apart : Apart) → IsInterval apart.square → IsInterval apart.third
-    → AreBetween (pos 0) (pos (2 ^ 90)) apart.square → AreBetween (pos 0) (pos (2 ^ 90)) apart.third
-    → IsNear apart.square apart.third → AreBetween (pos 0) (pos (3 * 2 ^ 32)) (known_c_3 band apart)
-c_3-three band apart i k h l close =
-    let square = natural-ends (2 ^ 90) apart.square i h in
-    let third = natural-ends (2 ^ 90) apart.third k l in
+c_3-three : (band : Band) (spacing : EdgeSpacing) → IsInterval spacing.square → IsInterval spacing.third
+    → AreBetween (pos 0) (pos (2 ^ 90)) spacing.square → AreBetween (pos 0) (pos (2 ^ 90)) spacing.third
+    → IsNear spacing.square spacing.third → AreBetween (pos 0) (pos (3 * 2 ^ 32)) (known_c_3 band spacing)
+c_3-three band spacing i k h l close =
+    let square = natural-ends (2 ^ 90) spacing.square i h in
+    let third = natural-ends (2 ^ 90) spacing.third k l in
     let wave = waves band in
     let close : square.high ≤ 3 * third.low + (2 ^ 28 - 1) = (let ends = rw (square.are.hi_is, third.are.lo_is) at close in omega (arith, ints, ends)) in
     let above = naturals-sum square.low square.high wave.low wave.high _ _ square.are wave.are (omega (arith, square.ordered, square.few, wave.ordered, wave.few)) (omega (arith, square.few, wave.few)) in
@@ -238,13 +238,13 @@ unfolding add_of
 three-more l h i few small k = three-end l h (ratio_of (pos 3) 1).hi i.hi few small three-is.high k.hi
 
 -- (C_2 / λ) C_3 z
-edges-within : (band : Band) (apart : Apart) (z : Interval) (zh : ℕ) → AreBetween (pos 0) (pos (3 * 2 ^ 32)) (known_c_3 band apart)
+edges-within : (band : Band) (spacing : EdgeSpacing) (z : Interval) (zh : ℕ) → AreBetween (pos 0) (pos (3 * 2 ^ 32)) (known_c_3 band spacing)
     → AreBetween (neg_ℤ (pos (2 ^ 62))) (pos zh) z → zh ≤ 2 ^ 62
-    → AreBetween (neg_ℤ (pos (div_ceil (growth_of band * 2 ^ 62) (2 ^ 32)))) (pos (div_ceil (growth_of band * zh) (2 ^ 32))) (two_edges band apart z)
-edges-within band apart z zh three hz long =
+    → AreBetween (neg_ℤ (pos (div_ceil (growth_of band * 2 ^ 62) (2 ^ 32)))) (pos (div_ceil (growth_of band * zh) (2 ^ 32))) (two_edges band spacing z)
+edges-within band spacing z zh three hz long =
     let few = growth-few band in
     let long_few : growth_of band * zh ≤ 2 ^ 43 * 2 ^ 62 = limited-product (growth_of band) zh 43 62 few long in
-    product-mixed (growth_of band) (2 ^ 62) zh _ z (omega (arith, few)) (omega (arith, long_few)) (grown-three band (known_c_3 band apart) three) hz
+    product-mixed (growth_of band) (2 ^ 62) zh _ z (omega (arith, few)) (omega (arith, long_few)) (grown-three band (known_c_3 band spacing) three) hz
 
 edges-few : (band : Band) (zh : ℕ) → zh ≤ 2 ^ 62 → div_ceil (growth_of band * zh) (2 ^ 32) ≤ 2 ^ 74
 edges-few band zh long =
@@ -252,16 +252,16 @@ edges-few band zh long =
     let times = div_ceil_times (growth_of band * zh) (2 ^ 32) (omega arith) in
     omega (arith, times.1, few)
 
-number-high : (band : Band) (apart : Apart) (z k : Interval) (zh kh : ℕ) → AreBetween (pos 0) (pos (3 * 2 ^ 32)) (known_c_3 band apart)
+number-high : (band : Band) (spacing : EdgeSpacing) (z k : Interval) (zh kh : ℕ) → AreBetween (pos 0) (pos (3 * 2 ^ 32)) (known_c_3 band spacing)
     → AreBetween (neg_ℤ (pos (2 ^ 62))) (pos zh) z → AreBetween (pos 0) (pos kh) k → zh ≤ 2 ^ 62 → kh ≤ 2 ^ 32
-    → IsSomeAnd (pair_number band apart z k).hi (λ high. high ≤ℤ pos (most_number (growth_of band) zh kh))
-number-high band apart z k zh kh three hz hk long most =
+    → IsSomeAnd (pair_number band spacing z k).hi (λ high. high ≤ℤ pos (most_number (growth_of band) zh kh))
+number-high band spacing z k zh kh three hz hk long most =
     let low = div_ceil (growth_of band * 2 ^ 62) (2 ^ 32) in
     let high = div_ceil (growth_of band * zh) (2 ^ 32) in
     let low_size : kh * low ≤ 2 ^ 32 * 2 ^ 74 = limited-product kh low 32 74 most (edges-few band (2 ^ 62) (omega arith)) in
     let high_size : kh * high ≤ 2 ^ 32 * 2 ^ 74 = limited-product kh high 32 74 most (edges-few band zh long) in
-    let kept = product-left kh low high _ k (omega (arith, low_size)) (omega (arith, high_size)) (edges-within band apart z zh three hz long) hk in
-    three-more (div_ceil (kh * low) (2 ^ 32)) (div_ceil (kh * high) (2 ^ 32)) (mul_of (two_edges band apart z) k)
+    let kept = product-left kh low high _ k (omega (arith, low_size)) (omega (arith, high_size)) (edges-within band spacing z zh three hz long) hk in
+    three-more (div_ceil (kh * low) (2 ^ 32)) (div_ceil (kh * high) (2 ^ 32)) (mul_of (two_edges band spacing z) k)
     (omega (arith, div_ceil-le (kh * high), high_size)) (omega (arith, div_ceil-le (kh * low), low_size)) kept
 
 -- ---- its low end
@@ -307,15 +307,15 @@ three-low (Some z) n h = by_size (pos (3 * 2 ^ 32) +ℤ z) (omega (arith, ints, 
   by_size sum o (inr few) = rw (end_of-large sum few) (omega (arith, ints))
   by_size sum o (inl few) = rw (end_of-small sum few) o
 
-number-low : (band : Band) (apart : Apart) (z k : Interval) (zh kl : ℕ) → AreBetween (pos 0) (pos (3 * 2 ^ 32)) (known_c_3 band apart)
+number-low : (band : Band) (spacing : EdgeSpacing) (z k : Interval) (zh kl : ℕ) → AreBetween (pos 0) (pos (3 * 2 ^ 32)) (known_c_3 band spacing)
     → AreBetween (neg_ℤ (pos (2 ^ 62))) (pos zh) z → k.lo ≡ Some (pos kl) → zh ≤ 2 ^ 62
-    → unwrap_or (pair_number band apart z k).lo open_low ≤ℤ pos (most_number (growth_of band) zh kl)
+    → unwrap_or (pair_number band spacing z k).lo open_low ≤ℤ pos (most_number (growth_of band) zh kl)
 unfolding add_of
-number-low band apart z k zh kl three hz e long =
+number-low band spacing z k zh kl three hz e long =
     let high = div_ceil (growth_of band * zh) (2 ^ 32) in
-    let low = low-is _ _ (two_edges band apart z) (edges-within band apart z zh three hz long) in
+    let low = low-is _ _ (two_edges band spacing z) (edges-within band spacing z zh three hz long) in
     rw three-is.low
-    (three-low (mul_of (two_edges band apart z) k).lo (div_ceil (kl * high) (2 ^ 32)) (times-low high kl (two_edges band apart z) k e low.1))
+    (three-low (mul_of (two_edges band spacing z) k).lo (div_ceil (kl * high) (2 ^ 32)) (times-low high kl (two_edges band spacing z) k e low.1))
 
 -- ---- the reach
 
@@ -325,20 +325,20 @@ low-end h i n k e = end i.lo k.lo e where
   end None k e = absurd k
   end (Some z) k e = ap Some (sym e)
 
-pub reach-is : (apart : Apart) (z k : Interval) (factors : Factors) → IsInterval apart.square → IsInterval apart.third → IsInterval z → IsInterval k
-    → AreBetween (pos 0) (pos (2 ^ 90)) apart.square → AreBetween (pos 0) (pos (2 ^ 90)) apart.third
-    → AreBetween (neg_ℤ (pos (2 ^ 62))) (pos (2 ^ 52)) z → AreBetween (pos 0) (pos (2 ^ 32)) k → IsNear apart.square apart.third
+pub reach-is : (spacing : EdgeSpacing) (z k : Interval) (factors : Factors) → IsInterval spacing.square → IsInterval spacing.third → IsInterval z → IsInterval k
+    → AreBetween (pos 0) (pos (2 ^ 90)) spacing.square → AreBetween (pos 0) (pos (2 ^ 90)) spacing.third
+    → AreBetween (neg_ℤ (pos (2 ^ 62))) (pos (2 ^ 52)) z → AreBetween (pos 0) (pos (2 ^ 32)) k → IsNear spacing.square spacing.third
     → pos factors.z ≡ int_max (unwrap_or z.hi open_high) (pos 0) → pos factors.k_low ≡ unwrap_or k.lo open_low → pos factors.k_high ≡ unwrap_or k.hi open_high
-    → IsReach apart z k factors
-reach-is apart z k factors is it iz ik hs ht hz hk close long least most = λ band.
+    → IsReach spacing z k factors
+reach-is spacing z k factors is it iz ik hs ht hz hk close long least most = λ band.
     let z_high = high-is (neg_ℤ (pos (2 ^ 62))) (pos (2 ^ 52)) z hz in
     let k_high = high-is (pos 0) (pos (2 ^ 32)) k hk in
-    let three = c_3-three band apart is it hs ht close in
+    let three = c_3-three band spacing is it hs ht close in
     let z_ends : AreBetween (neg_ℤ (pos (2 ^ 62))) (pos factors.z) z =
     wider _ (unwrap_or z.hi open_high) _ (pos factors.z) z (to-high _ _ z iz hz) (omega (arith, ints)) (omega (arith, ints, clamps, long)) in
     let k_ends : AreBetween (pos 0) (pos factors.k_high) k =
     wider _ (unwrap_or k.hi open_high) _ (pos factors.k_high) k (to-high _ _ k ik hk) (omega (arith, ints)) (omega (arith, ints, most)) in
     let few : factors.z ≤ 2 ^ 62 = omega (arith, ints, clamps, long, z_high.1) in (
-      number-low band apart z k factors.z factors.k_low three z_ends (low-end (pos (2 ^ 32)) k factors.k_low hk least) few,
-      number-high band apart z k factors.z factors.k_high three z_ends k_ends few (omega (arith, ints, most, k_high.1)),
+      number-low band spacing z k factors.z factors.k_low three z_ends (low-end (pos (2 ^ 32)) k factors.k_low hk least) few,
+      number-high band spacing z k factors.z factors.k_high three z_ends k_ends few (omega (arith, ints, most, k_high.1)),
     )

@@ -7,7 +7,7 @@ use Rattle.fix_interval.specs.Tree.{Tree, Sub, Max, Pick}
 use Rattle.scene_geom.specs.declared.band.Band.{Band}
 use Rattle.scene_parts.specs.declared.screening.edge.Edge.{Edge}
 use Rattle.path_shape.specs.declared.path.Path.{Path}
-use Rattle.term_barrier.specs.declared.single.Single.{Single}
+use Rattle.term_barrier.specs.declared.single.SingleDiffraction.{SingleDiffraction}
 use Rattle.term_barrier.specs.Diffraction.{whole, attenuation, single_limit}
 use Rattle.term_barrier.specs.Edges.{single_argument, single_attenuation, pair_attenuation}
 
@@ -18,8 +18,8 @@ pub record Passing : Type 0 where
   pub d : Interval
 
 -- the edges of those that were prepared, each alone
-abbrev pub edges_in : List Single → List Edge
-edges_in singles = map (λ single. single.bend.edge) singles
+abbrev pub edges_in : List SingleDiffraction → List Edge
+edges_in singles = map (λ single. single.passage.edge) singles
 
 -- ---- which edges count
 

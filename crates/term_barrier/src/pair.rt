@@ -1,53 +1,58 @@
 //! Diffraction at two edges, one after another.
 
-pub(crate) mod apart;
 pub(crate) mod convexity;
+pub(crate) mod edge_pair;
 pub(crate) mod factors;
-pub(crate) mod joined;
 pub(crate) mod pairing;
 pub(crate) mod reach;
+pub(crate) mod spacing;
 
 ghost use Rattle.std.specs.Prelude.{IfSome};
 ghost use Rattle.std.proofs.Props.{props};
 ghost use Rattle.term_barrier.specs.inner.Reaching.{IsReach};
 
-use crate::pair::apart::Apart;
 use crate::pair::convexity::convexity;
 use crate::pair::factors::Factors;
 use crate::pair::reach::{reach, stays_below};
-use crate::single::bend::{Bend, slant};
+use crate::pair::spacing::EdgeSpacing;
 use crate::single::formulas::{
     at_two_edges, double_attenuation, k_met, path_difference, three_and,
 };
+use crate::single::passage::{EdgePassage, slant};
 use fix_interval::{Iv, Truth, add, exact, mul, pick, sub};
 use path_shape::Path;
 use scene_geom::Band;
 
-/// Two edges over both of which sound bends, or may bend: whether that is sure, what C_3 takes of the distance between
-/// them, z in metres, K_met, and how far z and K_met reach at most, where that is known.
+/// Diffraction at two edges over both of which sound bends, or may bend: whether that is sure, what C_3 takes of the
+/// distance between them, z in metres, K_met, and how far z and K_met reach at most, where that is known.
 #[derive(Clone, Copy, Drop)]
-pub(crate) struct Pair {
+pub(crate) struct DoubleDiffraction {
     pub reach: Option<Factors>,
     pub convex: Truth,
-    pub apart: Apart,
+    pub spacing: EdgeSpacing,
     pub z: Iv,
     pub k: Iv,
-    pub ghost reached: { IfSome reach (IsReach apart z k) } by { Prim.hlevel props },
+    pub ghost reached: { IfSome reach (IsReach spacing z k) } by { Prim.hlevel props },
 }
 
-impl Pair {
+impl DoubleDiffraction {
     ghost use Rattle.std.specs.Prelude.{◌≡◌, ◌<◌, ◌^◌, IsTrue, IfSome, IfNone};
     ghost use Rattle.fix_interval.specs.Tree.{Known, enc};
     ghost use Rattle.scene_geom.specs.declared.band.Band.{Band};
     ghost use Rattle.term_barrier.specs.Diffraction.{attenuation, double_limit};
     ghost use Rattle.term_barrier.specs.inner.Reaching.{growth_of};
-    ghost use Rattle.term_barrier.specs.inner.Prepared.{bend_of, both_value, pair_value, IsPair, IsNoPair, Passes};
+    ghost use Rattle.term_barrier.specs.inner.Prepared.{passage_of, both_value, pair_value, IsPair, IsNoPair, Passes};
 
-    /// Two edges on a path whose source and receiver are `d` apart, in metres. Where sound never bends over both, there is
-    /// no pair: D_z is 0 then in every band.
-    pub(crate) fn of(path: &Path, first: &Bend, second: &Bend, d: Iv) -> Option<Pair>
-        requires first { first.now ≡ bend_of path.now first.now.edge }
-        requires second { second.now ≡ bend_of path.now second.now.edge }
+    /// Diffraction at two edges on a path whose source and receiver are `d` apart, in metres. There is none where sound
+    /// never bends over both: D_z is 0 then in every band.
+    pub(crate) fn of(
+        path: &Path,
+        first: &EdgePassage,
+        second: &EdgePassage,
+        d: Iv,
+    ) -> Option<DoubleDiffraction>
+        requires first { first.now ≡ passage_of path.now first.now.edge }
+        requires second { second.now ≡ passage_of path.now second.now.edge }
         ensures bends { IfSome result (IsPair path.now d first.now.edge second.now.edge) }
         ensures never { IfNone result (IsNoPair path.now d first.now.edge second.now.edge) }
     {
@@ -62,11 +67,11 @@ impl Pair {
         let length = add(add(first.d_ss, d_sr), e);
         let z = path_difference(length, first.y_square, d);
         let k = k_met(first.d_ss, d_sr, d, z);
-        let apart = Apart::of(e);
-        Some(Pair {
-            reach: reach(&apart, z, k),
+        let spacing = EdgeSpacing::of(e);
+        Some(DoubleDiffraction {
+            reach: reach(&spacing, z, k),
             convex,
-            apart,
+            spacing,
             z,
             k,
         })
@@ -83,7 +88,7 @@ impl Pair {
     pub(crate) fn argument(&self, band: Band) -> Iv
         ensures { pair_value self.now band ≡ enc (attenuation double_limit (Known result)) }
     {
-        let b = three_and(mul(at_two_edges(band, &self.apart, self.z), self.k));
+        let b = three_and(mul(at_two_edges(band, &self.spacing, self.z), self.k));
         pick(self.convex, b, exact(1))
     }
 
@@ -101,12 +106,18 @@ impl Pair {
     }
 
     /// D_z of two edges in a band, in dB: 0 where sound never bends over both.
-    pub(crate) fn attenuation_of(path: &Path, first: &Bend, second: &Bend, d: Iv, band: Band) -> Iv
-        requires first { first.now ≡ bend_of path.now first.now.edge }
-        requires second { second.now ≡ bend_of path.now second.now.edge }
+    pub(crate) fn attenuation_of(
+        path: &Path,
+        first: &EdgePassage,
+        second: &EdgePassage,
+        d: Iv,
+        band: Band,
+    ) -> Iv
+        requires first { first.now ≡ passage_of path.now first.now.edge }
+        requires second { second.now ≡ passage_of path.now second.now.edge }
         ensures { result ≡ both_value path.now d band (first.now.edge, second.now.edge) }
     {
-        match Pair::of(path, first, second, d) {
+        match DoubleDiffraction::of(path, first, second, d) {
             Some(pair) => pair.attenuation(band),
             None => exact(0),
         }

@@ -1,7 +1,7 @@
 //! Screening over the top, with what the bands of a path share calculated once.
 
-pub(crate) mod gathering;
-pub(crate) mod greater;
+pub(crate) mod edges;
+pub(crate) mod max_with;
 
 ghost use Rattle.std.specs.Prelude.{◌≡◌, All, IfOk};
 ghost use Rattle.fix_interval.specs.Tree.{Known, enc};
@@ -9,10 +9,10 @@ ghost use Rattle.term_barrier.specs.Edges.{FitsEdge};
 ghost use Rattle.term_barrier.specs.Limits.{IsGroundEffect, IsScreening};
 ghost use Rattle.term_barrier.specs.Screening.{marked, screening};
 
-use crate::pair::joined::Joined;
+use crate::pair::edge_pair::EdgePair;
 use crate::pair::pairing::prepare_pairs;
-use crate::screens::gathering::{best_over, greatest_argument, prepare};
-use crate::single::Single;
+use crate::screens::edges::{best_over, greatest_argument, prepare};
+use crate::single::SingleDiffraction;
 use crate::single::formulas::{below_line, less_ground};
 use fix_interval::Iv;
 use path_shape::Path;
@@ -24,8 +24,8 @@ use std::marker::Model;
 /// Memory for what the bands of a path share of its edges: lent to one path after another, it is asked for once.
 #[derive(Drop)]
 pub struct EdgeBuffers {
-    singles: Vec<Single>,
-    pairs: Vec<Joined>,
+    singles: Vec<SingleDiffraction>,
+    pairs: Vec<EdgePair>,
 }
 
 impl EdgeBuffers {
@@ -45,8 +45,8 @@ impl EdgeBuffers {
 pub struct Screens<'a> {
     path: Path,
     d: Iv,
-    singles: &'a [Single],
-    pairs: &'a [Joined],
+    singles: &'a [SingleDiffraction],
+    pairs: &'a [EdgePair],
 }
 
 impl<'a> Model for Screens<'a> {

@@ -9,7 +9,7 @@ ghost use Rattle.term_barrier.specs.Lateral.{between_corners, in_band, last_corn
 ghost use Rattle.term_barrier.specs.Lateral as form;
 ghost use Rattle.term_barrier.specs.Limits.{most_corners, most_top, IsDistance};
 
-use crate::pair::apart::Apart;
+use crate::pair::spacing::EdgeSpacing;
 use crate::single::formulas::{
     at_one_edge, at_two_edges, double_attenuation, path_difference, single_attenuation, three_and,
 };
@@ -24,7 +24,7 @@ use std::marker::Model;
 #[derive(Drop)]
 pub struct RoundSides {
     z: Iv,
-    apart: Option<Apart>,
+    spacing: Option<EdgeSpacing>,
 }
 
 impl Model for RoundSides {
@@ -35,7 +35,7 @@ impl Model for RoundSides {
 
     ghost Value = { List Interval };
 
-    ghost view = { λ round. map (round_value round.apart round.z) all_bands };
+    ghost view = { λ round. map (round_value round.spacing round.z) all_bands };
 }
 
 impl RoundSides {
@@ -51,18 +51,18 @@ impl RoundSides {
         let Some((first, others)) = corners.split_first() else {
             return RoundSides {
                 z: exact(0),
-                apart: None,
+                spacing: None,
             };
         };
         let (e, last) = way_round(*first, others);
         let length = add(add(distance(s, *first), e), distance(last, r));
         let z = path_difference(length, height_square(hs, hr), d);
         if others.is_empty() {
-            return RoundSides { z, apart: None };
+            return RoundSides { z, spacing: None };
         }
         RoundSides {
             z,
-            apart: Some(Apart::of(e)),
+            spacing: Some(EdgeSpacing::of(e)),
         }
     }
 
@@ -70,9 +70,9 @@ impl RoundSides {
     pub fn d_z(&self, band: Band) -> Iv
         ensures { result ≡ in_band self.now band }
     {
-        match &self.apart {
+        match &self.spacing {
             None => single_attenuation(three_and(at_one_edge(band, self.z))),
-            Some(apart) => double_attenuation(three_and(at_two_edges(band, apart, self.z))),
+            Some(spacing) => double_attenuation(three_and(at_two_edges(band, spacing, self.z))),
         }
     }
 }

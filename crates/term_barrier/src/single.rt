@@ -1,8 +1,8 @@
 //! Diffraction at a single edge.
 
-pub(crate) mod bend;
 pub(crate) mod components;
 pub(crate) mod formulas;
+pub(crate) mod passage;
 mod vanishing;
 
 ghost use Rattle.std.specs.Prelude.{◌≡◌};
@@ -12,33 +12,33 @@ ghost use Rattle.term_barrier.specs.Edges.{FitsEdge};
 ghost use Rattle.term_barrier.specs.Edges as form;
 ghost use Rattle.term_barrier.specs.inner.Prepared.{single_of};
 
-use crate::single::bend::{Bend, slant};
 use crate::single::formulas::{at_one_edge, k_met, path_difference, three_and};
+use crate::single::passage::{EdgePassage, slant};
 use fix_interval::{Iv, add, mul, neg};
 use path_shape::Path;
 use scene_geom::Band;
 use scene_parts::Edge;
 
-/// An edge alone: how the path passes it, z in metres, and K_met.
+/// Diffraction at a single edge: how the path passes it, z in metres, and K_met.
 #[derive(Clone, Copy, Drop)]
-pub(crate) struct Single {
-    pub bend: Bend,
+pub(crate) struct SingleDiffraction {
+    pub passage: EdgePassage,
     pub z: Iv,
     pub k: Iv,
 }
 
-impl Single {
-    /// An edge on a path whose source and receiver are `d` apart, in metres.
-    pub(crate) fn of(path: &Path, edge: &Edge, d: Iv) -> Single
+impl SingleDiffraction {
+    /// Diffraction at an edge on a path whose source and receiver are `d` apart, in metres.
+    pub(crate) fn of(path: &Path, edge: &Edge, d: Iv) -> SingleDiffraction
         requires { FitsEdge edge.now }
         ensures { result ≡ single_of path.now d edge.now }
     {
-        let bend = Bend::of(path, edge);
-        let d_sr = slant(mul(bend.rest, bend.x), bend.over_receiver);
-        let over = path_difference(add(bend.d_ss, d_sr), bend.y_square, d);
+        let passage = EdgePassage::of(path, edge);
+        let d_sr = slant(mul(passage.rest, passage.x), passage.over_receiver);
+        let over = path_difference(add(passage.d_ss, d_sr), passage.y_square, d);
         let z = negated_below(edge.above, over);
-        let k = k_met(bend.d_ss, d_sr, d, z);
-        Single { bend, z, k }
+        let k = k_met(passage.d_ss, d_sr, d, z);
+        SingleDiffraction { passage, z, k }
     }
 
     /// What stands under the logarithm in a band: 3 + (C_2 / λ) z K_met.

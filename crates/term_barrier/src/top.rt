@@ -6,14 +6,14 @@ ghost use Rattle.fix_interval.specs.Tree.{Known, enc};
 ghost use Rattle.term_barrier.specs.Edges.{FitsEdge};
 ghost use Rattle.term_barrier.specs.Limits.{most_top, IsGroundEffect, IsScreening};
 ghost use Rattle.term_barrier.specs.Screening.{edges_above, pairs_of, both_ways, top_attenuation, screening};
-ghost use Rattle.term_barrier.specs.inner.Prepared.{bend_of, greatest_from, single_value, both_value, best_argument};
+ghost use Rattle.term_barrier.specs.inner.Prepared.{passage_of, greatest_from, single_value, both_value, best_argument};
 ghost use Rattle.term_barrier.specs.inner.Prepared as prepared;
 
-use crate::pair::Pair;
-use crate::screens::greater::greater;
-use crate::single::Single;
-use crate::single::bend::Bend;
+use crate::pair::DoubleDiffraction;
+use crate::screens::max_with::max_with;
+use crate::single::SingleDiffraction;
 use crate::single::formulas::{below_line, less_ground, single_attenuation};
+use crate::single::passage::EdgePassage;
 use fix_interval::{Iv, exact};
 use path_shape::Path;
 use scene_geom::Band;
@@ -59,7 +59,7 @@ fn best_over(path: &Path, edges: &[Edge], d: Iv, band: Band) -> Option<Iv>
     let mut edges = edges;
     while let Some((first, others)) = edges.split_first() {
         if first.above {
-            best = best_with(best, path, &Bend::of(path, first), others, d, band);
+            best = best_with(best, path, &EdgePassage::of(path, first), others, d, band);
         }
         edges = others;
     }
@@ -75,8 +75,8 @@ fn best_alone(path: &Path, edges: &[Edge], d: Iv, band: Band) -> Option<Iv>
     let mut best = None;
     for edge in edges {
         if edge.above {
-            let b = Single::of(path, edge, d).argument(band);
-            best = greater(best, single_attenuation(b));
+            let b = SingleDiffraction::of(path, edge, d).argument(band);
+            best = max_with(best, single_attenuation(b));
         }
     }
     best
@@ -86,12 +86,12 @@ fn best_alone(path: &Path, edges: &[Edge], d: Iv, band: Band) -> Option<Iv>
 fn best_with(
     best: Option<Iv>,
     path: &Path,
-    edge: &Bend,
+    edge: &EdgePassage,
     others: &[Edge],
     d: Iv,
     band: Band,
 ) -> Option<Iv>
-    requires bend { edge.now ≡ bend_of path.now edge.now.edge }
+    requires passage { edge.now ≡ passage_of path.now edge.now.edge }
     requires others { All FitsEdge others.now }
     ensures { result
         ≡ greatest_from best
@@ -101,10 +101,10 @@ fn best_with(
     let mut best = best;
     for other in others {
         if other.above {
-            let other = Bend::of(path, other);
-            let there = Pair::attenuation_of(path, edge, &other, d, band);
-            let back = Pair::attenuation_of(path, &other, edge, d, band);
-            best = greater(greater(best, there), back);
+            let other = EdgePassage::of(path, other);
+            let there = DoubleDiffraction::attenuation_of(path, edge, &other, d, band);
+            let back = DoubleDiffraction::attenuation_of(path, &other, edge, d, band);
+            best = max_with(max_with(best, there), back);
         }
     }
     best
@@ -117,7 +117,7 @@ fn greatest_argument(path: &Path, edges: &[Edge], d: Iv, band: Band) -> Option<I
 {
     let mut best = None;
     for edge in edges {
-        best = greater(best, Single::of(path, edge, d).argument(band));
+        best = max_with(best, SingleDiffraction::of(path, edge, d).argument(band));
     }
     best
 }

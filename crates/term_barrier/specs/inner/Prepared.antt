@@ -10,10 +10,10 @@ use Rattle.fix_interval.specs.Tree.{Known, Const, Add, Sub, Mul, Root, enc}
 use Rattle.scene_geom.specs.declared.band.Band.{Band}
 use Rattle.scene_parts.specs.declared.screening.edge.Edge.{Edge}
 use Rattle.path_shape.specs.declared.path.Path.{Path}
-use Rattle.term_barrier.specs.declared.single.bend.Bend.{Bend}
-use Rattle.term_barrier.specs.declared.single.Single.{Single}
-use Rattle.term_barrier.specs.declared.pair.Pair.{Pair}
-use Rattle.term_barrier.specs.declared.pair.joined.Joined.{Joined}
+use Rattle.term_barrier.specs.declared.single.passage.EdgePassage.{EdgePassage}
+use Rattle.term_barrier.specs.declared.single.SingleDiffraction.{SingleDiffraction}
+use Rattle.term_barrier.specs.declared.pair.DoubleDiffraction.{DoubleDiffraction}
+use Rattle.term_barrier.specs.declared.pair.edge_pair.EdgePair.{EdgePair}
 use Rattle.term_barrier.specs.Diffraction.{whole, at_one_edge, three_and, attenuation, single_limit, double_limit}
 use Rattle.term_barrier.specs.Edges.{FitsEdge, across, beside, place, rest, rise, distance_to, source_to_edge, single_difference, single_k, single_argument, where_convex, pair_attenuation}
 use Rattle.term_barrier.specs.inner.Reaching.{two_edges}
@@ -22,8 +22,8 @@ use Rattle.term_barrier.specs.Screening.{edges_in, is_above, edges_above, marked
 -- ---- edges
 
 -- how a path passes an edge
-abbrev pub bend_of : Path → Edge → Bend
-bend_of path edge = record {
+abbrev pub passage_of : Path → Edge → EdgePassage
+passage_of path edge = record {
   edge = edge;
   place = enc (place edge);
   rest = enc (rest edge);
@@ -42,23 +42,23 @@ abbrev pub slant_of : Interval → Interval → Interval
 slant_of length rise = enc (Root (Add (Mul (Known length) (Known length)) (Mul (Known rise) (Known rise))))
 
 -- and z and K_met of the edge alone
-abbrev pub single_of : Path → Interval → Edge → Single
+abbrev pub single_of : Path → Interval → Edge → SingleDiffraction
 single_of path d edge = record {
-  bend = bend_of path edge;
+  passage = passage_of path edge;
   z = enc (single_difference path edge (Known d));
   k = enc (single_k path edge (Known d));
 }
 
 -- what stands under the logarithm of an edge whose z and K_met are known
-abbrev pub known_argument : Band → Single → Interval
+abbrev pub known_argument : Band → SingleDiffraction → Interval
 known_argument band single = enc (three_and (Mul (at_one_edge band (Known single.z)) (Known single.k)))
 
 -- and D_z of it
-abbrev pub known_single : Band → Single → Interval
+abbrev pub known_single : Band → SingleDiffraction → Interval
 known_single band single = enc (attenuation single_limit (Known (known_argument band single)))
 
-abbrev pub single_is_above : Single → Bool
-single_is_above single = is_above single.bend.edge
+abbrev pub single_is_above : SingleDiffraction → Bool
+single_is_above single = is_above single.passage.edge
 
 -- ---- two edges
 
@@ -71,7 +71,7 @@ both_of Unsure Sure = Unsure
 both_of Unsure Unsure = Unsure
 
 -- whether sound bends over both edges, from how the path passes each
-abbrev pub convexity_of : Bend → Bend → Truth
+abbrev pub convexity_of : EdgePassage → EdgePassage → Truth
 convexity_of first second =
     both_of
     (less_of first.before second.before)
@@ -86,16 +86,16 @@ IsConvexity path first second convex =
     → pick_of convex quantity (enc (whole 0)) ≡ enc (where_convex path (Known path.dp) first second (Known quantity))
 
 -- D_z of two edges of which e, z and K_met are known
-abbrev pub known_pair : Pair → Band → Interval
+abbrev pub known_pair : DoubleDiffraction → Band → Interval
 known_pair pair band =
-    enc (attenuation double_limit (three_and (Mul (Known (two_edges band pair.apart pair.z)) (Known pair.k))))
+    enc (attenuation double_limit (three_and (Mul (Known (two_edges band pair.spacing pair.z)) (Known pair.k))))
 
 -- the same where sound bends over both, and else 0
-abbrev pub pair_value : Pair → Band → Interval
+abbrev pub pair_value : DoubleDiffraction → Band → Interval
 pair_value pair band = pick_of pair.convex (known_pair pair band) (enc (whole 0))
 
 -- it is that of these two edges in every band
-abbrev pub IsPair : Path → Interval → Edge → Edge → Pair → Type 0
+abbrev pub IsPair : Path → Interval → Edge → Edge → DoubleDiffraction → Type 0
 IsPair path d first second pair =
     (band : Band) → pair_value pair band ≡ enc (pair_attenuation path (Known path.dp) first second (Known d) band)
 
@@ -107,21 +107,21 @@ IsNoPair path d first second =
 -- ---- the greatest
 
 -- the greatest so far, after one more
-abbrev pub greater_of : Option Interval → Interval → Option Interval
-greater_of None next = Some next
-greater_of (Some best) next = Some (max_of best next)
+abbrev pub max_with_of : Option Interval → Interval → Option Interval
+max_with_of None next = Some next
+max_with_of (Some best) next = Some (max_of best next)
 
 -- the greatest so far and of some more
 abbrev pub greatest_from : Option Interval → List Interval → Option Interval
 greatest_from best [] = best
-greatest_from best (next ∷ others) = greatest_from (greater_of best next) others
+greatest_from best (next ∷ others) = greatest_from (max_with_of best next) others
 
 -- where its high end is bounded, a number under the logarithm decides what is greatest: that is D_z of the number
 abbrev pub Decides : ℕ → Interval → Option Interval → Type 0
 Decides limit number best = IsSome number.hi → best ≡ Some (enc (attenuation limit (Known number)))
 
 -- a number decides what D_z of two edges is, and doesn't raise the greatest so far
-pub record Passes (best : Interval) (band : Band) (pair : Pair) : Type 0 where
+pub record Passes (best : Interval) (band : Band) (pair : DoubleDiffraction) : Type 0 where
   pub number : Interval
   pub interval : IsInterval number
   pub decides : pair_value pair band ≡ enc (attenuation double_limit (Known number))
@@ -179,8 +179,8 @@ is_marked marks n = unwrap_or (slice_get marks n) false
 abbrev pub Numbered : Type 0
 Numbered = ℕ × ℕ × Interval
 
-abbrev pub joined_value : Band → Joined → Numbered
-joined_value band joined = (joined.first, joined.second, pair_value joined.pair band)
+abbrev pub edge_pair_value : Band → EdgePair → Numbered
+edge_pair_value band pair = (pair.first, pair.second, pair_value pair.diffraction band)
 
 abbrev pub numbered_value : Path → Interval → Band → (ℕ × Edge) × (ℕ × Edge) → Numbered
 numbered_value path d band pair = (pair.0.0, pair.1.0, both_value path d band (pair.0.1, pair.1.1))
@@ -193,20 +193,20 @@ abbrev pub marked_values : List Bool → List Numbered → List Interval
 marked_values marks pairs = map (λ pair. pair.2) (filter (are_marked marks) pairs)
 
 -- the greatest attenuation of marked edges alone that rise above the line of sight
-abbrev pub best_alone : Band → List Bool → List Single → Option Interval
+abbrev pub best_alone : Band → List Bool → List SingleDiffraction → Option Interval
 best_alone band marks singles =
     greatest_from None (map (known_single band) (filter single_is_above (marked marks singles)))
 
 -- the marked edges from one on that rise above the line of sight
-abbrev pub rising_from : ℕ → List Bool → List Single → List Single
+abbrev pub rising_from : ℕ → List Bool → List SingleDiffraction → List SingleDiffraction
 rising_from n marks singles = filter single_is_above (marked (drop n marks) (drop n singles))
 
 -- D_z of two edges that were prepared
-abbrev pub joint_value : Path → Interval → Band → Single × Single → Interval
-joint_value path d band pair = both_value path d band (pair.0.bend.edge, pair.1.bend.edge)
+abbrev pub joint_value : Path → Interval → Band → SingleDiffraction × SingleDiffraction → Interval
+joint_value path d band pair = both_value path d band (pair.0.passage.edge, pair.1.passage.edge)
 
 -- the greatest attenuation of marked edges alone and of each two of them
-abbrev pub best_marked : Path → Interval → Band → List Bool → List Single → Option Interval
+abbrev pub best_marked : Path → Interval → Band → List Bool → List SingleDiffraction → Option Interval
 best_marked path d band marks singles =
     greatest_from
     (best_alone band marks singles)
@@ -226,27 +226,28 @@ StandFor kept all =
     → greatest_from (Some best) (marked_values marks kept) ≡ greatest_from (Some best) (marked_values marks all)
 
 -- what is kept after some pairs stands for what was kept before and all of these
-abbrev pub Adds : Path → Interval → List Joined → List Joined → List ((ℕ × Edge) × (ℕ × Edge)) → Type 0
+abbrev pub Adds : Path → Interval → List EdgePair → List EdgePair → List ((ℕ × Edge) × (ℕ × Edge)) → Type 0
 Adds path d before after pairs =
     (band : Band)
-    → StandFor (map (joined_value band) after)
-    (map (joined_value band) before ++ map (numbered_value path d band) pairs)
+    → StandFor (map (edge_pair_value band) after)
+    (map (edge_pair_value band) before ++ map (numbered_value path d band) pairs)
 
 -- with all pairs that were kept, D_z of a number is the greatest, and so it is with those that these stand for
-abbrev pub IsDecided : Band → List Bool → List Single → List Joined → Interval → Type 0
+abbrev pub IsDecided : Band → List Bool → List SingleDiffraction → List EdgePair → Interval → Type 0
 IsDecided band marks singles pairs number =
     IsSomeAnd
     (best_alone band marks singles)
     (λ best. IsRaised best
-    × (greatest_from (Some best) (marked_values marks (map (joined_value band) pairs))
+    × (greatest_from (Some best) (marked_values marks (map (edge_pair_value band) pairs))
     ≡ Some (enc (attenuation double_limit (Known number)))))
 
 -- an edge that was prepared
-pub record IsSingle (path : Path) (d : Interval) (single : Single) : Type 0 where
-  pub is : single ≡ single_of path d single.bend.edge
-  pub fits : FitsEdge single.bend.edge
+pub record IsSingle (path : Path) (d : Interval) (single : SingleDiffraction) : Type 0 where
+  pub is : single ≡ single_of path d single.passage.edge
+  pub fits : FitsEdge single.passage.edge
 
 -- what was prepared of a path whose source and receiver are d apart
-pub record ArePrepared (path : Path) (d : Interval) (singles : List Single) (pairs : List Joined) : Type 0 where
+pub record ArePrepared (path : Path) (d : Interval) (singles : List SingleDiffraction) (pairs : List EdgePair)
+    : Type 0 where
   pub singles_are : All (IsSingle path d) singles
   pub pairs_are : Adds path d [] pairs (pairs_of (risen 0 (edges_in singles)))

@@ -3,13 +3,13 @@
 ghost use Rattle.std.specs.Prelude.{◌≡◌};
 ghost use Rattle.term_barrier.specs.inner.Prepared.{both_of, convexity_of};
 
-use crate::single::bend::Bend;
+use crate::single::passage::EdgePassage;
 use fix_interval::{Truth, less, mul};
 
 /// Whether sound bends over both edges: the second lies behind the first, the first rises above the line from the source
 /// to the second, and the second above that from the first to the receiver. The first of these that never holds decides:
 /// mostly it is the order, which takes no product.
-pub(crate) fn convexity(first: &Bend, second: &Bend) -> Truth
+pub(crate) fn convexity(first: &EdgePassage, second: &EdgePassage) -> Truth
     ensures { result ≡ convexity_of first.now second.now }
 {
     let in_order = less(first.before, second.before);

@@ -9,8 +9,8 @@ ghost use Rattle.fix_interval.specs.Bounds.{AreBetween};
 ghost use Rattle.fix_interval.specs.Interval.{IsInterval, open_low, open_high};
 ghost use Rattle.term_barrier.specs.inner.Reaching.{growth_of, IsNear, IsReach, StaysBelow};
 
-use crate::pair::apart::Apart;
 use crate::pair::factors::Factors;
+use crate::pair::spacing::EdgeSpacing;
 use fix_interval::Iv;
 use scene_geom::Band;
 
@@ -26,10 +26,10 @@ const SLACK: i128 = (1 << 28) - 1;
 
 /// How far z and K_met of two edges reach, by which what stands under their logarithm is bounded in each band. It is known
 /// where the ends are such that C_3 is at most 3.
-pub(crate) fn reach(apart: &Apart, z: Iv, k: Iv) -> Option<Factors>
-    ensures { IfSome result (IsReach apart.now z k) }
+pub(crate) fn reach(spacing: &EdgeSpacing, z: Iv, k: Iv) -> Option<Factors>
+    ensures { IfSome result (IsReach spacing.now z k) }
 {
-    let (square, third) = (apart.square, apart.third);
+    let (square, third) = (spacing.square, spacing.third);
     if lies_between(square, 0, 1 << 90)
         && lies_between(third, 0, 1 << 90)
         && lies_between(z, -(1 << 62), 1 << 52)

@@ -7,7 +7,7 @@ ghost use Rattle.term_barrier.specs.Screening as screen;
 ghost use Rattle.term_barrier.specs.inner.Reaching as reaching;
 ghost use Rattle.term_barrier.specs.inner.Prepared as prepared;
 
-use crate::pair::apart::Apart;
+use crate::pair::spacing::EdgeSpacing;
 use crate::single::vanishing::vanishes;
 use enclose_exp::exp_neg;
 use enclose_log::lg;
@@ -50,10 +50,10 @@ pub(crate) fn at_one_edge(band: Band, z: Iv) -> Iv
 }
 
 /// (C_2 / λ) C_3 z, of two edges.
-pub(crate) fn at_two_edges(band: Band, apart: &Apart, z: Iv) -> Iv
-    ensures { result ≡ reaching.two_edges band apart.now z }
+pub(crate) fn at_two_edges(band: Band, spacing: &EdgeSpacing, z: Iv) -> Iv
+    ensures { result ≡ reaching.two_edges band spacing.now z }
 {
-    mul(mul(c_2_by_wavelength(band), c_3(band, apart)), z)
+    mul(mul(c_2_by_wavelength(band), c_3(band, spacing)), z)
 }
 
 /// C_2 / λ, per metre.
@@ -74,11 +74,11 @@ fn c_2_by_wavelength(band: Band) -> Iv
 }
 
 /// C_3 of two edges (equation 15).
-fn c_3(band: Band, apart: &Apart) -> Iv
-    ensures { result ≡ reaching.known_c_3 band apart.now }
+fn c_3(band: Band, spacing: &EdgeSpacing) -> Iv
+    ensures { result ≡ reaching.known_c_3 band spacing.now }
 {
     let waves = five_wavelengths_squared(band);
-    div(add(apart.square, waves), add(apart.third, waves))
+    div(add(spacing.square, waves), add(spacing.third, waves))
 }
 
 /// (5 λ)², in square metres.

@@ -2,7 +2,7 @@ use Rattle.std.proofs.Common.{ℕ, ap, refl, arith, get_or, List, [], ◌∷◌}
 use Rattle.std.specs.Prelude.{flat_map}
 use Rattle.std.proofs.lemmas.List.{drop_all, drop_more}
 use Rattle.scene_parts.specs.declared.screening.edge.Edge.{Edge}
-use Rattle.term_barrier.specs.declared.single.Single.{Single}
+use Rattle.term_barrier.specs.declared.single.SingleDiffraction.{SingleDiffraction}
 use Rattle.term_barrier.specs.Screening.{both_ways, edges_in}
 use Rattle.term_barrier.specs.inner.Prepared.{risen}
 use Rattle.term_barrier.proofs.Joining.{remains-none, remains-step, remains-same, risen-kept, risen-left}
@@ -17,8 +17,8 @@ loop-j-preserved c =
     let first = c.args.first.now.edge in
     let second = get_or c.args.singles.now j c.index-singles-j.result in
     let here = drop_more c.args.singles.now j c.index-singles-j.result c.loop-j-test.true in
-    let there : (ℕ × Edge) × (ℕ × Edge) = ((i, first), (j, second.bend.edge)) in
-    let back : (ℕ × Edge) × (ℕ × Edge) = ((j, second.bend.edge), (i, first)) in
+    let there : (ℕ × Edge) × (ℕ × Edge) = ((i, first), (j, second.passage.edge)) in
+    let back : (ℕ × Edge) × (ℕ × Edge) = ((j, second.passage.edge), (i, first)) in
     elim c.if-second.branch [
       | then-second+in_ok-add_pair+in_ok-add_pair-2 w ↦
           let risen = ap (flat_map (both_ways (i, first))) (risen-kept j second _ _ here w.if-second.true) in
@@ -33,6 +33,6 @@ loop-j-preserved c =
 pub returns : goal.returns
 returns c =
     remains-none c.args.path.now c.args.d c.loop-j.pairs.items _ _ _
-    (ap (λ (singles : List Single). flat_map (both_ways (c.args.i, c.args.first.now.edge)) (risen c.loop-j.j (edges_in singles)))
+    (ap (λ (singles : List SingleDiffraction). flat_map (both_ways (c.args.i, c.args.first.now.edge)) (risen c.loop-j.j (edges_in singles)))
     (drop_all c.loop-j.j c.args.singles.now (omega (arith, c.loop-j-test.false))))
     c.loop-j.invariant

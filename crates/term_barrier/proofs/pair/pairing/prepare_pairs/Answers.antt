@@ -17,7 +17,7 @@ loop-i-preserved c =
     elim c.if-first.branch [
       | then-first+in_ok-add_pairs w ↦
           rw w.pairs-is
-          (remains-step path c.args.d c.loop-i.pairs.items _ _ (flat_map (both_ways (i, single.bend.edge)) (risen (i + 1) (edges_in (drop (i + 1) c.args.singles.now)))) _ [] all
+          (remains-step path c.args.d c.loop-i.pairs.items _ _ (flat_map (both_ways (i, single.passage.edge)) (risen (i + 1) (edges_in (drop (i + 1) c.args.singles.now)))) _ [] all
           w.in_ok-add_pairs.ensures (ap pairs_of (risen-kept i single _ _ here w.if-first.true)) c.loop-i.invariant)
       | else-first w ↦
           rw w.pairs-is
