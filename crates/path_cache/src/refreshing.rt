@@ -13,7 +13,8 @@ use crate::keeping::{find_unmarked, search_unmarked};
 use crate::origins::{Origin, Origins, boxed_copy, copied};
 use crate::preparing::prepare;
 use path_calc::{
-    Bundle, Found, IndexedScene, PreparedReceiver, PreparedSource, Steps, bundle_between, within,
+    Bundle, IndexedScene, PreparedReceiver, PreparedSource, Steps, Workspace, bundle_between,
+    within,
 };
 use scene_book::Scene;
 use scene_parts::{NoMemory, PointSource, Receiver};
@@ -128,7 +129,7 @@ pub(crate) fn origins_of<L: Ledger>(
         ≤ steps.old + count_wanted renewal.now.scene.now renewal.now.receiver.now
         renewal.now.kept.now renewal.now.marks.now }
 {
-    let mut found = Found::new(alloc);
+    let mut workspace = Workspace::new(alloc);
     let mut origins = Origins {
         list: Vec::with_capacity(alloc, renewal.kept.len())?,
         next: 0,
@@ -138,7 +139,7 @@ pub(crate) fn origins_of<L: Ledger>(
             alloc,
             source,
             &renewal.prepared[place],
-            &mut found,
+            &mut workspace,
             steps,
             &mut origins,
         )?;
@@ -193,7 +194,7 @@ impl<'a> Renewal<'a> {
         alloc: Global,
         source: &PointSource,
         from: &PreparedSource,
-        found: &mut Found,
+        workspace: &mut Workspace,
         steps: &mut Steps<L>,
         origins: &mut Origins,
     ) -> Result<(), NoMemory>
@@ -215,7 +216,7 @@ impl<'a> Renewal<'a> {
         if !within(self.scene.globals().reach, source.at, receiver.at) {
             return Ok(());
         }
-        let origin = self.origin(alloc, source, from, origins.next, found, steps)?;
+        let origin = self.origin(alloc, source, from, origins.next, workspace, steps)?;
         origins.push(origin)?;
         Ok(())
     }
@@ -229,7 +230,7 @@ impl<'a> Renewal<'a> {
         source: &PointSource,
         from: &PreparedSource,
         next: usize,
-        found: &mut Found,
+        workspace: &mut Workspace,
         steps: &mut Steps<L>,
     ) -> Result<Origin, NoMemory>
         requires { from.now ≡ prepared_of source.now }
@@ -243,7 +244,7 @@ impl<'a> Renewal<'a> {
         match find_unmarked(self.kept, self.marks, &source.name, next) {
             Some(place) if next <= place => Ok(Origin::Kept(place)),
             Some(place) => Ok(Origin::New(boxed_copy(alloc, self.kept, place)?)),
-            None => Ok(Origin::New(self.calculated(alloc, source, from, found, steps)?)),
+            None => Ok(Origin::New(self.calculated(alloc, source, from, workspace, steps)?)),
         }
     }
 
@@ -255,7 +256,7 @@ impl<'a> Renewal<'a> {
         alloc: Global,
         source: &PointSource,
         from: &PreparedSource,
-        found: &mut Found,
+        workspace: &mut Workspace,
         steps: &mut Steps<L>,
     ) -> Result<Box<Bundle>, NoMemory>
         requires { from.now ≡ prepared_of source.now }
@@ -270,7 +271,7 @@ impl<'a> Renewal<'a> {
             from,
             self.receiver,
             &self.to,
-            found,
+            workspace,
             steps,
         )?;
         Ok(Box::new(alloc, bundle)?)

@@ -8,7 +8,7 @@ ghost use Rattle.path_cache.specs.Renewals.{with_each};
 
 use crate::refreshing::Renewal;
 use crate::sums::RowSums;
-use path_calc::{Bundle, Found, Steps};
+use path_calc::{Bundle, Steps, Workspace};
 use scene_parts::NoMemory;
 use std::alloc::Global;
 use std::sync::ledger::Ledger;
@@ -74,7 +74,7 @@ pub(crate) fn replace_marked<L: Ledger>(
         renewal.now.kept.now renewal.now.marks.now }
 {
     let sources = renewal.scene.sources();
-    let mut found = Found::new(alloc);
+    let mut workspace = Workspace::new(alloc);
     let mut row = Replacing {
         news: Vec::new(alloc),
         sums: *sums,
@@ -83,7 +83,7 @@ pub(crate) fn replace_marked<L: Ledger>(
         if *marked {
             let source = &sources[place];
             let from = &renewal.prepared[place];
-            let bundle = renewal.calculated(alloc, source, from, &mut found, steps)?;
+            let bundle = renewal.calculated(alloc, source, from, &mut workspace, steps)?;
             row.put(renewal.kept, place, bundle)?;
         }
     }

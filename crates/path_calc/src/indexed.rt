@@ -1,6 +1,6 @@
 //! A scene with an index of the sides of its obstacles, or without one, and with a list of those that may reflect to a place,
 //! or without it.
-ghost use Rattle.std.specs.Prelude.{◌≡◌, map, IfOk, IfSome};
+ghost use Rattle.std.specs.Prelude.{◌≡◌, map, IfOk, OnOk, IfSome};
 ghost use Rattle.scene_parts.specs.Sides.{sides_of};
 ghost use Rattle.scene_book.specs.Book.{IsWithin, NamesAreApart};
 ghost use Rattle.part_grid.specs.Numbered.{numbered};
@@ -13,14 +13,17 @@ ghost use Rattle.path_calc.specs.LateralPaths.{is_in_the_way};
 ghost use Rattle.path_calc.specs.inner.Strings.{is_within};
 
 use crate::lateral::blocked::{blocking, blocking_near};
-use image_source::{FacingSide, FacingSides, Leg, Mirror, leg_crossings, leg_crossings_near};
+use crate::workspace::make_ready;
+use image_source::{
+    FacingSide, FacingSides, Leg, Mirror, find_leg_crossings, find_leg_crossings_near,
+};
 use part_grid::{Found, Grid};
 use scene_book::Scene;
 use scene_geom::Pt;
 use scene_parts::{
     Breadth, Crossing, Ends, Foliage, Globals, NoMemory, Obstacle, PointSource, Zone,
 };
-use sight_cut::{crossings, crossings_near};
+use sight_cut::{find_crossings, find_crossings_near};
 use std::alloc::Global;
 use std::marker::Model;
 
@@ -151,41 +154,46 @@ impl<'a> IndexedScene<'a> {
         self.scene.foliage()
     }
 
-    /// All sides that cross a line of sight, in their order. The buffers are lent to the search.
-    pub(crate) fn crossings(
+    /// Lists all sides that cross a line of sight, in their order, in place of what a list held. The buffers are lent to the
+    /// search.
+    pub(crate) fn find_crossings(
         &self,
-        alloc: Global,
         ends: Ends,
         found: &mut Found,
-    ) -> Result<Vec<Crossing>, NoMemory>
-        ensures { IfOk result (λ crossings. crossings.items ≡ crossings_of ends self.now.obstacles) }
+        crossings: &mut Vec<Crossing>,
+    ) -> Result<(), NoMemory>
+        ensures { OnOk result (crossings.new.items ≡ crossings_of ends self.now.obstacles) }
     {
         let obstacles = self.scene.obstacles();
-        // in the open nothing is searched for
+        // in the open nothing is searched for, and no memory is asked for
         if obstacles.is_empty() {
-            return Ok(Vec::new(alloc));
+            crossings.clear();
+            return Ok(());
         }
+        make_ready(crossings)?;
         match self.grid {
-            Some(grid) => crossings_near(alloc, grid, obstacles, ends, found),
-            None => crossings(alloc, obstacles, ends),
+            Some(grid) => find_crossings_near(grid, obstacles, ends, found, crossings),
+            None => find_crossings(obstacles, ends, crossings),
         }
     }
 
-    /// All sides that cross the legs of a path by way of a wall, in their order. The buffers are lent to the search.
-    pub(crate) fn leg_crossings(
+    /// Lists all sides that cross the legs of a path by way of a wall, in their order, in place of what a list held. The
+    /// buffers are lent to the search.
+    pub(crate) fn find_leg_crossings(
         &self,
-        alloc: Global,
         mirror: &Mirror,
         ends: Ends,
         found: &mut Found,
-    ) -> Result<Vec<(Leg, Crossing)>, NoMemory>
-        ensures { IfOk result (λ crossings. crossings.items
+        crossings: &mut Vec<(Leg, Crossing)>,
+    ) -> Result<(), NoMemory>
+        ensures { OnOk result (crossings.new.items
             ≡ leg_crossings_of mirror.now ends self.now.obstacles) }
     {
         let obstacles = self.scene.obstacles();
+        make_ready(crossings)?;
         match self.grid {
-            Some(grid) => leg_crossings_near(alloc, grid, obstacles, mirror, ends, found),
-            None => leg_crossings(alloc, obstacles, mirror, ends),
+            Some(grid) => find_leg_crossings_near(grid, obstacles, mirror, ends, found, crossings),
+            None => find_leg_crossings(obstacles, mirror, ends, crossings),
         }
     }
 

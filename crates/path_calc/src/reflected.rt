@@ -1,5 +1,5 @@
 //! What the bands share of a path by way of a wall.
-ghost use Rattle.std.specs.Prelude.{◌≡◌};
+ghost use Rattle.std.specs.Prelude.{◌≡◌, ◌≤◌, vec_len};
 ghost use Rattle.fix_interval.specs.Values.{add_of};
 ghost use Rattle.path_calc.specs.inner.Prepared.{IsSent, IsSentOn};
 ghost use Rattle.path_calc.specs.Segments.{FitsSegment};
@@ -72,6 +72,16 @@ impl Reflected {
         ensures range { IsEcho result.now }
     {
         &self.echo
+    }
+
+    /// Gives the memory of a path that is no longer read to others.
+    pub(crate) fn give_back(self, spare: &mut Vec<Box<[Iv; 8]>>)
+        ensures { vec_len spare.old ≤ vec_len spare.new }
+    {
+        match self.echo {
+            Echo::Silent => {}
+            Echo::Audible(sound) => sound.path.give_back(spare),
+        }
     }
 }
 

@@ -6,13 +6,13 @@ ghost use Rattle.path_calc.specs.Bundles.{bundle_of};
 ghost use Rattle.path_calc.specs.Prepared.{prepared_of};
 
 use crate::bundles::Bundle;
-use crate::bundles::segments::Segs;
 use crate::bundles::steps::Steps;
 use crate::energies::path_energies;
 use crate::energies::paths::paths_between;
 use crate::indexed::IndexedScene;
 use crate::prepared::{PreparedReceiver, PreparedSource};
-use part_grid::{Found, Grid};
+use crate::workspace::Workspace;
+use part_grid::Grid;
 use scene_book::Scene;
 use scene_parts::{Name, NoMemory, PointSource, Receiver};
 use std::alloc::Global;
@@ -63,14 +63,21 @@ fn prepared_bundle<L: Ledger>(
 {
     let from = PreparedSource::of(source);
     let to = PreparedReceiver::of(receiver);
-    let mut found = Found::new(alloc);
+    let mut workspace = Workspace::new(alloc);
     bundle_between(
-        alloc, scene, source, &from, receiver, &to, &mut found, steps,
+        alloc,
+        scene,
+        source,
+        &from,
+        receiver,
+        &to,
+        &mut workspace,
+        steps,
     )
 }
 
-/// The same, of a source and a receiver that are prepared: once, and not for each of their paths. The buffers are lent to
-/// the search by the index.
+/// The same, of a source and a receiver that are prepared: once, and not for each of their paths. The workspace is
+/// lent to the calculation.
 pub fn bundle_between<L: Ledger>(
     alloc: Global,
     scene: &IndexedScene<'_>,
@@ -78,7 +85,7 @@ pub fn bundle_between<L: Ledger>(
     from: &PreparedSource,
     receiver: &Receiver,
     to: &PreparedReceiver,
-    found: &mut Found,
+    workspace: &mut Workspace,
     steps: &mut Steps<L>,
 ) -> Result<Bundle, NoMemory>
     requires source { from.now ≡ prepared_of source.now }
@@ -87,7 +94,7 @@ pub fn bundle_between<L: Ledger>(
     ensures step { steps.new ≡ steps.old + 1 }
 {
     steps.tick();
-    calculated(alloc, scene, source, from, receiver, to, found)
+    calculated(alloc, scene, source, from, receiver, to, workspace)
 }
 
 /// What that path comes to, whose step is counted.
@@ -98,16 +105,17 @@ fn calculated(
     from: &PreparedSource,
     receiver: &Receiver,
     to: &PreparedReceiver,
-    found: &mut Found,
+    workspace: &mut Workspace,
 ) -> Result<Bundle, NoMemory>
     requires source { from.now ≡ prepared_of source.now }
     requires receiver { to.now ≡ receiver.now.h }
     ensures { IfOk result (λ bundle. bundle ≡ bundle_of scene.now source.now receiver.now) }
 {
     let name = Name::from_vec(source.name.items().to_vec(alloc)?);
-    let mut segs = Segs::new(alloc);
-    let paths = paths_between(alloc, scene, source, from, receiver, to, found, &mut segs)?;
+    let paths = paths_between(alloc, scene, source, from, receiver, to, workspace)?;
     let energies = path_energies(&paths, from);
+    workspace.take_back(paths);
+    let segs = workspace.trace.copied(alloc)?;
     Ok(Bundle {
         source: name,
         at: source.at,

@@ -1,5 +1,5 @@
 //! Plan segments along which a source and a receiver read the obstacles and the zones of a scene.
-ghost use Rattle.std.specs.Prelude.{◌≡◌, [], ◌∷◌, ◌++◌, All, OnOk};
+ghost use Rattle.std.specs.Prelude.{◌≡◌, [], ◌∷◌, ◌++◌, All, IfOk, OnOk};
 ghost use Rattle.path_calc.specs.Segments.{FitsSegment};
 
 use scene_geom::{Pt, Side};
@@ -68,6 +68,30 @@ impl Segs {
         }
     }
 
+    /// Takes all segments out, and keeps their memory for others.
+    pub(crate) fn clear(&mut self)
+        ensures { self.new ≡ [] }
+    {
+        match &mut self.held {
+            Held::Nothing(_) => {}
+            Held::One(alloc, _) => self.held = Held::Nothing(*alloc),
+            Held::Many(segments) => segments.clear(),
+        }
+    }
+
+    /// The same segments in memory of exactly their length: in none, where it is a single one.
+    pub(crate) fn copied(&self, alloc: Global) -> Result<Segs, NoMemory>
+        ensures value { IfOk result (λ copy. copy ≡ self.now) }
+        ensures fit { IfOk result (All FitsSegment) }
+    {
+        let held = match self.items() {
+            [] => Held::Nothing(alloc),
+            [segment] => Held::One(alloc, *segment),
+            segments => Held::Many(segments.to_vec(alloc)?),
+        };
+        Ok(Segs { held })
+    }
+
     /// Adds a segment at the end.
     pub(crate) fn push(&mut self, segment: Seg) -> Result<(), NoMemory>
         requires { FitsSegment segment }
@@ -75,7 +99,7 @@ impl Segs {
     {
         match &mut self.held {
             Held::Nothing(alloc) => self.held = Held::One(*alloc, segment),
-            Held::One(alloc, first) => self.held = Held::Many(vec![in *alloc; *first, segment]?),
+            Held::One(alloc, first) => self.held = Held::Many(both(*alloc, *first, segment)?),
             Held::Many(segments) => segments.push(segment)?,
         }
         Ok(())
@@ -102,4 +126,14 @@ impl Segs {
             Held::Many(segments) => segments.as_slice(),
         }
     }
+}
+
+/// Two segments, with room for more: a list that is lent to one path after another doesn't grow step by step.
+fn both(alloc: Global, first: Seg, second: Seg) -> Result<Vec<Seg>, NoMemory>
+    ensures { IfOk result (λ segments. segments.items ≡ first ∷ second ∷ []) }
+{
+    let mut segments = Vec::with_capacity(alloc, 64)?;
+    segments.push_reserved(first);
+    segments.push_reserved(second);
+    Ok(segments)
 }

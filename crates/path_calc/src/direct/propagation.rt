@@ -1,5 +1,5 @@
 //! What all bands share of a path.
-ghost use Rattle.std.specs.Prelude.{◌≡◌, All, IfOk, IfSome};
+ghost use Rattle.std.specs.Prelude.{◌≡◌, ◌≤◌, All, IfOk, IfSome, vec_len};
 ghost use Rattle.fix_interval.specs.Values.{sub_of};
 ghost use Rattle.path_shape.specs.Shape.{IsPath};
 ghost use Rattle.scene_parts.specs.Ranges.{IsHeight};
@@ -18,6 +18,7 @@ use crate::direct::screening::{BarrierAttenuations, over_top};
 use crate::energies::small_sums::plus;
 use crate::indexed::IndexedScene;
 use crate::prepared::{PreparedReceiver, PreparedSource};
+use crate::workspace::ScreeningBuffers;
 use energy_sum::c_met;
 use fix_interval::Iv;
 use path_shape::Path;
@@ -55,7 +56,7 @@ pub(crate) struct Propagation {
 
 impl<'a> Between<'a> {
     /// The quantities of a path, of which the square of the plan length in mm² is this, over a distance in metres, where
-    /// these sides cross it and these bands are asked for.
+    /// these sides cross it and these bands are asked for. The buffers are lent to what screens it.
     pub(crate) fn along(
         &self,
         path: &Path,
@@ -63,6 +64,7 @@ impl<'a> Between<'a> {
         distance: Iv,
         crossings: &[Crossing],
         asked: &[bool; 8],
+        buffers: &mut ScreeningBuffers,
     ) -> Result<Propagation, NoMemory>
         requires path { IsPath path.now }
         requires source { self.now.from.now.h ≡ path.now.hs }
@@ -79,7 +81,9 @@ impl<'a> Between<'a> {
     {
         let globals = self.scene.globals();
         let grounds = self.grounds_along(path, distance);
-        let screening = over_top(self.alloc, crossings, path, distance, &grounds, asked)?;
+        let screening = over_top(
+            self.alloc, crossings, path, distance, &grounds, asked, buffers,
+        )?;
         Ok(Propagation {
             air: globals.air,
             distance,
@@ -162,5 +166,13 @@ impl Propagation {
         ensures range { IsScreened result }
     {
         self.screening.off(level, band)
+    }
+
+    /// Gives the memory of quantities that are no longer read to those of other paths.
+    pub(crate) fn give_back(self, spare: &mut Vec<Box<[Iv; 8]>>)
+        ensures { vec_len spare.old ≤ vec_len spare.new }
+    {
+        let Propagation { screening, .. } = self;
+        screening.give_back(spare);
     }
 }

@@ -1,5 +1,5 @@
 //! By how much a path is screened over the top: the direct one, or the legs of a reflection.
-ghost use Rattle.std.specs.Prelude.{◌≡◌, ◌∷◌, map, pos, IfOk, OnOk, All, slice_index_or};
+ghost use Rattle.std.specs.Prelude.{◌≡◌, ◌≤◌, ◌∷◌, map, pos, IfOk, OnOk, All, slice_index_or, vec_len};
 ghost use Rattle.scene_parts.specs.Crossings.{is_crossing_in};
 ghost use Rattle.term_barrier.specs.Edges.{FitsEdge};
 ghost use Rattle.term_barrier.specs.Limits.{IsGroundEffect, IsScreening};
@@ -12,6 +12,7 @@ ghost use Rattle.path_calc.specs.inner.Hearing.{edges_among, bar_over, bars_over
 ghost use Rattle.path_calc.specs.inner.Ranges.{IsUnscreened, IsScreened};
 
 use crate::energies::small_sums::minus;
+use crate::workspace::{ScreeningBuffers, make_ready};
 use fix_interval::{Iv, exact};
 use path_shape::Path;
 use scene_geom::Band;
@@ -47,13 +48,32 @@ impl BarrierAttenuations {
         BarrierAttenuations { bands: None }
     }
 
-    /// The attenuations in the bands.
-    fn of(alloc: Global, bands: [Iv; 8]) -> Result<BarrierAttenuations, NoMemory>
+    /// The attenuations in the bands, in spare memory where there is some.
+    fn of(
+        alloc: Global,
+        bands: [Iv; 8],
+        spare: &mut Vec<Box<[Iv; 8]>>,
+    ) -> Result<BarrierAttenuations, NoMemory>
         requires { All IsScreening bands }
         ensures { IfOk result (λ attenuations. attenuations ≡ bands) }
     {
-        let bands = Some(Box::new(alloc, bands)?);
-        Ok(BarrierAttenuations { bands })
+        let bands = match spare.pop() {
+            Some(mut memory) => {
+                *memory = bands;
+                memory
+            }
+            None => Box::new(alloc, bands)?,
+        };
+        Ok(BarrierAttenuations { bands: Some(bands) })
+    }
+
+    /// Gives the memory of attenuations that are no longer read to others. Where there is no memory to note it, it is gone.
+    pub(crate) fn give_back(self, spare: &mut Vec<Box<[Iv; 8]>>)
+        ensures { vec_len spare.old ≤ vec_len spare.new }
+    {
+        if let Some(memory) = self.bands {
+            drop(spare.push(memory));
+        }
     }
 
     /// A level in dB less what screens it in a band: where nothing does, the level itself.
@@ -92,6 +112,7 @@ pub(crate) fn over_top(
     distance: Iv,
     ground: &[Iv; 8],
     asked: &[bool; 8],
+    buffers: &mut ScreeningBuffers,
 ) -> Result<BarrierAttenuations, NoMemory>
     requires edges { All (λ crossing. FitsEdge crossing.edge) crossings.now }
     requires ground { All IsGroundEffect ground.now }
@@ -102,36 +123,25 @@ pub(crate) fn over_top(
     if crossings.is_empty() {
         return Ok(BarrierAttenuations::none());
     }
-    let edges = edges(alloc, crossings)?;
-    let screens = Screens::of(alloc, path, edges.as_slice(), distance)?;
-    let bars = bars(alloc, crossings, &screens, ground, asked)?;
-    BarrierAttenuations::of(alloc, bars)
-}
-
-/// A_bar in each band that is asked for, of the crossings that count there. The bands share the memory of the marks.
-fn bars(
-    alloc: Global,
-    crossings: &[Crossing],
-    screens: &Screens,
-    ground: &[Iv; 8],
-    asked: &[bool; 8],
-) -> Result<[Iv; 8], NoMemory>
-    requires edges { screens.now.edges ≡ map (λ crossing. crossing.edge) crossings.now }
-    requires ground { All IsGroundEffect ground.now }
-    ensures value { IfOk result (λ bars. bars ≡ bars_over screens.now.path
-        (λ band. edges_among band crossings.now) screens.now.d ground.now (is_asked asked.now)) }
-    ensures bounds { IfOk result (All IsScreening) }
-{
-    let marks = &mut Vec::with_capacity(alloc, crossings.len())?;
-    bars_in_turn(marks, crossings, screens, ground, asked)
+    let ScreeningBuffers {
+        edges,
+        marks,
+        shared,
+        spare,
+    } = buffers;
+    list_edges(crossings, edges)?;
+    make_ready(marks)?;
+    let screens = Screens::of(shared, path, edges.as_slice(), distance)?;
+    let bars = bars(marks, crossings, &screens, ground, asked)?;
+    BarrierAttenuations::of(alloc, bars, spare)
 }
 
 /// A_bar in each band that is asked for, of the crossings that count there, where the memory of the marks is lent to one
 /// band after the other.
-fn bars_in_turn(
+fn bars(
     marks: &mut Vec<bool>,
     crossings: &[Crossing],
-    screens: &Screens,
+    screens: &Screens<'_>,
     ground: &[Iv; 8],
     asked: &[bool; 8],
 ) -> Result<[Iv; 8], NoMemory>
@@ -158,7 +168,7 @@ fn bars_in_turn(
 fn bar_asked(
     marks: &mut Vec<bool>,
     crossings: &[Crossing],
-    screens: &Screens,
+    screens: &Screens<'_>,
     ground: &[Iv; 8],
     asked: &[bool; 8],
     band: Band,
@@ -180,7 +190,7 @@ fn bar_asked(
 fn bar(
     marks: &mut Vec<bool>,
     crossings: &[Crossing],
-    screens: &Screens,
+    screens: &Screens<'_>,
     ground: &[Iv; 8],
     band: Band,
 ) -> Result<Iv, NoMemory>
@@ -194,15 +204,15 @@ fn bar(
     Ok(screens.a_bar(marks.as_slice(), ground[band.place()], band))
 }
 
-/// The edges of some crossings.
-fn edges(alloc: Global, crossings: &[Crossing]) -> Result<Vec<Edge>, NoMemory>
-    ensures { IfOk result (λ edges. edges.items ≡ map (λ crossing. crossing.edge) crossings.now) }
+/// Lists the edges of some crossings, in place of what a list held.
+fn list_edges(crossings: &[Crossing], edges: &mut Vec<Edge>) -> Result<(), NoMemory>
+    ensures { OnOk result (edges.new.items ≡ map (λ crossing. crossing.edge) crossings.now) }
 {
-    let mut edges = Vec::with_capacity(alloc, crossings.len())?;
+    make_ready(edges)?;
     for crossing in crossings {
         edges.push(crossing.edge)?;
     }
-    Ok(edges)
+    Ok(())
 }
 
 /// Marks each of some crossings in the place of all marks: whether it counts in a band.

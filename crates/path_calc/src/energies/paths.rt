@@ -13,11 +13,12 @@ use crate::indexed::IndexedScene;
 use crate::lateral::{LateralScreening, lateral_screening};
 use crate::prepared::{PreparedReceiver, PreparedSource};
 use crate::reflected::Reflected;
-use part_grid::Found;
+use crate::workspace::Workspace;
 use path_shape::Path;
 use scene_geom::Band;
 use scene_parts::{Ends, NoMemory, PointSource, Receiver};
 use std::alloc::Global;
+use std::mem;
 
 /// What the bands share of all paths from a source to a receiver: of the direct one, which leads over the top of what
 /// screens it, D_z in dB in each band round the left and the right, where sound goes there (an empty list where nothing
@@ -29,8 +30,8 @@ pub(crate) struct Paths {
     pub(crate) reflected: Vec<Reflected>,
 }
 
-/// The paths from a source to a receiver, whose trace is added to a trace. One search finds the edges of all bands on a
-/// path. The buffers are lent to the searches.
+/// The paths from a source to a receiver. Their trace stands in the workspace that is lent to them, in place of another's.
+/// One search finds the edges of all bands on a path.
 pub(crate) fn paths_between(
     alloc: Global,
     scene: &IndexedScene<'_>,
@@ -38,14 +39,13 @@ pub(crate) fn paths_between(
     from: &PreparedSource,
     receiver: &Receiver,
     to: &PreparedReceiver,
-    found: &mut Found,
-    trace: &mut Segs,
+    workspace: &mut Workspace,
 ) -> Result<Paths, NoMemory>
     requires source { from.now ≡ prepared_of source.now }
     requires receiver { to.now ≡ receiver.now.h }
     ensures value { IfOk result (λ paths. ArePaths paths scene.now source.now receiver.now) }
     ensures range { IfOk result AreInRange }
-    ensures trace { OnOk result (trace.new ≡ trace.old ++ trace_of scene.now source.now receiver.now) }
+    ensures trace { OnOk result (workspace.new.trace ≡ trace_of scene.now source.now receiver.now) }
 {
     let ends = Ends {
         s: source.at,
@@ -62,10 +62,24 @@ pub(crate) fn paths_between(
     };
     let path = Path::direct(source.at, source.h, receiver.at, receiver.h);
     let distance = distance(source.at, source.h, receiver.at, receiver.h);
-    let crossings = scene.crossings(alloc, ends, found)?;
+    let Workspace {
+        trace,
+        crossings,
+        reflected,
+        lines,
+    } = workspace;
+    scene.find_crossings(ends, &mut lines.found, crossings)?;
     let square = direct_square(source.at, receiver.at);
     let powered = from.powered();
-    let direct = between.along(&path, square, distance, crossings.as_slice(), &powered)?;
+    let direct = between.along(
+        &path,
+        square,
+        distance,
+        crossings.as_slice(),
+        &powered,
+        &mut lines.screening,
+    )?;
+    trace.clear();
     trace.push(Seg::Straight(source.at, receiver.at))?;
     let lateral = lateral_screening(
         alloc,
@@ -73,15 +87,15 @@ pub(crate) fn paths_between(
         ends,
         crossings.as_slice(),
         distance,
-        found,
+        &mut lines.found,
         trace,
     )?;
-    let reflected = between.reflected(found)?;
+    between.find_reflected(reflected, lines)?;
     add_walls(trace, reflected.as_slice())?;
     Ok(Paths {
         direct,
         lateral,
-        reflected,
+        reflected: mem::replace(reflected, Vec::new(alloc)),
     })
 }
 

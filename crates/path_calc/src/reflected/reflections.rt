@@ -1,5 +1,5 @@
 //! Paths by way of reflecting walls (ISO 9613-2, 7.5).
-ghost use Rattle.std.specs.Prelude.{◌≡◌, ◌≤◌, ◌<◌, ◌++◌, true, length, map, slice_get, Some, IfOk, OnOk};
+ghost use Rattle.std.specs.Prelude.{◌≡◌, ◌≤◌, ◌<◌, [], ◌++◌, true, length, map, slice_get, Some, IfOk, OnOk};
 ghost use Rattle.std.specs.Option.{option_to_list};
 ghost use Rattle.scene_geom.specs.Reflection.{CanReflect};
 ghost use Rattle.scene_parts.specs.Sides.{sides_of};
@@ -23,75 +23,84 @@ use crate::direct::lengths::reflected_distance;
 use crate::direct::propagation::{Between, Propagation};
 use crate::prepared::PreparedSource;
 use crate::reflected::{Echo, Reflected, Sound};
+use crate::workspace::{LineBuffers, make_ready};
 use enclose_log::lg;
 use fix_interval::{Iv, Truth, exact, mul, ratio};
 use image_source::{FacingSide, Leg, Mirror, big_enough_in_bands, has_mirror};
-use part_grid::Found;
 use path_shape::Path;
 use scene_geom::{Band, Side};
 use scene_parts::{Crossing, Ends, NoMemory, Obstacle, side_of, sides};
-use std::alloc::Global;
 
 impl<'a> Between<'a> {
-    /// All paths by way of walls, in the order of obstacles and sides. Where the sides that may reflect to the receiver are
-    /// listed, no other is looked at. The buffers are lent to the searches of what stands near their legs. It is put into its
-    /// caller, since there is nothing to reflect in the open.
+    /// Lists all paths by way of walls, in the order of obstacles and sides, in place of what a list held. Where the sides
+    /// that may reflect to the receiver are listed, no other is looked at. The buffers are lent to one path after the other.
+    /// It is put into its caller, since there is nothing to reflect in the open.
     #[inline(always)]
-    pub(crate) fn reflected(&self, near: &mut Found) -> Result<Vec<Reflected>, NoMemory>
+    pub(crate) fn find_reflected(
+        &self,
+        found: &mut Vec<Reflected>,
+        buffers: &mut LineBuffers,
+    ) -> Result<(), NoMemory>
         requires ends { FitsEnds self.now }
-        ensures value { IfOk result (λ found. let book = self.now.scene.now in found.items
+        ensures value { OnOk result (let book = self.now.scene.now in found.new.items
             ≡ map (reflected_of book.globals self.now.from.now self.now.ends)
             (reflected_paths book self.now.ends)) }
-        ensures few { IfOk result (λ found. length found.items ≤ most_sides) }
+        ensures few { OnOk result (length found.new.items ≤ most_sides) }
     {
+        found.clear();
         if self.scene.obstacles().is_empty() {
-            return Ok(Vec::new(self.alloc));
+            return Ok(());
         }
         match self.scene.facing(self.ends.r) {
-            Some(sides) => self.reflected_by_facing(sides, near),
-            None => self.reflected_by_any(near),
+            Some(sides) => self.add_by_facing(found, sides, buffers),
+            None => self.add_by_any(found, buffers),
         }
     }
 
-    /// All paths by way of walls, of the sides that may reflect to the receiver. Most of them mirror no source there, and
-    /// nothing else is asked of those.
-    fn reflected_by_facing(
+    /// Adds all paths by way of walls to none, of the sides that may reflect to the receiver. Most of them mirror no source
+    /// there, and nothing else is asked of those.
+    fn add_by_facing(
         &self,
+        found: &mut Vec<Reflected>,
         sides: &[FacingSide],
-        near: &mut Found,
-    ) -> Result<Vec<Reflected>, NoMemory>
+        buffers: &mut LineBuffers,
+    ) -> Result<(), NoMemory>
         requires ends { FitsEnds self.now }
         requires facing { sides.now ≡ facing_sides self.now.ends.r self.now.scene.now.obstacles }
-        ensures value { IfOk result (λ found. let book = self.now.scene.now in found.items
+        requires none { found.old.items ≡ [] }
+        ensures value { OnOk result (let book = self.now.scene.now in found.new.items
             ≡ map (reflected_of book.globals self.now.from.now self.now.ends)
             (reflected_paths book self.now.ends)) }
-        ensures few { IfOk result (λ found. length found.items ≤ most_sides) }
+        ensures few { OnOk result (length found.new.items ≤ most_sides) }
     {
         let obstacles = self.scene.obstacles();
-        let mut found = Vec::new(self.alloc);
         for facing in sides {
             if facing.may_mirror(self.ends.s) {
                 let wall = facing.owned();
                 let obstacle = &obstacles[wall.obstacle as usize];
-                self.add_side(&mut found, obstacle, wall.index, wall.side, near)?;
+                self.add_side(found, obstacle, wall.index, wall.side, buffers)?;
             }
         }
-        Ok(found)
+        Ok(())
     }
 
-    /// All paths by way of walls, of all obstacles. Those that don't reflect are passed over.
-    fn reflected_by_any(&self, near: &mut Found) -> Result<Vec<Reflected>, NoMemory>
+    /// Adds all paths by way of walls to none, of all obstacles. Those that don't reflect are passed over.
+    fn add_by_any(
+        &self,
+        found: &mut Vec<Reflected>,
+        buffers: &mut LineBuffers,
+    ) -> Result<(), NoMemory>
         requires ends { FitsEnds self.now }
-        ensures value { IfOk result (λ found. let book = self.now.scene.now in found.items
+        requires none { found.old.items ≡ [] }
+        ensures value { OnOk result (let book = self.now.scene.now in found.new.items
             ≡ map (reflected_of book.globals self.now.from.now self.now.ends)
             (reflected_paths book self.now.ends)) }
-        ensures few { IfOk result (λ found. length found.items ≤ most_sides) }
+        ensures few { OnOk result (length found.new.items ≤ most_sides) }
     {
-        let mut found = Vec::new(self.alloc);
         for obstacle in self.scene.obstacles() {
-            self.add_reflected(&mut found, obstacle, near)?;
+            self.add_reflected(found, obstacle, buffers)?;
         }
-        Ok(found)
+        Ok(())
     }
 
     /// Adds the paths by way of the sides of an obstacle, of which there are none where it doesn't reflect.
@@ -99,7 +108,7 @@ impl<'a> Between<'a> {
         &self,
         found: &mut Vec<Reflected>,
         obstacle: &Obstacle,
-        near: &mut Found,
+        buffers: &mut LineBuffers,
     ) -> Result<(), NoMemory>
         requires ends { FitsEnds self.now }
         ensures { OnOk result (let book = self.now.scene.now in found.new.items
@@ -110,7 +119,7 @@ impl<'a> Between<'a> {
             return Ok(());
         }
         for i in 0..sides(obstacle) {
-            self.add_side(found, obstacle, i, side_of(obstacle, i), near)?;
+            self.add_side(found, obstacle, i, side_of(obstacle, i), buffers)?;
         }
         Ok(())
     }
@@ -122,7 +131,7 @@ impl<'a> Between<'a> {
         obstacle: &Obstacle,
         i: u32,
         side: Side,
-        near: &mut Found,
+        buffers: &mut LineBuffers,
     ) -> Result<(), NoMemory>
         requires ends { FitsEnds self.now }
         requires reflects { 0 < obstacle.now.rho }
@@ -135,7 +144,7 @@ impl<'a> Between<'a> {
         if !has_mirror(obstacle, side, self.ends) {
             return Ok(());
         }
-        self.add_by_way_of(found, obstacle, side, near)
+        self.add_by_way_of(found, obstacle, side, buffers)
     }
 
     /// Adds the path by way of a side of an obstacle that mirrors the source to the receiver. Most sides don't, so that the
@@ -146,7 +155,7 @@ impl<'a> Between<'a> {
         found: &mut Vec<Reflected>,
         obstacle: &Obstacle,
         side: Side,
-        near: &mut Found,
+        buffers: &mut LineBuffers,
     ) -> Result<(), NoMemory>
         requires ends { FitsEnds self.now }
         requires reflects { 0 < obstacle.now.rho }
@@ -157,7 +166,8 @@ impl<'a> Between<'a> {
             (option_to_list (reflected_in book self.now.ends obstacle.now side))) }
     {
         let mirror = Mirror::of(side, self.ends.s, self.ends.r);
-        found.push(self.by_way_of(obstacle, side, &mirror, near)?)?;
+        make_room(found)?;
+        found.push(self.by_way_of(obstacle, side, &mirror, buffers)?)?;
         Ok(())
     }
 
@@ -168,7 +178,7 @@ impl<'a> Between<'a> {
         obstacle: &Obstacle,
         side: Side,
         mirror: &Mirror,
-        near: &mut Found,
+        buffers: &mut LineBuffers,
     ) -> Result<Reflected, NoMemory>
         requires ends { FitsEnds self.now }
         requires reflects { 0 < obstacle.now.rho }
@@ -186,7 +196,7 @@ impl<'a> Between<'a> {
         if !is_any(&asked) {
             return Ok(Reflected::of(wall, Echo::Silent));
         }
-        let path = self.along_legs(side, mirror, distance, &asked, near)?;
+        let path = self.along_legs(side, mirror, distance, &asked, buffers)?;
         let level = reflection_level(obstacle.rho);
         let sound = Sound {
             path,
@@ -203,7 +213,7 @@ impl<'a> Between<'a> {
         mirror: &Mirror,
         distance: Iv,
         asked: &[bool; 8],
-        near: &mut Found,
+        buffers: &mut LineBuffers,
     ) -> Result<Propagation, NoMemory>
         requires ends { FitsEnds self.now }
         requires wall { CanReflect side self.now.ends.s self.now.ends.r }
@@ -216,9 +226,22 @@ impl<'a> Between<'a> {
     {
         let ends = self.ends;
         let path = Path::reflected(side, ends.s, ends.hs, ends.r, ends.hr);
-        let legs = self.scene.leg_crossings(self.alloc, mirror, ends, near)?;
-        let crossings = crossings_on_legs(self.alloc, legs.as_slice())?;
-        self.along(&path, mirror.plan2, distance, crossings.as_slice(), asked)
+        let LineBuffers {
+            found,
+            legs,
+            on_legs,
+            screening,
+        } = buffers;
+        self.scene.find_leg_crossings(mirror, ends, found, legs)?;
+        list_on_legs(legs.as_slice(), on_legs)?;
+        self.along(
+            &path,
+            mirror.plan2,
+            distance,
+            on_legs.as_slice(),
+            asked,
+            screening,
+        )
     }
 }
 
@@ -258,15 +281,25 @@ fn is_any(asked: &[bool; 8]) -> bool
     false
 }
 
-/// The crossings of both legs, whatever leg each is of.
-fn crossings_on_legs(alloc: Global, legs: &[(Leg, Crossing)]) -> Result<Vec<Crossing>, NoMemory>
-    ensures { IfOk result (λ crossings. crossings.items ≡ crossings_on legs.now) }
+/// Lists the crossings of both legs, whatever leg each is of, in place of what a list held.
+fn list_on_legs(legs: &[(Leg, Crossing)], crossings: &mut Vec<Crossing>) -> Result<(), NoMemory>
+    ensures { OnOk result (crossings.new.items ≡ crossings_on legs.now) }
 {
-    let mut crossings = Vec::with_capacity(alloc, legs.len())?;
+    make_ready(crossings)?;
     for (_, crossing) in legs {
         crossings.push(*crossing)?;
     }
-    Ok(crossings)
+    Ok(())
+}
+
+/// Makes room for the first of the paths by way of walls, and for more: paths that no wall reflects need none.
+fn make_room(found: &mut Vec<Reflected>) -> Result<(), NoMemory>
+    ensures { found.new.items ≡ found.old.items }
+{
+    if found.is_empty() {
+        found.reserve(16)?;
+    }
+    Ok(())
 }
 
 /// 10 lg rho, of what a wall reflects per mille, in dB.

@@ -18,5 +18,5 @@ returns-then-is_empty-clause-value c =
 
 pub of-requires : goal.of-requires
 of-requires c =
-    subst (λ (es : List Edge). All FitsEdge es) (sym (c.as_slice.ensures.value ∙ c.in_ok-edges.ensures))
+    subst (λ (es : List Edge). All FitsEdge es) (sym (c.as_slice.ensures.value ∙ c.in_ok-list_edges.ensures))
     (All-map FitsEdge (λ (crossing : Crossing). crossing.edge) c.args.crossings.now c.requires.edges)

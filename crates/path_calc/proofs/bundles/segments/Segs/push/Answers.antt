@@ -3,12 +3,12 @@ use Rattle.std.proofs.lemmas.List.Elements.{All-same, All-push}
 use Rattle.path_calc.specs.Segments.{FitsSegment}
 use Rattle.path_calc.proofs.bundles.segments.Segs.push.Goals as goal
 
-pub invariant_of-self-in_err-vec-in-One : goal.invariant_of-self-in_err-vec-in-One
-invariant_of-self-in_err-vec-in-One c = rw c.in-One.is at c.self.invariant
+pub invariant_of-self-in_err-both-in-One : goal.invariant_of-self-in_err-both-in-One
+invariant_of-self-in_err-both-in-One c = rw c.in-One.is at c.self.invariant
 
-pub invariant_of-self-in_ok-vec-in-One-2 : goal.invariant_of-self-in_ok-vec-in-One-2
-invariant_of-self-in_ok-vec-in-One-2 c =
-    All-same FitsSegment c.in_ok-vec-in-One.field-0.items (c.in-One.first ∷ c.args.segment ∷ []) c.in_ok-vec-in-One.ensures.items
+pub invariant_of-self-in_ok-both-in-One-2 : goal.invariant_of-self-in_ok-both-in-One-2
+invariant_of-self-in_ok-both-in-One-2 c =
+    All-same FitsSegment c.in_ok-both-in-One.field-0.items (c.in-One.first ∷ c.args.segment ∷ []) c.in_ok-both-in-One.ensures
     (All-push FitsSegment (c.in-One.first ∷ []) c.args.segment (rw c.in-One.is at c.self.invariant) c.requires)
 
 pub invariant_of-self-in_ok-push-in-Many : goal.invariant_of-self-in_ok-push-in-Many

@@ -19,7 +19,7 @@ along-requires-clause-square c =
 pub along-requires-clause-edges : goal.along-requires-clause-edges
 along-requires-clause-edges c =
     subst (λ (cs : List Crossing). All (λ (crossing : Crossing). FitsEdge crossing.edge) cs)
-    (sym (c.as_slice-2.ensures.value ∙ c.in_ok-crossings.ensures ∙ ap crossings_on (c.as_slice.ensures.value ∙ c.in_ok-legs.ensures)))
+    (sym (c.as_slice-2.ensures.value ∙ c.in_ok-list_on_legs.ensures ∙ ap crossings_on (c.as_slice.ensures.value ∙ c.in_ok-find_leg_crossings.ensures)))
     (leg-crossings-fit c.args.mirror.now c.args.self.now.ends c.args.self.now.scene.now.obstacles (subst IsMirror c.mirror.view_is c.mirror.invariant))
 
 pub returns-clause-value : goal.returns-clause-value
@@ -35,5 +35,5 @@ returns-clause-value c =
     ap (λ (p : Path). propagation_along book p c.mirror.inside.plan2 d found asked) (c.reflected-path.ensures.value ∙ ap (path_along ends) (sym c.requires.mirror))
     ∙ ap (λ (m : Reflection). propagation_along book (path_along ends laid) m.square d found asked) c.mirror.view_is
     ∙ ap (λ (cs : List Crossing). propagation_along book (path_along ends laid) laid.square d cs asked)
-    (c.as_slice-2.ensures.value ∙ c.in_ok-crossings.ensures ∙ ap crossings_on (c.as_slice.ensures.value ∙ c.in_ok-legs.ensures)) in
+    (c.as_slice-2.ensures.value ∙ c.in_ok-list_on_legs.ensures ∙ ap crossings_on (c.as_slice.ensures.value ∙ c.in_ok-find_leg_crossings.ensures)) in
     subst (λ (p : Propagation). IfOk c.along.result (λ found. found ≡ p)) along c.along.ensures.value

@@ -5,7 +5,7 @@ use Rattle.scene_parts.specs.Views.{Obstacle}
 use Rattle.path_calc.specs.ReflectedPaths.{reflected_by}
 use Rattle.path_calc.specs.inner.Hearing.{reflected_of}
 use Rattle.path_calc.proofs.Reflecting.{obstacle-added, few-found}
-use Rattle.path_calc.proofs.direct.propagation.Between.reflected_by_any.Goals as goal
+use Rattle.path_calc.proofs.direct.propagation.Between.add_by_any.Goals as goal
 
 pub loop-obstacle-preserved : goal.loop-obstacle-preserved
 loop-obstacle-preserved c =

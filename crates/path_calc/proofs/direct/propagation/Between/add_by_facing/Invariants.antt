@@ -3,7 +3,7 @@ use Rattle.std.proofs.Common.{◌≡◌, ◌++◌, drop, map}
 use Rattle.std.specs.List.{filter_map}
 use Rattle.path_calc.specs.inner.Hearing.{reflected_of}
 use Rattle.path_calc.proofs.Reflecting.{way_of}
-use Rattle.path_calc.proofs.direct.propagation.Between.reflected_by_facing.Given as goal
+use Rattle.path_calc.proofs.direct.propagation.Between.add_by_facing.Given as goal
 
 abbrev pub invariant-loop-facing : goal.invariant-loop-facing
 invariant-loop-facing l =

@@ -1,7 +1,7 @@
 use Rattle.scene_parts.specs.declared.screening.crossing.Crossing.{Crossing}
 use Rattle.image_source.specs.declared.leg.Leg.{Leg}
 use Rattle.path_calc.proofs.Pushed.{mapped-more, mapped-all}
-use Rattle.path_calc.proofs.reflected.reflections.crossings_on_legs.Goals as goal
+use Rattle.path_calc.proofs.reflected.reflections.list_on_legs.Goals as goal
 
 pub loop-crossing-preserved : goal.loop-crossing-preserved
 loop-crossing-preserved c =

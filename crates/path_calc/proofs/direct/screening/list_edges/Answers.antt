@@ -1,6 +1,6 @@
 use Rattle.scene_parts.specs.declared.screening.crossing.Crossing.{Crossing}
 use Rattle.path_calc.proofs.Pushed.{mapped-more, mapped-all}
-use Rattle.path_calc.proofs.direct.screening.edges.Goals as goal
+use Rattle.path_calc.proofs.direct.screening.list_edges.Goals as goal
 
 pub loop-crossing-preserved : goal.loop-crossing-preserved
 loop-crossing-preserved c =

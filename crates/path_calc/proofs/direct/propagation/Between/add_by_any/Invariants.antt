@@ -3,7 +3,7 @@ use Rattle.std.proofs.Common.{◌≡◌, ◌++◌, drop, map}
 use Rattle.std.specs.Prelude.{flat_map}
 use Rattle.path_calc.specs.ReflectedPaths.{reflected_by}
 use Rattle.path_calc.specs.inner.Hearing.{reflected_of}
-use Rattle.path_calc.proofs.direct.propagation.Between.reflected_by_any.Given as goal
+use Rattle.path_calc.proofs.direct.propagation.Between.add_by_any.Given as goal
 
 abbrev pub invariant-loop-obstacle : goal.invariant-loop-obstacle
 invariant-loop-obstacle l =

@@ -9,8 +9,8 @@ use Rattle.image_source.specs.Facing.{FacingSide}
 use Rattle.path_calc.specs.ReflectedPaths.{ReflectedPath, reflected_in}
 use Rattle.path_calc.specs.inner.Hearing.{reflected_of}
 use Rattle.path_calc.proofs.Reflecting.{IsWall, way_of, wall-within, wall-is, wall-gives, wall-passed, wall-added, walls-give-all, few-found}
-use Rattle.path_calc.proofs.direct.propagation.Between.reflected_by_facing.Goals as goal
-use Rattle.path_calc.proofs.direct.propagation.Between.reflected_by_facing.Goals.{After-index-obstacles-wall, then-may_mirror+in_ok-add_side, else-may_mirror}
+use Rattle.path_calc.proofs.direct.propagation.Between.add_by_facing.Goals as goal
+use Rattle.path_calc.proofs.direct.propagation.Between.add_by_facing.Goals.{After-index-obstacles-wall, then-may_mirror+in_ok-add_side, else-may_mirror}
 
 pub bounds-obstacles-wall : goal.bounds-obstacles-wall
 bounds-obstacles-wall c =

@@ -1,0 +1,92 @@
+//! The memory that the calculation of paths needs.
+ghost use Rattle.std.specs.Prelude.{◌≡◌, [], OnOk};
+
+use crate::bundles::segments::Segs;
+use crate::energies::paths::Paths;
+use crate::reflected::Reflected;
+use fix_interval::Iv;
+use image_source::Leg;
+use part_grid::Found;
+use scene_parts::{Crossing, Edge, NoMemory};
+use std::alloc::Global;
+use term_barrier::EdgeBuffers;
+
+/// The memory that the calculation of a path needs: lent to one path after another, it is asked for once. What stands in it
+/// means nothing, and no path depends on it. A path in the open asks for none of it.
+#[derive(Drop)]
+pub struct Workspace {
+    pub(crate) trace: Segs,
+    pub(crate) crossings: Vec<Crossing>,
+    pub(crate) reflected: Vec<Reflected>,
+    pub(crate) lines: LineBuffers,
+}
+
+/// What the direct path and each path by way of a wall need, one after the other.
+#[derive(Drop)]
+pub(crate) struct LineBuffers {
+    pub(crate) found: Found,
+    pub(crate) legs: Vec<(Leg, Crossing)>,
+    pub(crate) on_legs: Vec<Crossing>,
+    pub(crate) screening: ScreeningBuffers,
+}
+
+/// What screening over the top needs: the edges on a path, a mark for each, what the bands share of them, and the memory of
+/// attenuations that are no longer read.
+#[derive(Drop)]
+pub(crate) struct ScreeningBuffers {
+    pub(crate) edges: Vec<Edge>,
+    pub(crate) marks: Vec<bool>,
+    pub(crate) shared: EdgeBuffers,
+    pub(crate) spare: Vec<Box<[Iv; 8]>>,
+}
+
+impl Workspace {
+    /// None yet: no memory is taken before it is needed.
+    pub fn new(alloc: Global) -> Workspace
+        ensures trace { result.trace ≡ [] }
+        ensures reflected { result.reflected.items ≡ [] }
+    {
+        Workspace {
+            trace: Segs::new(alloc),
+            crossings: Vec::new(alloc),
+            reflected: Vec::new(alloc),
+            lines: LineBuffers {
+                found: Found::new(alloc),
+                legs: Vec::new(alloc),
+                on_legs: Vec::new(alloc),
+                screening: ScreeningBuffers {
+                    edges: Vec::new(alloc),
+                    marks: Vec::new(alloc),
+                    shared: EdgeBuffers::new(alloc),
+                    spare: Vec::new(alloc),
+                },
+            },
+        }
+    }
+
+    /// Takes back what was lent to paths that are no longer read.
+    pub(crate) fn take_back(&mut self, paths: Paths)
+        ensures trace { self.new.trace ≡ self.old.trace }
+        ensures reflected { self.new.reflected.items ≡ [] }
+    {
+        let Paths {
+            direct,
+            lateral: _,
+            mut reflected,
+        } = paths;
+        let spare = &mut self.lines.screening.spare;
+        direct.give_back(spare);
+        while let Some(path) = reflected.pop() {
+            path.give_back(spare);
+        }
+        self.reflected = reflected;
+    }
+}
+
+/// Empties a list that is lent, with room for a number of items that few paths exceed, so that it doesn't grow step by step.
+pub(crate) fn make_ready<T: Drop>(list: &mut Vec<T>) -> Result<(), NoMemory>
+    ensures { OnOk result (list.new.items ≡ []) }
+{
+    list.clear();
+    Ok(list.reserve(64)?)
+}
