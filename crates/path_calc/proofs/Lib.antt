@@ -16,6 +16,7 @@ pub mod Screened
 pub mod Uncrossed
 pub mod Fitting
 pub mod Numbered
+pub mod SameNumbers
 pub mod Stretching
 pub mod Tracing
 pub mod Corners

@@ -19,7 +19,7 @@ use Rattle.path_calc.specs.inner.Strings.{rises_in, is_number, numbers_after, nu
 use Rattle.path_calc.proofs.Eight.{at-place}
 
 -- ---- numbers, one after another
-next-crossing : (band : Band) (before : Option ℕ) (crossings : List Crossing) (i : ℕ) (c : Crossing) (test : Bool) → i < length crossings → c ≡ get_or crossings i c
+pub next-crossing : (band : Band) (before : Option ℕ) (crossings : List Crossing) (i : ℕ) (c : Crossing) (test : Bool) → i < length crossings → c ≡ get_or crossings i c
     → (rises_in band c && not (is_number c.obstacle before)) ≡ test
     → numbers_after band before (drop i crossings)
     ≡ (if test then c.obstacle ∷ numbers_after band (Some c.obstacle) (drop (i + 1) crossings) else numbers_after band before (drop (i + 1) crossings))

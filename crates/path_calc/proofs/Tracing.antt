@@ -1,7 +1,6 @@
 -- The segments that are added to a trace, one after another, are those of the definition.
 use Rattle.std.proofs.Common.{◌≡◌, ℕ, suc, ◌+◌, ◌<◌, ◌≤◌, Bool, true, false, List, [], ◌∷◌, ◌++◌, length, get_or, drop, map, refl, sym, ap, ◌∙◌, arith, append_assoc, append-nil}
 use Rattle.std.specs.Prelude.{None, not, ◌||◌, ◌==◌, flat_map, if◌then◌else◌}
-use Rattle.std.specs.Bool.{OnTrue}
 use Rattle.std.specs.List.{list_any}
 use Rattle.std.proofs.lemmas.Bool.Decides.{nat_tests}
 use Rattle.std.proofs.lemmas.List.{drop_more, drop_all}
@@ -109,17 +108,15 @@ strings-added strings ends obstacles band before are numbers =
     ∙ ap (λ (segments : List Seg). if same_numbers (numbers_in band (crossings_of ends obstacles)) before then [] else segments) added
 
 -- nothing is added where the numbers stay
-pub same-there : (same : Bool) (a b : List ℕ) → OnTrue same (a ≡ b) → same ≡ true → a ≡ b
-same-there true a b h e = h
-same-there false a b h e = cc
+pub nothing-added : (ends : Ends) (trace : List Seg) (strings : Strings) → trace ≡ trace ++ segments_between ends strings.numbers.items strings
+nothing-added ends trace strings = rw (same-numbers strings.numbers.items) (sym (append-nil trace))
+  where
+    same-number : (n : ℕ) → (n == n) ≡ true
+    same-number n = grind (arith, nat_tests)
 
-pub nothing-added : (ends : Ends) (trace : List Seg) (strings : Strings) (found before : List ℕ) (same : Bool)
-    → before ≡ strings.numbers.items → same ≡ same_numbers found before → found ≡ before → same ≡ true
-    → trace ≡ trace ++ segments_between ends strings.numbers.items strings
-nothing-added ends trace strings found before same numbers is alike h =
-    let stay : same_numbers strings.numbers.items strings.numbers.items ≡ true =
-    ap (λ (ns : List ℕ). same_numbers ns ns) (sym numbers) ∙ ap (λ (ns : List ℕ). same_numbers ns before) (sym alike) ∙ sym is ∙ h in
-    rw stay (sym (append-nil trace))
+    same-numbers : (ns : List ℕ) → same_numbers ns ns ≡ true
+    same-numbers [] = refl
+    same-numbers (n ∷ ns) = rw (same-number n) (same-numbers ns)
 
 -- ---- where the screening obstacles are others
 
@@ -225,17 +222,6 @@ eight-added f t t63 t125 t250 t500 t1000 t2000 t4000 t8000 a b c d e g h i =
     more band is = ap (λ (l : List Seg). l ++ f band) is
 
 -- ---- a whole trace
-
-pub trace-whole : (t t1 t2 t3 : List Seg) (book : Book) (s : Source) (r : Receiver) → t1 ≡ t ++ Straight s.at r.at ∷ []
-    → t2 ≡ t1 ++ flat_map (segments_in_band (ends_of s r) book.obstacles) all_bands
-    → t3 ≡ t2 ++ map (legs_of (ends_of s r)) (surroundings_of book s r).reflected → t3 ≡ t ++ trace_of book s r
-trace-whole t t1 t2 t3 book s r line strings walls =
-    let chains = flat_map (segments_in_band (ends_of s r) book.obstacles) all_bands in
-    let legs = map (legs_of (ends_of s r)) (surroundings_of book s r).reflected in
-    walls
-    ∙ ap (λ (l : List Seg). l ++ legs) (strings ∙ ap (λ (l : List Seg). l ++ chains) line)
-    ∙ append_assoc (t ++ Straight s.at r.at ∷ []) chains legs
-    ∙ append_assoc t (Straight s.at r.at ∷ []) (chains ++ legs)
 
 -- ---- reflected paths
 

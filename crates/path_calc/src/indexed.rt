@@ -12,7 +12,7 @@ ghost use Rattle.scene_geom.specs.declared.band.Band.{Band};
 ghost use Rattle.path_calc.specs.LateralPaths.{is_in_the_way};
 ghost use Rattle.path_calc.specs.inner.Strings.{is_within};
 
-use crate::lateral::blocked::{blocking, blocking_near};
+use crate::lateral::blocked::{find_blocking, find_blocking_near};
 use crate::workspace::make_ready;
 use image_source::{
     FacingSide, FacingSides, Leg, Mirror, find_leg_crossings, find_leg_crossings_near,
@@ -197,22 +197,23 @@ impl<'a> IndexedScene<'a> {
         }
     }
 
-    /// How broad those obstacles are that are in the way of the string which turns at these corners: in a band in which
-    /// one of them is large enough, sound doesn't go along it. The buffers are lent to the search.
-    pub(crate) fn blocking(
+    /// Finds how broad those obstacles are that are in the way of the string which turns at these corners: in a band in
+    /// which one of them is large enough, sound doesn't go along it. It stands in place of what the list held. The buffers
+    /// are lent to the search.
+    pub(crate) fn find_blocking(
         &self,
-        alloc: Global,
         ends: Ends,
         corners: &[Pt],
         found: &mut Found,
-    ) -> Result<Vec<Breadth>, NoMemory>
-        ensures { IfOk result (λ blocking. (band : Band) → list_any (is_within band) blocking.items
+        blocking: &mut Vec<Breadth>,
+    ) -> Result<(), NoMemory>
+        ensures { OnOk result ((band : Band) → list_any (is_within band) blocking.new.items
             ≡ list_any (is_in_the_way band ends corners.now) self.now.obstacles) }
     {
         let obstacles = self.scene.obstacles();
         match self.grid {
-            Some(grid) => blocking_near(alloc, grid, obstacles, ends, corners, found),
-            None => blocking(alloc, obstacles, ends, corners),
+            Some(grid) => find_blocking_near(grid, obstacles, ends, corners, found, blocking),
+            None => find_blocking(obstacles, ends, corners, blocking),
         }
     }
 }

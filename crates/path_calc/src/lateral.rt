@@ -19,7 +19,6 @@ use fix_interval::Iv;
 use part_grid::Found;
 use scene_geom::Band;
 use scene_parts::{Crossing, Ends, NoMemory};
-use std::alloc::Global;
 
 /// By how much sound is screened in a band that goes round the left and the right, where it does: D_z in dB.
 #[derive(Clone, Copy, Drop)]
@@ -32,7 +31,6 @@ pub(crate) struct LateralScreening {
 /// apart in metres.
 #[derive(Drop)]
 pub(crate) struct Sight<'a> {
-    pub(crate) alloc: Global,
     pub(crate) scene: &'a IndexedScene<'a>,
     pub(crate) ends: Ends,
     pub(crate) crossings: &'a [Crossing],
@@ -67,62 +65,70 @@ impl<'a> Sight<'a> {
     }
 
     /// D_z round the sides in each band. Bands in which the same obstacles screen share their strings. The segments of all
-    /// strings are added to the trace.
-    fn d_z(&self, found: &mut Found, trace: &mut Segs) -> Result<Vec<LateralScreening>, NoMemory>
+    /// strings are added to the trace. The strings of another path may stand before: nothing of them counts.
+    fn d_z(
+        &self,
+        strings: &mut Strings,
+        found: &mut Found,
+        trace: &mut Segs,
+    ) -> Result<[LateralScreening; 8], NoMemory>
         requires sight { FitsSight self.now }
-        ensures value { IfOk result (λ lateral. (band : Band) → both_of (lateral_of lateral.items band)
+        ensures value { IfOk result (λ lateral. (band : Band) → both_of (lateral_of lateral band)
             ≡ d_z_over self.now.ends self.now.scene.now.obstacles self.now.d band) }
-        ensures bounds { IfOk result (λ lateral. All IsLateralScreening lateral.items) }
+        ensures bounds { IfOk result (All IsLateralScreening) }
         ensures trace { OnOk result (trace.new ≡ trace.old
             ++ flat_map (segments_in_band self.now.ends self.now.scene.now.obstacles) all_bands) }
     {
-        let mut strings = Strings::none(self.alloc);
-        let at_63 = self.d_z_in(&mut strings, Band::Hz63, found, trace)?;
-        let at_125 = self.d_z_in(&mut strings, Band::Hz125, found, trace)?;
-        let at_250 = self.d_z_in(&mut strings, Band::Hz250, found, trace)?;
-        let at_500 = self.d_z_in(&mut strings, Band::Hz500, found, trace)?;
-        let at_1000 = self.d_z_in(&mut strings, Band::Hz1000, found, trace)?;
-        let at_2000 = self.d_z_in(&mut strings, Band::Hz2000, found, trace)?;
-        let at_4000 = self.d_z_in(&mut strings, Band::Hz4000, found, trace)?;
-        let at_8000 = self.d_z_in(&mut strings, Band::Hz8000, found, trace)?;
-        let in_bands = [
+        strings.clear();
+        let at_63 = self.d_z_in(strings, Band::Hz63, found, trace)?;
+        let at_125 = self.d_z_in(strings, Band::Hz125, found, trace)?;
+        let at_250 = self.d_z_in(strings, Band::Hz250, found, trace)?;
+        let at_500 = self.d_z_in(strings, Band::Hz500, found, trace)?;
+        let at_1000 = self.d_z_in(strings, Band::Hz1000, found, trace)?;
+        let at_2000 = self.d_z_in(strings, Band::Hz2000, found, trace)?;
+        let at_4000 = self.d_z_in(strings, Band::Hz4000, found, trace)?;
+        let at_8000 = self.d_z_in(strings, Band::Hz8000, found, trace)?;
+        Ok([
             at_63, at_125, at_250, at_500, at_1000, at_2000, at_4000, at_8000,
-        ];
-        Ok(in_bands.to_vec(self.alloc)?)
+        ])
     }
 }
 
-/// D_z round the sides in each band, of the obstacles that screen there, where source and receiver are `d` apart in
-/// metres. Where nothing crosses the line of sight, the list is empty: most paths need no memory for it. The segments of
-/// all strings are added to the trace. The buffers are lent to the search of what stands near the strings.
+/// Finds D_z round the sides in each band, of the obstacles that screen there, where source and receiver are `d` apart in
+/// metres. It stands in place of what the list held. Where nothing crosses the line of sight, the list is empty: most paths
+/// need no memory for it. The segments of all strings are added to the trace. The strings and the buffers are lent: what
+/// they held before doesn't count.
 pub(crate) fn lateral_screening(
-    alloc: Global,
     scene: &IndexedScene<'_>,
     ends: Ends,
     crossings: &[Crossing],
     d: Iv,
+    strings: &mut Strings,
+    lateral: &mut Vec<LateralScreening>,
     found: &mut Found,
     trace: &mut Segs,
-) -> Result<Vec<LateralScreening>, NoMemory>
+) -> Result<(), NoMemory>
     requires source_height { IsHeight ends.hs }
     requires receiver_height { IsHeight ends.hr }
     requires distance { IsOnMap d }
     requires crossings { crossings.now ≡ crossings_of ends scene.now.obstacles }
-    ensures value { IfOk result (λ lateral. (band : Band)
-        → both_of (lateral_of lateral.items band) ≡ d_z_over ends scene.now.obstacles d band) }
-    ensures bounds { IfOk result (λ lateral. All IsLateralScreening lateral.items) }
+    ensures value { OnOk result ((band : Band)
+        → both_of (lateral_of lateral.new.items band) ≡ d_z_over ends scene.now.obstacles d band) }
+    ensures bounds { OnOk result (All IsLateralScreening lateral.new.items) }
     ensures trace { OnOk result (trace.new ≡ trace.old
         ++ flat_map (segments_in_band ends scene.now.obstacles) all_bands) }
 {
+    lateral.clear();
     if crossings.is_empty() {
-        return Ok(Vec::new(alloc));
+        return Ok(());
     }
     let sight = Sight {
-        alloc,
         scene,
         ends,
         crossings,
         d,
     };
-    sight.d_z(found, trace)
+    let in_bands = sight.d_z(strings, found, trace)?;
+    lateral.extend_from_slice(&in_bands)?;
+    Ok(())
 }

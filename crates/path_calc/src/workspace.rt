@@ -3,6 +3,8 @@ ghost use Rattle.std.specs.Prelude.{◌≡◌, [], OnOk};
 
 use crate::bundles::segments::Segs;
 use crate::energies::paths::Paths;
+use crate::lateral::LateralScreening;
+use crate::lateral::strings::Strings;
 use crate::reflected::Reflected;
 use fix_interval::Iv;
 use image_source::Leg;
@@ -17,6 +19,8 @@ use term_barrier::EdgeBuffers;
 pub struct Workspace {
     pub(crate) trace: Segs,
     pub(crate) crossings: Vec<Crossing>,
+    pub(crate) lateral: Vec<LateralScreening>,
+    pub(crate) strings: Strings,
     pub(crate) reflected: Vec<Reflected>,
     pub(crate) lines: LineBuffers,
 }
@@ -49,6 +53,8 @@ impl Workspace {
         Workspace {
             trace: Segs::new(alloc),
             crossings: Vec::new(alloc),
+            lateral: Vec::new(alloc),
+            strings: Strings::none(alloc),
             reflected: Vec::new(alloc),
             lines: LineBuffers {
                 found: Found::new(alloc),
@@ -71,7 +77,7 @@ impl Workspace {
     {
         let Paths {
             direct,
-            lateral: _,
+            lateral,
             mut reflected,
         } = paths;
         let spare = &mut self.lines.screening.spare;
@@ -79,6 +85,7 @@ impl Workspace {
         while let Some(path) = reflected.pop() {
             path.give_back(spare);
         }
+        self.lateral = lateral;
         self.reflected = reflected;
     }
 }

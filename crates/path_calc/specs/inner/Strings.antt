@@ -83,8 +83,8 @@ pub record AreStretched (strings : Strings) (ends : Ends) (obstacles : List Obst
   pub left : IsStretched strings.left ends obstacles (corners_at obstacles strings.numbers.items) Left
   pub right : IsStretched strings.right ends obstacles (corners_at obstacles strings.numbers.items) Right
 
--- what the bands share of the way round the corners of a string, over a distance d, gives D_z in each band; there is none
--- where the string turns nowhere
+-- what the bands share of the way round the corners of a string, over a distance d, gives D_z in each band; there is
+-- none where the string turns nowhere
 pub record IsMeasured (string : Stretched) (ends : Ends) (d : Interval) : Type 0 where
   pub turns : IfSome string.way (λ way. 0 < length string.corners.items)
   pub values : IfSome string.way (λ way. (band : Band) → in_band way band

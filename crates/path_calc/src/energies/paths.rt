@@ -1,9 +1,17 @@
 //! All paths from a source to a receiver: the direct one, those round the sides and those by way of walls.
-ghost use Rattle.std.specs.Prelude.{◌≡◌, ◌++◌, [], true, map, IfOk, OnOk};
-ghost use Rattle.path_calc.specs.inner.Hearing.{ArePaths, lateral_at};
+ghost use Rattle.std.specs.Prelude.{◌≡◌, ◌≤◌, ◌∷◌, ◌++◌, [], true, length, map, flat_map, All, IfOk, OnOk};
+ghost use Rattle.scene_geom.specs.Bands.{all_bands};
+ghost use Rattle.scene_geom.specs.declared.band.Band.{Band};
+ghost use Rattle.scene_book.specs.Limits.{most_sides};
+ghost use Rattle.sight_cut.specs.Cuts.{crossings_of};
+ghost use Rattle.path_calc.specs.declared.bundles.segments.Seg.TheVariants.{Straight};
+ghost use Rattle.path_calc.specs.ReflectedPaths.{reflected_paths};
+ghost use Rattle.path_calc.specs.inner.Ends.{FitsEnds};
+ghost use Rattle.path_calc.specs.inner.Hearing.{ArePaths, lateral_at, reflected_of};
 ghost use Rattle.path_calc.specs.Prepared.{prepared_of};
-ghost use Rattle.path_calc.specs.inner.Ranges.{AreInRange, IsLateralScreening};
-ghost use Rattle.path_calc.specs.inner.Strings.{both_of};
+ghost use Rattle.path_calc.specs.inner.Ranges.{AreInRange, IsOnMap, IsLateralScreening};
+ghost use Rattle.path_calc.specs.inner.Strings.{both_of, lateral_of, d_z_over};
+ghost use Rattle.path_calc.specs.inner.Tracing.{segments_in_band};
 ghost use Rattle.path_calc.specs.Trace.{trace_of};
 
 use crate::bundles::segments::{Seg, Segs};
@@ -14,6 +22,7 @@ use crate::lateral::{LateralScreening, lateral_screening};
 use crate::prepared::{PreparedReceiver, PreparedSource};
 use crate::reflected::Reflected;
 use crate::workspace::Workspace;
+use fix_interval::Iv;
 use path_shape::Path;
 use scene_geom::Band;
 use scene_parts::{Ends, NoMemory, PointSource, Receiver};
@@ -62,41 +71,72 @@ pub(crate) fn paths_between(
     };
     let path = Path::direct(source.at, source.h, receiver.at, receiver.h);
     let distance = distance(source.at, source.h, receiver.at, receiver.h);
-    let Workspace {
-        trace,
-        crossings,
-        reflected,
-        lines,
-    } = workspace;
-    scene.find_crossings(ends, &mut lines.found, crossings)?;
+    scene.find_crossings(ends, &mut workspace.lines.found, &mut workspace.crossings)?;
     let square = direct_square(source.at, receiver.at);
     let powered = from.powered();
     let direct = between.along(
         &path,
         square,
         distance,
-        crossings.as_slice(),
+        workspace.crossings.as_slice(),
         &powered,
-        &mut lines.screening,
+        &mut workspace.lines.screening,
     )?;
+    find_others(&between, distance, workspace)?;
+    Ok(Paths {
+        direct,
+        lateral: mem::replace(&mut workspace.lateral, Vec::new(alloc)),
+        reflected: mem::replace(&mut workspace.reflected, Vec::new(alloc)),
+    })
+}
+
+/// Finds the paths round the sides of what crosses the line of sight, over a distance in metres, and those by way of walls,
+/// and the trace of all paths, in place of what the workspace held.
+fn find_others(
+    between: &Between<'_>,
+    distance: Iv,
+    workspace: &mut Workspace,
+) -> Result<(), NoMemory>
+    requires ends { FitsEnds between.now }
+    requires distance { IsOnMap distance }
+    requires crossings { workspace.old.crossings.items
+        ≡ crossings_of between.now.ends between.now.scene.now.obstacles }
+    ensures lateral { OnOk result ((band : Band)
+        → both_of (lateral_of workspace.new.lateral.items band)
+        ≡ d_z_over between.now.ends between.now.scene.now.obstacles distance band) }
+    ensures bounds { OnOk result (All IsLateralScreening workspace.new.lateral.items) }
+    ensures reflected { OnOk result (let book = between.now.scene.now in workspace.new.reflected.items
+        ≡ map (reflected_of book.globals between.now.from.now between.now.ends)
+        (reflected_paths book between.now.ends)) }
+    ensures few { OnOk result (length workspace.new.reflected.items ≤ most_sides) }
+    ensures trace { OnOk result (workspace.new.trace
+        ≡ Straight between.now.ends.s between.now.ends.r
+        ∷ (flat_map (segments_in_band between.now.ends between.now.scene.now.obstacles) all_bands
+        ++ map (λ path. path.wall) workspace.new.reflected.items)) }
+{
+    let Workspace {
+        trace,
+        crossings,
+        lateral,
+        strings,
+        reflected,
+        lines,
+    } = workspace;
+    let ends = between.ends;
     trace.clear();
-    trace.push(Seg::Straight(source.at, receiver.at))?;
-    let lateral = lateral_screening(
-        alloc,
-        scene,
+    trace.push(Seg::Straight(ends.s, ends.r))?;
+    lateral_screening(
+        between.scene,
         ends,
         crossings.as_slice(),
         distance,
+        strings,
+        lateral,
         &mut lines.found,
         trace,
     )?;
     between.find_reflected(reflected, lines)?;
-    add_walls(trace, reflected.as_slice())?;
-    Ok(Paths {
-        direct,
-        lateral,
-        reflected: mem::replace(reflected, Vec::new(alloc)),
-    })
+    add_walls(trace, reflected.as_slice())
 }
 
 /// Adds the legs of paths by way of walls to a trace.

@@ -1,5 +1,5 @@
 //! What is in the way of a string, among all sides or among those near its segments.
-ghost use Rattle.std.specs.Prelude.{◌≡◌, ◌&&◌, ◌||◌, map, IfOk, OnOk};
+ghost use Rattle.std.specs.Prelude.{◌≡◌, ◌&&◌, ◌||◌, map, OnOk};
 ghost use Rattle.std.specs.List.{list_any};
 ghost use Rattle.scene_geom.specs.Crossing.{blocks_of};
 ghost use Rattle.scene_parts.specs.Sides.{sides_of};
@@ -14,25 +14,29 @@ use edge_chain::is_blocked;
 use part_grid::{Found, Grid};
 use scene_geom::{Pt, Side, blocks};
 use scene_parts::{Breadth, Ends, NoMemory, Obstacle, side_of, sides};
-use std::alloc::Global;
 
-/// How broad those obstacles are of which a side crosses a segment of the string that turns at these corners.
-pub(crate) fn blocking(
-    alloc: Global,
+/// For how many breadths room is made at once.
+const BREADTHS_AT_FIRST: usize = 16;
+
+/// Finds how broad those obstacles are of which a side crosses a segment of the string that turns at these corners. It
+/// stands in place of what the list held.
+pub(crate) fn find_blocking(
     obstacles: &[Obstacle],
     ends: Ends,
     corners: &[Pt],
-) -> Result<Vec<Breadth>, NoMemory>
-    ensures { IfOk result (λ found. (band : Band) → list_any (is_within band) found.items
+    blocking: &mut Vec<Breadth>,
+) -> Result<(), NoMemory>
+    ensures { OnOk result ((band : Band) → list_any (is_within band) blocking.new.items
         ≡ list_any (is_in_the_way band ends corners.now) obstacles.now) }
 {
-    let mut found = Vec::new(alloc);
+    blocking.clear();
+    blocking.reserve(BREADTHS_AT_FIRST)?;
     for obstacle in obstacles {
         if obstructs(obstacle, ends, corners) {
-            found.push(Breadth::of(obstacle, ends.s, ends.r))?;
+            blocking.push(Breadth::of(obstacle, ends.s, ends.r))?;
         }
     }
-    Ok(found)
+    Ok(())
 }
 
 /// Whether a side of an obstacle crosses a segment of a string.
@@ -47,30 +51,31 @@ fn obstructs(obstacle: &Obstacle, ends: Ends, corners: &[Pt]) -> bool
     false
 }
 
-/// What `blocking` gives in each band, by the index of the obstacles: for each segment only the sides near it are looked
-/// at. An obstacle may be told more than once. The buffers are lent to the search.
-pub(crate) fn blocking_near(
-    alloc: Global,
+/// Finds what `find_blocking` does in each band, by the index of the obstacles: for each segment only the sides near it are
+/// looked at. An obstacle may be told more than once. The buffers are lent to the search.
+pub(crate) fn find_blocking_near(
     grid: &Grid,
     obstacles: &[Obstacle],
     ends: Ends,
     corners: &[Pt],
     found: &mut Found,
-) -> Result<Vec<Breadth>, NoMemory>
+    blocking: &mut Vec<Breadth>,
+) -> Result<(), NoMemory>
     requires stands { grid.now ≡ numbered (map sides_of obstacles.now) }
-    ensures { IfOk result (λ blocking. (band : Band) → list_any (is_within band) blocking.items
+    ensures { OnOk result ((band : Band) → list_any (is_within band) blocking.new.items
         ≡ list_any (is_in_the_way band ends corners.now) obstacles.now) }
 {
-    let mut blocking = Vec::new(alloc);
+    blocking.clear();
+    blocking.reserve(BREADTHS_AT_FIRST)?;
     let mut from = ends.s;
     for corner in corners {
         let segment = Side { from, to: *corner };
-        add_blocking(&mut blocking, grid, obstacles, ends, segment, found)?;
+        add_blocking(blocking, grid, obstacles, ends, segment, found)?;
         from = *corner;
     }
     let last = Side { from, to: ends.r };
-    add_blocking(&mut blocking, grid, obstacles, ends, last, found)?;
-    Ok(blocking)
+    add_blocking(blocking, grid, obstacles, ends, last, found)?;
+    Ok(())
 }
 
 /// Adds how broad those obstacles are of which a side crosses a segment of a string.

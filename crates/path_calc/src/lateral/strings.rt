@@ -1,6 +1,5 @@
 //! Strings that are stretched round the sides of what screens (ISO 9613-2, 7.4, equation 13).
-ghost use Rattle.std.specs.Prelude.{◌≡◌, ◌<◌, [], ◌++◌, List, length, IfOk, OnOk, IfSome};
-ghost use Rattle.std.specs.Bool.{OnTrue};
+ghost use Rattle.std.specs.Prelude.{◌≡◌, ◌<◌, [], ◌++◌, List, length, OnOk, IfSome};
 ghost use Rattle.std.specs.List.{list_any};
 ghost use Rattle.fix_interval.specs.Interval.{Interval};
 ghost use Rattle.fix_interval.specs.Tree.{Known, enc};
@@ -10,15 +9,15 @@ ghost use Rattle.term_barrier.specs.Lateral.{in_band, side_attenuation};
 ghost use Rattle.term_barrier.specs.Limits.{IsScreening};
 ghost use Rattle.path_calc.specs.inner.Ends.{FitsSight};
 ghost use Rattle.path_calc.specs.inner.Ranges.{IsOnMap, IsShort, IsLateralScreening};
-ghost use Rattle.path_calc.specs.inner.Strings.{numbers_in as numbers_of, IsStretched, AreStretched, IsMeasured, AreMeasured};
+ghost use Rattle.path_calc.specs.inner.Strings.{numbers_in, IsStretched, AreStretched, IsMeasured, AreMeasured};
 ghost use Rattle.path_calc.specs.Trace.{string_segments};
-ghost use Rattle.path_calc.specs.inner.Tracing.{same_numbers, segments_between};
+ghost use Rattle.path_calc.specs.inner.Tracing.{segments_between};
 ghost use Rattle.path_calc.specs.inner.Strings.{is_within, leads_along, d_z_round, lateral_in};
 
 use crate::bundles::segments::{Seg, Segs};
-use crate::lateral::screening_obstacles::{corners_at, numbers_in};
+use crate::lateral::screening_obstacles::{are_numbers_in, find_corners_at, find_numbers_in};
 use crate::lateral::{LateralScreening, Sight};
-use edge_chain::{Hand, chain};
+use edge_chain::{Hand, stretch};
 use fix_interval::Iv;
 use part_grid::Found;
 use scene_geom::{Band, Pt};
@@ -26,10 +25,13 @@ use scene_parts::{Breadth, Ends, NoMemory};
 use std::alloc::Global;
 use term_barrier::RoundSides;
 
-/// The strings round the obstacles of some numbers, on the left and the right hand of a line of sight.
+/// The strings round the obstacles of some numbers, on the left and the right hand of a line of sight. They are lent from
+/// one path to the next, and with them the memory of their lists; the corners of the obstacles, round which the strings are
+/// stretched, stand in one of these.
 #[derive(Drop)]
 pub(crate) struct Strings {
     pub(crate) numbers: Vec<u32>,
+    points: Vec<Pt>,
     pub(crate) left: Stretched,
     pub(crate) right: Stretched,
 }
@@ -45,7 +47,7 @@ pub(crate) struct Stretched {
 }
 
 impl Strings {
-    /// The strings round no obstacle.
+    /// The strings round no obstacle, which take no memory.
     pub(crate) fn none(alloc: Global) -> Strings
         ensures numbers { result.numbers.items ≡ [] }
         ensures stretched { (ends : Ends) (obstacles : List ObstacleView)
@@ -54,28 +56,38 @@ impl Strings {
     {
         Strings {
             numbers: Vec::new(alloc),
+            points: Vec::new(alloc),
             left: Stretched::none(alloc),
             right: Stretched::none(alloc),
         }
     }
 
-    /// The strings round the obstacles of these numbers, along a line of sight.
-    fn round(sight: &Sight<'_>, numbers: Vec<u32>, found: &mut Found) -> Result<Strings, NoMemory>
-        requires sight { FitsSight sight.now }
-        ensures numbers { IfOk result (λ strings. strings.numbers.items ≡ numbers.items) }
-        ensures stretched { IfOk result
-            (λ strings. AreStretched strings sight.now.ends sight.now.scene.now.obstacles) }
-        ensures measured { IfOk result (λ strings. AreMeasured strings sight.now.ends sight.now.d) }
+    /// Makes them the strings round no obstacle, whatever they were. The memory of their lists stays.
+    pub(crate) fn clear(&mut self)
+        ensures numbers { self.new.numbers.items ≡ [] }
+        ensures stretched { (ends : Ends) (obstacles : List ObstacleView)
+            → AreStretched self.new ends obstacles }
+        ensures measured { (ends : Ends) (d : Interval) → AreMeasured self.new ends d }
     {
-        let points = corners_at(sight.alloc, sight.scene.obstacles(), numbers.as_slice())?;
-        let points = points.as_slice();
-        let left = Stretched::round(sight, points, Hand::Left, found)?;
-        let right = Stretched::round(sight, points, Hand::Right, found)?;
-        Ok(Strings {
-            numbers,
-            left,
-            right,
-        })
+        self.numbers.clear();
+        self.points.clear();
+        self.left.clear();
+        self.right.clear();
+    }
+
+    /// Stretches both strings along a line of sight round the obstacles of the numbers that stand.
+    fn stretch(&mut self, sight: &Sight<'_>, found: &mut Found) -> Result<(), NoMemory>
+        requires sight { FitsSight sight.now }
+        ensures numbers { OnOk result (self.new.numbers.items ≡ self.old.numbers.items) }
+        ensures stretched { OnOk result
+            (AreStretched self.new sight.now.ends sight.now.scene.now.obstacles) }
+        ensures measured { OnOk result (AreMeasured self.new sight.now.ends sight.now.d) }
+    {
+        let obstacles = sight.scene.obstacles();
+        find_corners_at(obstacles, self.numbers.as_slice(), &mut self.points)?;
+        let points = self.points.as_slice();
+        self.left.stretch(sight, points, Hand::Left, found)?;
+        self.right.stretch(sight, points, Hand::Right, found)
     }
 
     /// The strings along a line of sight in another band: they stay where the same obstacles screen there. Else others are
@@ -90,16 +102,16 @@ impl Strings {
         requires sight { FitsSight sight.now }
         requires stretched { AreStretched self.old sight.now.ends sight.now.scene.now.obstacles }
         requires measured { AreMeasured self.old sight.now.ends sight.now.d }
-        ensures numbers { OnOk result (self.new.numbers.items ≡ numbers_of band sight.now.crossings.now) }
+        ensures numbers { OnOk result (self.new.numbers.items ≡ numbers_in band sight.now.crossings.now) }
         ensures stretched { OnOk result
             (AreStretched self.new sight.now.ends sight.now.scene.now.obstacles) }
         ensures measured { OnOk result (AreMeasured self.new sight.now.ends sight.now.d) }
         ensures trace { OnOk result (trace.new ≡ trace.old
             ++ segments_between sight.now.ends self.old.numbers.items self.new) }
     {
-        let numbers = numbers_in(sight.alloc, sight.crossings, band)?;
-        if !are_same(numbers.as_slice(), self.numbers.as_slice()) {
-            *self = Strings::round(sight, numbers, found)?;
+        if !are_numbers_in(self.numbers.as_slice(), sight.crossings, band) {
+            find_numbers_in(sight.crossings, band, &mut self.numbers)?;
+            self.stretch(sight, found)?;
             self.add_to(trace, sight.ends)?;
         }
         Ok(())
@@ -142,32 +154,40 @@ impl Stretched {
         }
     }
 
-    /// The string round some points on a hand of a line of sight.
-    fn round(
+    /// Makes it the string round no corner, whatever it was. The memory of its lists stays.
+    fn clear(&mut self)
+        ensures stretched { (ends : Ends) (obstacles : List ObstacleView) (hand : Hand)
+            → IsStretched self.new ends obstacles [] hand }
+        ensures measured { (ends : Ends) (d : Interval) → IsMeasured self.new ends d }
+    {
+        self.corners.clear();
+        self.blocking.clear();
+        self.way = None;
+    }
+
+    /// Stretches the string round some points on a hand of a line of sight, whatever it was.
+    fn stretch(
+        &mut self,
         sight: &Sight<'_>,
         points: &[Pt],
         hand: Hand,
         found: &mut Found,
-    ) -> Result<Stretched, NoMemory>
+    ) -> Result<(), NoMemory>
         requires sight { FitsSight sight.now }
-        ensures stretched { IfOk result (λ string.
-            IsStretched string sight.now.ends sight.now.scene.now.obstacles points.now hand) }
-        ensures measured { IfOk result (λ string. IsMeasured string sight.now.ends sight.now.d) }
+        ensures stretched { OnOk result
+            (IsStretched self.new sight.now.ends sight.now.scene.now.obstacles points.now hand) }
+        ensures measured { OnOk result (IsMeasured self.new sight.now.ends sight.now.d) }
     {
-        let (alloc, ends) = (sight.alloc, sight.ends);
-        let corners = chain(alloc, points, ends.s, ends.r, hand)?;
-        if corners.as_slice().is_empty() {
-            return Ok(Stretched::none(alloc));
+        let (scene, ends) = (sight.scene, sight.ends);
+        stretch(points, ends.s, ends.r, hand, &mut self.corners)?;
+        let corners = self.corners.as_slice();
+        if corners.is_empty() {
+            self.clear();
+            return Ok(());
         }
-        let blocking = sight
-            .scene
-            .blocking(alloc, ends, corners.as_slice(), found)?;
-        let way = way_round(ends, corners.as_slice(), sight.d);
-        Ok(Stretched {
-            corners,
-            blocking,
-            way: Some(way),
-        })
+        scene.find_blocking(ends, corners, found, &mut self.blocking)?;
+        self.way = Some(way_round(ends, corners, sight.d));
+        Ok(())
     }
 
     /// Adds the segments of the string to a trace, of which a string without corners has none.
@@ -213,14 +233,6 @@ fn way_round(ends: Ends, corners: &[Pt], d: Iv) -> RoundSides
     ensures bounds { (band : Band) → IsScreening (in_band result band) }
 {
     RoundSides::of(ends.s, ends.hs, ends.r, ends.hr, corners, d)
-}
-
-/// Whether two lists of numbers are the same.
-fn are_same(a: &[u32], b: &[u32]) -> bool
-    ensures value { result ≡ same_numbers a.now b.now }
-    ensures same { OnTrue result (a.now ≡ b.now) }
-{
-    a == b
 }
 
 /// Whether one of some obstacles is large enough in a band.

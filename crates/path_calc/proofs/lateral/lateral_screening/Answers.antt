@@ -7,7 +7,7 @@ use Rattle.path_calc.proofs.lateral.lateral_screening.Goals as goal
 
 pub returns-then-is_empty-clause-value : goal.returns-then-is_empty-clause-value
 returns-then-is_empty-clause-value c = λ band.
-    ap (λ (lateral : List LateralScreening). both_of (lateral_of lateral band)) c.new.ensures.items
+    ap (λ (lateral : List LateralScreening). both_of (lateral_of lateral band)) c.clear.ensures.items
     ∙ no-screening band c.args.ends c.args.scene.now.obstacles c.args.d
     (sym c.requires.crossings ∙ nothing-in c.args.crossings.now _ c.is_empty.ensures c.if-is_empty.true)
 

@@ -24,7 +24,7 @@ use Rattle.path_calc.specs.inner.Tracing.{segments_in_band}
 use Rattle.path_calc.specs.Prepared.{PreparedSource, prepared_of}
 use Rattle.path_calc.specs.inner.Prepared.{has_power}
 use Rattle.path_calc.specs.inner.Hearing.{propagation_along, is_asked, direct_square, reflected_of}
-use Rattle.path_calc.proofs.Tracing.{trace-whole, walls-are}
+use Rattle.path_calc.proofs.Tracing.{walls-are}
 use Rattle.path_calc.proofs.Eight.{at-place}
 use Rattle.path_calc.proofs.Fitting.{edges-fit}
 use Rattle.path_calc.proofs.Heard.{direct-is, lateral-is}
@@ -52,19 +52,25 @@ returns-clause-value c =
     c.direct_square-square.ensures.value ∙ ap (λ (s : Source). over (pos (plan_square s.at c.receiver.inside.at)) (pos 1)) c.source.view_is ∙ ap (λ (r : Receiver). direct_square s r) c.receiver.view_is in
     let powered : c.powered-powered.result ≡ map (has_power (prepared_of s)) all_bands =
     c.powered-powered.ensures ∙ ap (λ (p : PreparedSource). map (has_power p) all_bands) c.requires.source in
-    let walls : c.replace.result.items ≡ map (reflected_of book.globals (prepared_of s) (ends_of s r)) (reflected_paths book (ends_of s r)) =
-    rw c.replace.ensures.value c.in_ok-find_reflected.ensures.value
+    let walls : c.replace-2.result.items ≡ map (reflected_of book.globals (prepared_of s) (ends_of s r)) (reflected_paths book (ends_of s r)) =
+    rw c.replace-2.ensures.value c.in_ok-find_others.ensures.reflected
     ∙ ap (λ (e : Ends). map (reflected_of book.globals c.args.from.now e) (reflected_paths book e)) ends
     ∙ ap (λ (p : PreparedSource). map (reflected_of book.globals p (ends_of s r)) (reflected_paths book (ends_of s r))) c.requires.source in
     record {
       direct = direct-is c.in_ok-direct.direct book s r d found (is_asked c.powered-powered.result) length (λ (band : Band). ap (λ (bs : List Bool). is_asked bs band) powered ∙ at-place (has_power (prepared_of s)) false band)
           (c.as_slice.ensures.value ∙ c.in_ok-find_crossings.ensures ∙ ap (λ (e : Ends). crossings_of e book.obstacles) ends)
           (c.in_ok-direct.ensures.value ∙ ap (λ (q : Frac). propagation_along book c.direct-path.result q d found (is_asked c.powered-powered.result)) square ∙ ap (λ (p : Path). propagation_along book p (direct_square s r) d found (is_asked c.powered-powered.result)) path);
-      lateral = λ (band : Band). lateral-is (record { direct = c.in_ok-direct.direct; lateral = c.in_ok-lateral.lateral; reflected = c.replace.result }) book s r d band length (
-          c.in_ok-lateral.ensures.value band
+      lateral = λ (band : Band). lateral-is (record { direct = c.in_ok-direct.direct; lateral = c.replace.result; reflected = c.replace-2.result }) book s r d band length (
+          rw c.replace.ensures.value (c.in_ok-find_others.ensures.lateral band)
           ∙ ap (λ (e : Ends). d_z_over e book.obstacles d band) ends);
       reflected = walls;
     }
+
+pub find_others-requires-clause-distance : goal.find_others-requires-clause-distance
+find_others-requires-clause-distance c = c.distance-distance.ensures.near
+
+pub find_others-requires-clause-crossings : goal.find_others-requires-clause-crossings
+find_others-requires-clause-crossings c = c.in_ok-find_crossings.ensures
 
 pub returns-clause-trace : goal.returns-clause-trace
 returns-clause-trace c =
@@ -74,16 +80,12 @@ returns-clause-trace c =
     let there : Ends = record { s = c.source.inside.at; hs = c.source.inside.h; r = c.receiver.inside.at; hr = c.receiver.inside.h } in
     let ends : there ≡ ends_of s r =
     ap (λ (s : Source). record { s = s.at; hs = s.h; r = c.receiver.inside.at; hr = c.receiver.inside.h }) c.source.view_is ∙ ap (λ (r : Receiver). ends_of s r) c.receiver.view_is in
-    trace-whole [] c.push.new.self c.lateral_screening.new.trace c.add_walls.new.trace book s r
-    (c.in_ok-push.ensures
-    ∙ ap (λ (l : List Seg). l ++ Straight there.s there.r ∷ []) c.clear.ensures
-    ∙ ap (λ (e : Ends). Straight e.s e.r ∷ []) ends)
-    (c.in_ok-lateral.ensures.trace
-    ∙ ap (λ (e : Ends). c.push.new.self ++ flat_map (segments_in_band e book.obstacles) all_bands) ends)
-    (c.in_ok-add_walls.ensures
-    ∙ ap (λ (found : List Reflected). c.lateral_screening.new.trace ++ map (λ (path : Reflected). path.wall) found)
-    (c.as_slice-3.ensures.value ∙ c.in_ok-find_reflected.ensures.value ∙ ap (λ (e : Ends). map (reflected_of book.globals c.args.from.now e) (reflected_paths book e)) ends)
-    ∙ ap (λ (l : List Seg). c.lateral_screening.new.trace ++ l) (walls-are book.globals c.args.from.now (ends_of s r) (reflected_paths book (ends_of s r))))
+    c.in_ok-find_others.ensures.trace
+    ∙ ap (λ (e : Ends). Straight e.s e.r ∷ (flat_map (segments_in_band e book.obstacles) all_bands ++ map (λ (path : Reflected). path.wall) c.find_others.new.workspace.reflected.items)) ends
+    ∙ ap (λ (found : List Reflected). Straight s.at r.at ∷ (flat_map (segments_in_band (ends_of s r) book.obstacles) all_bands ++ map (λ (path : Reflected). path.wall) found))
+    (c.in_ok-find_others.ensures.reflected ∙ ap (λ (e : Ends). map (reflected_of book.globals c.args.from.now e) (reflected_paths book e)) ends)
+    ∙ ap (λ (l : List Seg). Straight s.at r.at ∷ (flat_map (segments_in_band (ends_of s r) book.obstacles) all_bands ++ l))
+    (walls-are book.globals c.args.from.now (ends_of s r) (reflected_paths book (ends_of s r)))
 
 pub along-requires-clause-path : goal.along-requires-clause-path
 along-requires-clause-path c = c.direct-path.ensures.path
@@ -110,18 +112,10 @@ along-requires-clause-square c = c.direct_square-square.ensures.range
 pub along-requires-clause-distance : goal.along-requires-clause-distance
 along-requires-clause-distance c = c.distance-distance.ensures.bounds
 
-pub lateral_screening-requires-clause-distance : goal.lateral_screening-requires-clause-distance
-lateral_screening-requires-clause-distance c = c.distance-distance.ensures.near
-
-pub lateral_screening-requires-clause-crossings : goal.lateral_screening-requires-clause-crossings
-lateral_screening-requires-clause-crossings c = c.as_slice-2.ensures.value ∙ c.in_ok-find_crossings.ensures
-
-pub find_reflected-requires : goal.find_reflected-requires
-find_reflected-requires c = record {
-  ends = record {
-    source = ap (λ (p : PreparedSource). p.h) c.requires.source ∙ ap (λ (s : Source). s.h) (sym c.source.view_is);
-    receiver = c.requires.receiver ∙ ap (λ (r : Receiver). r.h) (sym c.receiver.view_is);
-    source_height = c.source.invariant.height;
-    receiver_height = c.receiver.invariant.height;
-  };
+pub find_others-requires-clause-ends : goal.find_others-requires-clause-ends
+find_others-requires-clause-ends c = record {
+  source = ap (λ (p : PreparedSource). p.h) c.requires.source ∙ ap (λ (s : Source). s.h) (sym c.source.view_is);
+  receiver = c.requires.receiver ∙ ap (λ (r : Receiver). r.h) (sym c.receiver.view_is);
+  source_height = c.source.invariant.height;
+  receiver_height = c.receiver.invariant.height;
 }

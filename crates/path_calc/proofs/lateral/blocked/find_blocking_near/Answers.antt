@@ -1,6 +1,6 @@
 use Rattle.std.proofs.Common.{◌∙◌}
 use Rattle.path_calc.proofs.Barred.{corner-added, last-added, way-is}
-use Rattle.path_calc.proofs.lateral.blocked.blocking_near.Goals as goal
+use Rattle.path_calc.proofs.lateral.blocked.find_blocking_near.Goals as goal
 
 pub loop-corner-preserved : goal.loop-corner-preserved
 loop-corner-preserved c = λ band.

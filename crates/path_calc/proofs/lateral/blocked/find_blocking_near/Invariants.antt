@@ -5,7 +5,7 @@ use Rattle.std.specs.List.{list_any}
 use Rattle.scene_geom.specs.declared.band.Band.{Band}
 use Rattle.path_calc.specs.inner.Strings.{is_within}
 use Rattle.path_calc.proofs.Barred.{behind}
-use Rattle.path_calc.proofs.lateral.blocked.blocking_near.Given as goal
+use Rattle.path_calc.proofs.lateral.blocked.find_blocking_near.Given as goal
 
 abbrev pub invariant-loop-corner : goal.invariant-loop-corner
 invariant-loop-corner l = (band : Band)
