@@ -198,8 +198,8 @@ impl<'a> IndexedScene<'a> {
     }
 
     /// Finds how broad those obstacles are that are in the way of the string which turns at these corners: in a band in
-    /// which one of them is large enough, sound doesn't go along it. It stands in place of what the list held. The buffers
-    /// are lent to the search.
+    /// which one of them is large enough, sound doesn't go along it. It stands in place of what the list held. The
+    /// buffers are lent to the search.
     pub(crate) fn find_blocking(
         &self,
         ends: Ends,

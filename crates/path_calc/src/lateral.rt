@@ -64,8 +64,8 @@ impl<'a> Sight<'a> {
         Ok(strings.d_z(band))
     }
 
-    /// D_z round the sides in each band. Bands in which the same obstacles screen share their strings. The segments of all
-    /// strings are added to the trace. The strings of another path may stand before: nothing of them counts.
+    /// D_z round the sides in each band. Bands in which the same obstacles screen share their strings. The segments of
+    /// all strings are added to the trace. The strings of another path may stand before: nothing of them counts.
     fn d_z(
         &self,
         strings: &mut Strings,
@@ -94,10 +94,10 @@ impl<'a> Sight<'a> {
     }
 }
 
-/// Finds D_z round the sides in each band, of the obstacles that screen there, where source and receiver are `d` apart in
-/// metres. It stands in place of what the list held. Where nothing crosses the line of sight, the list is empty: most paths
-/// need no memory for it. The segments of all strings are added to the trace. The strings and the buffers are lent: what
-/// they held before doesn't count.
+/// Finds D_z round the sides in each band, of the obstacles that screen there, where source and receiver are `d` apart
+/// in metres. It stands in place of what the list held. Where nothing crosses the line of sight, the list is empty:
+/// most paths need no memory for it. The segments of all strings are added to the trace. The strings and the buffers
+/// are lent: what they held before doesn't count.
 pub(crate) fn lateral_screening(
     scene: &IndexedScene<'_>,
     ends: Ends,

@@ -51,8 +51,8 @@ fn obstructs(obstacle: &Obstacle, ends: Ends, corners: &[Pt]) -> bool
     false
 }
 
-/// Finds what `find_blocking` does in each band, by the index of the obstacles: for each segment only the sides near it are
-/// looked at. An obstacle may be told more than once. The buffers are lent to the search.
+/// Finds what `find_blocking` does in each band, by the index of the obstacles: for each segment only the sides near it
+/// are looked at. An obstacle may be told more than once. The buffers are lent to the search.
 pub(crate) fn find_blocking_near(
     grid: &Grid,
     obstacles: &[Obstacle],

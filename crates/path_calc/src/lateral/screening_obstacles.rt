@@ -9,8 +9,8 @@ use scene_parts::{Crossing, NoMemory, Obstacle};
 /// For how many corners room is made at once.
 const CORNERS_AT_FIRST: usize = 64;
 
-/// Whether these are the numbers of the obstacles that screen in a band, each once and in order. It walks both side by side
-/// and makes no list.
+/// Whether these are the numbers of the obstacles that screen in a band, each once and in order. It walks both side by
+/// side and makes no list.
 pub(crate) fn are_numbers_in(numbers: &[u32], crossings: &[Crossing], band: Band) -> bool
     ensures { result ≡ same_numbers (numbers_in band crossings.now) numbers.now }
 {
@@ -28,8 +28,8 @@ pub(crate) fn are_numbers_in(numbers: &[u32], crossings: &[Crossing], band: Band
     count == numbers.len()
 }
 
-/// Finds the numbers of the obstacles that screen in a band, each once and in order: those of the crossings that count there
-/// and rise above the line of sight. They stand in place of what the list held.
+/// Finds the numbers of the obstacles that screen in a band, each once and in order: those of the crossings that count
+/// there and rise above the line of sight. They stand in place of what the list held.
 pub(crate) fn find_numbers_in(
     crossings: &[Crossing],
     band: Band,

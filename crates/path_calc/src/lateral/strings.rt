@@ -25,9 +25,9 @@ use scene_parts::{Breadth, Ends, NoMemory};
 use std::alloc::Global;
 use term_barrier::RoundSides;
 
-/// The strings round the obstacles of some numbers, on the left and the right hand of a line of sight. They are lent from
-/// one path to the next, and with them the memory of their lists; the corners of the obstacles, round which the strings are
-/// stretched, stand in one of these.
+/// The strings round the obstacles of some numbers, on the left and the right hand of a line of sight. They are lent
+/// from one path to the next, and with them the memory of their lists; the corners of the obstacles, round which the
+/// strings are stretched, stand in one of these.
 #[derive(Drop)]
 pub(crate) struct Strings {
     pub(crate) numbers: Vec<u32>,
@@ -90,8 +90,9 @@ impl Strings {
         self.right.stretch(sight, points, Hand::Right, found)
     }
 
-    /// The strings along a line of sight in another band: they stay where the same obstacles screen there. Else others are
-    /// stretched, and their segments are added to the trace. The buffers are lent to the search of what stands near them.
+    /// The strings along a line of sight in another band: they stay where the same obstacles screen there. Else others
+    /// are stretched, and their segments are added to the trace. The buffers are lent to the search of what stands near
+    /// them.
     pub(crate) fn turn_to(
         &mut self,
         sight: &Sight<'_>,
@@ -102,7 +103,8 @@ impl Strings {
         requires sight { FitsSight sight.now }
         requires stretched { AreStretched self.old sight.now.ends sight.now.scene.now.obstacles }
         requires measured { AreMeasured self.old sight.now.ends sight.now.d }
-        ensures numbers { OnOk result (self.new.numbers.items ≡ numbers_in band sight.now.crossings.now) }
+        ensures numbers { OnOk result
+            (self.new.numbers.items ≡ numbers_in band sight.now.crossings.now) }
         ensures stretched { OnOk result
             (AreStretched self.new sight.now.ends sight.now.scene.now.obstacles) }
         ensures measured { OnOk result (AreMeasured self.new sight.now.ends sight.now.d) }
