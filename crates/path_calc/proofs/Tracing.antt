@@ -10,8 +10,7 @@ use Rattle.scene_geom.specs.declared.band.Band.TheVariants.{Hz63, Hz125, Hz250, 
 use Rattle.scene_geom.specs.Bands.{all_bands}
 use Rattle.scene_geom.specs.Crossing.{differ}
 use Rattle.scene_geom.specs.Outline.{sides_along}
-use Rattle.scene_parts.specs.Views.{Source, Receiver, Obstacle, Globals}
-use Rattle.scene_book.specs.Book.{Book}
+use Rattle.scene_parts.specs.Views.{Obstacle, Globals}
 use Rattle.scene_parts.specs.declared.screening.ends.Ends.{Ends}
 use Rattle.sight_cut.specs.Cuts.{screens_in, crossings_of}
 use Rattle.edge_chain.specs.declared.hand.Hand.{Hand}
@@ -24,8 +23,7 @@ use Rattle.path_calc.specs.LateralPaths.{lateral_paths, screening_corners}
 use Rattle.path_calc.specs.ReflectedPaths.{ReflectedPath}
 use Rattle.path_calc.specs.ScreeningSets.{screens_before, is_renewed}
 use Rattle.path_calc.specs.inner.Strings.{numbers_in, corners_at, AreStretched}
-use Rattle.path_calc.specs.Surroundings.{ends_of, surroundings_of}
-use Rattle.path_calc.specs.Trace.{straight, string_segments, lateral_segments, legs_of, trace_of}
+use Rattle.path_calc.specs.Trace.{straight, string_segments, lateral_segments, legs_of}
 use Rattle.path_calc.specs.inner.Tracing.{same_numbers, segments_between, segments_after, segments_in_band}
 use Rattle.path_calc.specs.Prepared.{PreparedSource}
 use Rattle.path_calc.specs.inner.Hearing.{reflected_of}
@@ -220,8 +218,6 @@ eight-added f t t63 t125 t250 t500 t1000 t2000 t4000 t8000 a b c d e g h i =
   where
     more : (band : Band) {x y : List Seg} → x ≡ y → x ++ f band ≡ y ++ f band
     more band is = ap (λ (l : List Seg). l ++ f band) is
-
--- ---- a whole trace
 
 -- ---- reflected paths
 

@@ -1,4 +1,4 @@
-use Rattle.std.proofs.Common.{◌≡◌, ap, sym, subst, ◌∙◌, List, [], ◌∷◌, ◌++◌, map}
+use Rattle.std.proofs.Common.{◌≡◌, ap, sym, subst, ◌∙◌, List, ◌∷◌, ◌++◌, map}
 use Rattle.std.specs.Prelude.{Bool, false, All, flat_map, pos}
 use Rattle.fix_interval.specs.Tree.{enc}
 use Rattle.scene_geom.specs.declared.band.Band.{Band}
