@@ -57,16 +57,7 @@ fn heard(paths: &Paths, source: &PreparedSource) -> [Heard; 8]
     ensures energy_bounds { All (λ h. IsSumOf most_sounds h.energy) result }
     ensures long_bounds { All (λ h. IsSumOf most_sounds h.long) result }
 {
-    [
-        heard_in(paths, source, Band::Hz63),
-        heard_in(paths, source, Band::Hz125),
-        heard_in(paths, source, Band::Hz250),
-        heard_in(paths, source, Band::Hz500),
-        heard_in(paths, source, Band::Hz1000),
-        heard_in(paths, source, Band::Hz2000),
-        heard_in(paths, source, Band::Hz4000),
-        heard_in(paths, source, Band::Hz8000),
-    ]
+    Band::of_each(|band| heard_in(paths, source, band))
 }
 
 /// The energies in the bands.

@@ -64,16 +64,7 @@ impl PreparedSource {
     pub(crate) fn powered(&self) -> [bool; 8]
         ensures { result ≡ map (is_powered self.now) all_bands }
     {
-        [
-            self.has_power(Band::Hz63),
-            self.has_power(Band::Hz125),
-            self.has_power(Band::Hz250),
-            self.has_power(Band::Hz500),
-            self.has_power(Band::Hz1000),
-            self.has_power(Band::Hz2000),
-            self.has_power(Band::Hz4000),
-            self.has_power(Band::Hz8000),
-        ]
+        Band::of_each(|band| self.has_power(band))
     }
 
     /// The decays at the height of the source.
@@ -122,16 +113,7 @@ fn emissions(source: &PointSource) -> [Option<Iv>; 8]
     ensures value { result ≡ (prepared_of source.now).emissions }
     ensures bounds { All (λ emission. IfSome emission IsEmission) result }
 {
-    [
-        emission_in(source, Band::Hz63),
-        emission_in(source, Band::Hz125),
-        emission_in(source, Band::Hz250),
-        emission_in(source, Band::Hz500),
-        emission_in(source, Band::Hz1000),
-        emission_in(source, Band::Hz2000),
-        emission_in(source, Band::Hz4000),
-        emission_in(source, Band::Hz8000),
-    ]
+    Band::of_each(|band| emission_in(source, band))
 }
 
 /// What a source emits in a band in dB, where it has power there.

@@ -250,16 +250,7 @@ impl<'a> Between<'a> {
 fn heard_in_bands(source: &PreparedSource, counts: &[Truth; 8]) -> [bool; 8]
     ensures { result ≡ map (may_be_heard source.now (truth_in counts.now)) all_bands }
 {
-    [
-        is_heard_in(source, counts, Band::Hz63),
-        is_heard_in(source, counts, Band::Hz125),
-        is_heard_in(source, counts, Band::Hz250),
-        is_heard_in(source, counts, Band::Hz500),
-        is_heard_in(source, counts, Band::Hz1000),
-        is_heard_in(source, counts, Band::Hz2000),
-        is_heard_in(source, counts, Band::Hz4000),
-        is_heard_in(source, counts, Band::Hz8000),
-    ]
+    Band::of_each(|band| is_heard_in(source, counts, band))
 }
 
 /// Whether something may be heard in a band: there is power, and the wall isn't known to be too small.

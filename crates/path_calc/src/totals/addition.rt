@@ -17,16 +17,7 @@ pub fn levels(bundles: &[Bundle]) -> Levels
 {
     Levels {
         total: total_level(bundles),
-        bands: [
-            band_level(bundles, Band::Hz63),
-            band_level(bundles, Band::Hz125),
-            band_level(bundles, Band::Hz250),
-            band_level(bundles, Band::Hz500),
-            band_level(bundles, Band::Hz1000),
-            band_level(bundles, Band::Hz2000),
-            band_level(bundles, Band::Hz4000),
-            band_level(bundles, Band::Hz8000),
-        ],
+        bands: Band::of_each(|band| band_level(bundles, band)),
     }
 }
 
