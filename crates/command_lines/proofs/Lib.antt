@@ -1,3 +1,4 @@
 mod ItemLemmas
+mod NeededLemmas
 mod PlainLemmas
 mod Utf8

@@ -46,8 +46,8 @@ Reads field (Ok x) found = found ≡ Some x
 Reads field (Err NoMemory) found = Unit {0}
 Reads field (Err fault) found = (found ≡ None) × (fault ≡ WrongType field)
 
--- the same of a field that a line may be without
-abbrev pub ReadsOptional : {A : Type 0} → Data → Entry → Result (Option A) LineFault → Option A → Type 0
-ReadsOptional line entry (Ok x) found = (found ≡ x) × (is_wrong line entry ≡ false)
-ReadsOptional line entry (Err NoMemory) found = Unit {0}
-ReadsOptional line entry (Err fault) found = (is_wrong line entry ≡ true) × (fault ≡ WrongType entry.field)
+-- the same of a field of a line
+abbrev pub ReadsField : {A : Type 0} → Data → Entry → Result A LineFault → A → Type 0
+ReadsField line entry (Ok x) found = (found ≡ x) × (is_wrong line entry ≡ false)
+ReadsField line entry (Err NoMemory) found = Unit {0}
+ReadsField line entry (Err fault) found = (is_wrong line entry ≡ true) × (fault ≡ WrongType entry.field)

@@ -1,12 +1,12 @@
 -- The fields that a word asks for, and which of them a line lacks or has of a wrong type.
-use Rattle.std.specs.Prelude.{◌≡◌, ℕ, ℤ, pos, List, [], ◌∷◌, Bool, true, false, not, ◌&&◌, Option, Some, None, option_and_then, is_some, unwrap_or, Result, Ok, Err, if◌then◌else◌}
+use Rattle.std.specs.Prelude.{ℕ, ℤ, pos, List, [], ◌∷◌, Bool, true, false, not, ◌&&◌, Option, Some, None, option_and_then, is_some, unwrap_or, Result, Ok, Err, if◌then◌else◌}
 use Rattle.serde_json.specs.Data.{Data}
 use Rattle.serde_json.specs.Find.{get}
 use Rattle.scene_parts.specs.declared.kinds.Field.{Field}
 use Rattle.scene_parts.specs.declared.outlines.RawPt.{RawPt}
+use Rattle.scene_parts.specs.Words.{field_word}
 use Rattle.command_lines.specs.declared.faults.LineFault.{LineFault}
 use Rattle.command_lines.specs.declared.faults.LineFault.TheVariants.{Missing, WrongType}
-use Rattle.scene_parts.specs.Words.{field_word}
 use Rattle.command_lines.specs.Values.{text_of, name_of, any_name_of, whole_of, points_of, powers_of}
 
 pub data FieldType : Type 0 where
@@ -40,10 +40,6 @@ optional field type = record { field = field; type = type; may_be_absent = true 
 -- the value of a field of a line, where it is there
 abbrev pub value_at : Field → Data → Option Data
 value_at field line = get (field_word field) line
-
--- a line has this value at a field
-abbrev pub Has : Data → Field → Data → Type 0
-Has line field value = value_at field line ≡ Some value
 
 abbrev pub first : (Entry → Bool) → List Entry → Option Field
 first test [] = None

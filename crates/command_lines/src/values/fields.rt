@@ -1,8 +1,9 @@
 //! The fields of a line and their types.
-ghost use Rattle.std.specs.Prelude.{◌≡◌, None, Some, IfOk, IfErr, option_map};
+ghost use Rattle.std.specs.Prelude.{◌≡◌, true, None, Some, IfOk, IfErr, IfNone, option_map};
 ghost use Rattle.serde_json.specs.View.{view};
-ghost use Rattle.command_lines.specs.Answers.{Reads, ReadsOptional};
-ghost use Rattle.command_lines.specs.Fields.{optional, value_at, optional_whole_at, optional_text_at};
+ghost use Rattle.command_lines.specs.Answers.{Reads, ReadsField};
+ghost use Rattle.command_lines.specs.Fields.{optional, needed as needed_entry, value_at, text_at, name_at, whole_at, points_at, powers_at, optional_whole_at, optional_text_at};
+ghost use Rattle.command_lines.specs.inner.Needed.{is_there, AreThere, first_missing as first_missing_of};
 ghost use Rattle.command_lines.specs.Fields as types;
 ghost use Rattle.command_lines.specs.Values.{text_of, name_of, any_name_of, whole_of, points_of, powers_of};
 
@@ -30,6 +31,64 @@ pub fn needed(line: &Value, field: Field) -> Result<&Value, LineFault>
     given(line, field).ok_or(LineFault::Missing { field })
 }
 
+/// The first of these fields that a line lacks.
+pub fn first_missing(line: &Value, fields: &[Field]) -> Option<Field>
+    ensures first { result ≡ first_missing_of (view line.now) fields.now }
+    ensures there { IfNone result (AreThere (view line.now) fields.now) }
+{
+    for field in fields {
+        if given(line, *field).is_none() {
+            return Some(*field);
+        }
+    }
+    None
+}
+
+/// The whole number of a field that a line has, or `WrongType`.
+pub fn needed_whole(line: &Value, field: Field) -> Result<i64, LineFault>
+    requires { is_there (view line.now) field ≡ true }
+    ensures { ReadsField (view line.now) (needed_entry field types.whole) result
+        (whole_at field (view line.now)) }
+{
+    whole(field, needed(line, field)?)
+}
+
+/// The text of a field that a line has, or `WrongType`.
+pub fn needed_word(alloc: Global, line: &Value, field: Field) -> Result<Word, LineFault>
+    requires { is_there (view line.now) field ≡ true }
+    ensures { ReadsField (view line.now) (needed_entry field types.text) result
+        (text_at field (view line.now)) }
+{
+    word(alloc, field, needed(line, field)?)
+}
+
+/// The name of a field that a line has, as a line gives it to a part, or `WrongType`.
+pub fn needed_name(alloc: Global, line: &Value, field: Field) -> Result<PlainName, LineFault>
+    requires { is_there (view line.now) field ≡ true }
+    ensures { ReadsField (view line.now) (needed_entry field types.name) result
+        (name_at field (view line.now)) }
+{
+    plain_name(alloc, field, needed(line, field)?)
+}
+
+/// The points of a field that a line has, or `WrongType`.
+pub fn needed_points(alloc: Global, line: &Value, field: Field) -> Result<RawPoints, LineFault>
+    requires { is_there (view line.now) field ≡ true }
+    ensures { ReadsField (view line.now) (needed_entry field types.points) result
+        (points_at field (view line.now)) }
+{
+    points(alloc, field, needed(line, field)?)
+}
+
+/// The sound power levels of a field that a line has, or `WrongType`.
+pub fn needed_powers(line: &Value, field: Field) -> Result<[Option<i64>; 8], LineFault>
+    requires { is_there (view line.now) field ≡ true }
+    ensures { ReadsField (view line.now) (needed_entry field types.powers) result
+        (powers_at field (view line.now)) }
+{
+    powers(field, needed(line, field)?)
+}
+
 /// A whole number, or `WrongType`.
 pub fn whole(field: Field, value: &Value) -> Result<i64, LineFault>
     ensures { Reads field result (whole_of (view value.now)) }
@@ -39,7 +98,7 @@ pub fn whole(field: Field, value: &Value) -> Result<i64, LineFault>
 
 /// A whole number where the line has the field, or `WrongType`.
 pub fn optional_whole(line: &Value, field: Field) -> Result<Option<i64>, LineFault>
-    ensures { ReadsOptional (view line.now) (optional field types.whole) result
+    ensures { ReadsField (view line.now) (optional field types.whole) result
         (optional_whole_at field (view line.now)) }
 {
     match given(line, field) {
@@ -74,7 +133,7 @@ pub fn word(alloc: Global, field: Field, value: &Value) -> Result<Word, LineFaul
 
 /// A text where the line has the field, or `WrongType`.
 pub fn optional_word(alloc: Global, line: &Value, field: Field) -> Result<Option<Word>, LineFault>
-    ensures { ReadsOptional (view line.now) (optional field types.text) result
+    ensures { ReadsField (view line.now) (optional field types.text) result
         (optional_text_at field (view line.now)) }
 {
     match given(line, field) {

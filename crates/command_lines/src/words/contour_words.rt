@@ -8,7 +8,7 @@ use crate::commands::Command;
 use crate::commands::checking::checked_contour;
 use crate::commands::contours::RawContour;
 use crate::faults::LineFault;
-use crate::values::fields::{needed, plain_name, whole};
+use crate::values::fields::{first_missing, needed_name, needed_whole};
 use scene_parts::Field;
 use serde_json::Value;
 use std::alloc::Global;
@@ -22,18 +22,21 @@ pub fn contour(alloc: Global, line: &Value) -> Result<Command, LineFault>
     Ok(Command::Contour(checked_contour(raw)?))
 }
 
+/// The fields that contours need, in the order in which one is found missing.
+const CONTOUR_FIELDS: [Field; 4] = [Field::Name, Field::Level, Field::Columns, Field::Rows];
+
+/// What a line says of contours.
 #[tactic(auto, unfolding(crate::specs::Fields::with_fields, crate::specs::Words::raw_contour_of))]
 fn raw_contour(alloc: Global, line: &Value) -> Result<RawContour, LineFault>
     ensures { MatchesUnlessMemory lacks_memory result (raw_contour_of (view line.now)) }
 {
-    let name = needed(line, Field::Name)?;
-    let level = needed(line, Field::Level)?;
-    let columns = needed(line, Field::Columns)?;
-    let rows = needed(line, Field::Rows)?;
+    if let Some(field) = first_missing(line, &CONTOUR_FIELDS) {
+        return Err(LineFault::Missing { field });
+    }
     Ok(RawContour {
-        name: plain_name(alloc, Field::Name, name)?,
-        level: whole(Field::Level, level)?,
-        columns: whole(Field::Columns, columns)?,
-        rows: whole(Field::Rows, rows)?,
+        name: needed_name(alloc, line, Field::Name)?,
+        level: needed_whole(line, Field::Level)?,
+        columns: needed_whole(line, Field::Columns)?,
+        rows: needed_whole(line, Field::Rows)?,
     })
 }

@@ -1,237 +1,168 @@
 //! The words that put parts and set globals: what a line gives for each, before it is checked.
-ghost use Rattle.std.specs.Prelude.{◌≡◌, Err, IfOk, IfErr};
 ghost use Rattle.serde_json.specs.View.{view};
 ghost use Rattle.scene_parts.specs.Answers.{MatchesUnlessMemory};
 ghost use Rattle.command_lines.specs.Answers.{lacks_memory};
-ghost use Rattle.command_lines.specs.Fields.{Has};
 ghost use Rattle.command_lines.specs.Words.{source_of, barrier_of, building_of, zone_of, foliage_of, receiver_of, grid_of, set_of};
 
 use crate::faults::LineFault;
 use crate::values::fields::{
-    needed, optional_whole, optional_word, plain_name, points, powers, whole, word,
+    first_missing, needed_name, needed_points, needed_powers, needed_whole, needed_word,
+    optional_whole, optional_word,
 };
 use scene_parts::{Field, RawPart};
 use serde_json::Value;
 use std::alloc::Global;
+
+/// The fields that a source needs, in the order in which one is found missing.
+const SOURCE_FIELDS: [Field; 6] = [
+    Field::Name,
+    Field::Kind,
+    Field::X,
+    Field::Y,
+    Field::H,
+    Field::Lw,
+];
 
 /// A source that a line gives.
 #[tactic(auto, unfolding(crate::specs::Fields::with_fields, crate::specs::Words::source_of))]
 pub fn source(alloc: Global, line: &Value) -> Result<RawPart, LineFault>
     ensures { MatchesUnlessMemory lacks_memory result (source_of (view line.now)) }
 {
-    let name = needed(line, Field::Name)?;
-    let kind = needed(line, Field::Kind)?;
-    let x = needed(line, Field::X)?;
-    let y = needed(line, Field::Y)?;
-    let h = needed(line, Field::H)?;
-    let lw = needed(line, Field::Lw)?;
-    source_from(alloc, line, name, kind, x, y, h, lw)
-}
-
-/// A source of a line that has these values of its needed fields.
-#[tactic(auto, unfolding(crate::specs::Fields::with_fields, crate::specs::Words::source_of))]
-fn source_from(
-    alloc: Global,
-    line: &Value,
-    name: &Value,
-    kind: &Value,
-    x: &Value,
-    y: &Value,
-    h: &Value,
-    lw: &Value,
-) -> Result<RawPart, LineFault>
-    requires name { Has (view line.now) Field.Name (view name.now) }
-    requires kind { Has (view line.now) Field.Kind (view kind.now) }
-    requires x { Has (view line.now) Field.X (view x.now) }
-    requires y { Has (view line.now) Field.Y (view y.now) }
-    requires h { Has (view line.now) Field.H (view h.now) }
-    requires lw { Has (view line.now) Field.Lw (view lw.now) }
-    ensures { MatchesUnlessMemory lacks_memory result (source_of (view line.now)) }
-{
+    if let Some(field) = first_missing(line, &SOURCE_FIELDS) {
+        return Err(LineFault::Missing { field });
+    }
     Ok(RawPart::Source {
-        name: plain_name(alloc, Field::Name, name)?,
-        kind: word(alloc, Field::Kind, kind)?,
-        x: whole(Field::X, x)?,
-        y: whole(Field::Y, y)?,
-        h: whole(Field::H, h)?,
-        lw: powers(Field::Lw, lw)?,
+        name: needed_name(alloc, line, Field::Name)?,
+        kind: needed_word(alloc, line, Field::Kind)?,
+        x: needed_whole(line, Field::X)?,
+        y: needed_whole(line, Field::Y)?,
+        h: needed_whole(line, Field::H)?,
+        lw: needed_powers(line, Field::Lw)?,
         dc: optional_whole(line, Field::Dc)?.unwrap_or(0),
     })
 }
+
+/// The fields that a barrier needs, in the order in which one is found missing.
+const BARRIER_FIELDS: [Field; 4] = [Field::Name, Field::Points, Field::H, Field::Density];
 
 /// A barrier that a line gives.
 #[tactic(auto, unfolding(crate::specs::Fields::with_fields, crate::specs::Words::barrier_of))]
 pub fn barrier(alloc: Global, line: &Value) -> Result<RawPart, LineFault>
     ensures { MatchesUnlessMemory lacks_memory result (barrier_of (view line.now)) }
 {
-    let name = needed(line, Field::Name)?;
-    let corners = needed(line, Field::Points)?;
-    let h = needed(line, Field::H)?;
-    let density = needed(line, Field::Density)?;
-    barrier_from(alloc, line, name, corners, h, density)
-}
-
-/// A barrier of a line that has these values of its needed fields.
-#[tactic(auto, unfolding(crate::specs::Fields::with_fields, crate::specs::Words::barrier_of))]
-fn barrier_from(
-    alloc: Global,
-    line: &Value,
-    name: &Value,
-    corners: &Value,
-    h: &Value,
-    density: &Value,
-) -> Result<RawPart, LineFault>
-    requires name { Has (view line.now) Field.Name (view name.now) }
-    requires corners { Has (view line.now) Field.Points (view corners.now) }
-    requires h { Has (view line.now) Field.H (view h.now) }
-    requires density { Has (view line.now) Field.Density (view density.now) }
-    ensures { MatchesUnlessMemory lacks_memory result (barrier_of (view line.now)) }
-{
+    if let Some(field) = first_missing(line, &BARRIER_FIELDS) {
+        return Err(LineFault::Missing { field });
+    }
     Ok(RawPart::Barrier {
-        name: plain_name(alloc, Field::Name, name)?,
-        points: points(alloc, Field::Points, corners)?,
-        h: whole(Field::H, h)?,
-        density: whole(Field::Density, density)?,
+        name: needed_name(alloc, line, Field::Name)?,
+        points: needed_points(alloc, line, Field::Points)?,
+        h: needed_whole(line, Field::H)?,
+        density: needed_whole(line, Field::Density)?,
         rho: optional_whole(line, Field::Rho)?.unwrap_or(0),
     })
 }
+
+/// The fields that a building needs, in the order in which one is found missing.
+const BUILDING_FIELDS: [Field; 3] = [Field::Name, Field::Points, Field::H];
 
 /// A building that a line gives.
 #[tactic(auto, unfolding(crate::specs::Fields::with_fields, crate::specs::Words::building_of))]
 pub fn building(alloc: Global, line: &Value) -> Result<RawPart, LineFault>
     ensures { MatchesUnlessMemory lacks_memory result (building_of (view line.now)) }
 {
-    let name = needed(line, Field::Name)?;
-    let corners = needed(line, Field::Points)?;
-    let h = needed(line, Field::H)?;
-    building_from(alloc, line, name, corners, h)
-}
-
-/// A building of a line that has these values of its needed fields.
-#[tactic(auto, unfolding(crate::specs::Fields::with_fields, crate::specs::Words::building_of))]
-fn building_from(
-    alloc: Global,
-    line: &Value,
-    name: &Value,
-    corners: &Value,
-    h: &Value,
-) -> Result<RawPart, LineFault>
-    requires name { Has (view line.now) Field.Name (view name.now) }
-    requires corners { Has (view line.now) Field.Points (view corners.now) }
-    requires h { Has (view line.now) Field.H (view h.now) }
-    ensures { MatchesUnlessMemory lacks_memory result (building_of (view line.now)) }
-{
+    if let Some(field) = first_missing(line, &BUILDING_FIELDS) {
+        return Err(LineFault::Missing { field });
+    }
     Ok(RawPart::Building {
-        name: plain_name(alloc, Field::Name, name)?,
-        points: points(alloc, Field::Points, corners)?,
-        h: whole(Field::H, h)?,
+        name: needed_name(alloc, line, Field::Name)?,
+        points: needed_points(alloc, line, Field::Points)?,
+        h: needed_whole(line, Field::H)?,
         rho: optional_whole(line, Field::Rho)?.unwrap_or(0),
     })
 }
+
+/// The fields that a zone needs, in the order in which one is found missing.
+const ZONE_FIELDS: [Field; 3] = [Field::Name, Field::Points, Field::G];
 
 /// A zone that a line gives.
 #[tactic(auto, unfolding(crate::specs::Fields::with_fields, crate::specs::Words::zone_of))]
 pub fn zone(alloc: Global, line: &Value) -> Result<RawPart, LineFault>
     ensures { MatchesUnlessMemory lacks_memory result (zone_of (view line.now)) }
 {
-    let name = needed(line, Field::Name)?;
-    let corners = needed(line, Field::Points)?;
-    let g = needed(line, Field::G)?;
+    if let Some(field) = first_missing(line, &ZONE_FIELDS) {
+        return Err(LineFault::Missing { field });
+    }
     Ok(RawPart::Zone {
-        name: plain_name(alloc, Field::Name, name)?,
-        points: points(alloc, Field::Points, corners)?,
-        g: whole(Field::G, g)?,
+        name: needed_name(alloc, line, Field::Name)?,
+        points: needed_points(alloc, line, Field::Points)?,
+        g: needed_whole(line, Field::G)?,
     })
 }
+
+/// The fields that foliage needs, in the order in which one is found missing.
+const FOLIAGE_FIELDS: [Field; 3] = [Field::Name, Field::Points, Field::H];
 
 /// A foliage that a line gives.
 #[tactic(auto, unfolding(crate::specs::Fields::with_fields, crate::specs::Words::foliage_of))]
 pub fn foliage(alloc: Global, line: &Value) -> Result<RawPart, LineFault>
     ensures { MatchesUnlessMemory lacks_memory result (foliage_of (view line.now)) }
 {
-    let name = needed(line, Field::Name)?;
-    let corners = needed(line, Field::Points)?;
-    let h = needed(line, Field::H)?;
+    if let Some(field) = first_missing(line, &FOLIAGE_FIELDS) {
+        return Err(LineFault::Missing { field });
+    }
     Ok(RawPart::Foliage {
-        name: plain_name(alloc, Field::Name, name)?,
-        points: points(alloc, Field::Points, corners)?,
-        h: whole(Field::H, h)?,
+        name: needed_name(alloc, line, Field::Name)?,
+        points: needed_points(alloc, line, Field::Points)?,
+        h: needed_whole(line, Field::H)?,
     })
 }
+
+/// The fields that a receiver needs, in the order in which one is found missing.
+const RECEIVER_FIELDS: [Field; 4] = [Field::Name, Field::X, Field::Y, Field::H];
 
 /// A receiver that a line gives.
 #[tactic(auto, unfolding(crate::specs::Fields::with_fields, crate::specs::Words::receiver_of))]
 pub fn receiver(alloc: Global, line: &Value) -> Result<RawPart, LineFault>
     ensures { MatchesUnlessMemory lacks_memory result (receiver_of (view line.now)) }
 {
-    let name = needed(line, Field::Name)?;
-    let x = needed(line, Field::X)?;
-    let y = needed(line, Field::Y)?;
-    let h = needed(line, Field::H)?;
+    if let Some(field) = first_missing(line, &RECEIVER_FIELDS) {
+        return Err(LineFault::Missing { field });
+    }
     Ok(RawPart::Receiver {
-        name: plain_name(alloc, Field::Name, name)?,
-        x: whole(Field::X, x)?,
-        y: whole(Field::Y, y)?,
-        h: whole(Field::H, h)?,
+        name: needed_name(alloc, line, Field::Name)?,
+        x: needed_whole(line, Field::X)?,
+        y: needed_whole(line, Field::Y)?,
+        h: needed_whole(line, Field::H)?,
     })
 }
 
-/// The values of the fields of a grid.
-#[derive(Drop)]
-struct GridValues<'a> {
-    name: &'a Value,
-    x: &'a Value,
-    y: &'a Value,
-    step: &'a Value,
-    columns: &'a Value,
-    rows: &'a Value,
-    h: &'a Value,
-}
+/// The fields that a grid needs, in the order in which one is found missing.
+const GRID_FIELDS: [Field; 7] = [
+    Field::Name,
+    Field::X,
+    Field::Y,
+    Field::Step,
+    Field::Columns,
+    Field::Rows,
+    Field::H,
+];
 
 /// A grid that a line gives.
 #[tactic(auto, unfolding(crate::specs::Fields::with_fields, crate::specs::Words::grid_of))]
 pub fn grid(alloc: Global, line: &Value) -> Result<RawPart, LineFault>
     ensures { MatchesUnlessMemory lacks_memory result (grid_of (view line.now)) }
 {
-    let values = grid_values(line)?;
+    if let Some(field) = first_missing(line, &GRID_FIELDS) {
+        return Err(LineFault::Missing { field });
+    }
     Ok(RawPart::Grid {
-        name: plain_name(alloc, Field::Name, values.name)?,
-        x: whole(Field::X, values.x)?,
-        y: whole(Field::Y, values.y)?,
-        step: whole(Field::Step, values.step)?,
-        columns: whole(Field::Columns, values.columns)?,
-        rows: whole(Field::Rows, values.rows)?,
-        h: whole(Field::H, values.h)?,
-    })
-}
-
-/// The values of the fields of a grid, where none is missing.
-#[tactic(auto, unfolding(crate::specs::Fields::with_fields, crate::specs::Words::grid_of))]
-fn grid_values(line: &Value) -> Result<GridValues<'_>, LineFault>
-    ensures name { IfOk result (λ values. Has (view line.now) Field.Name (view values.name.now)) }
-    ensures x { IfOk result (λ values. Has (view line.now) Field.X (view values.x.now)) }
-    ensures y { IfOk result (λ values. Has (view line.now) Field.Y (view values.y.now)) }
-    ensures step { IfOk result (λ values. Has (view line.now) Field.Step (view values.step.now)) }
-    ensures columns { IfOk result (λ values. Has (view line.now) Field.Columns (view values.columns.now)) }
-    ensures rows { IfOk result (λ values. Has (view line.now) Field.Rows (view values.rows.now)) }
-    ensures h { IfOk result (λ values. Has (view line.now) Field.H (view values.h.now)) }
-    ensures missing { IfErr result (λ fault. grid_of (view line.now) ≡ Err fault) }
-{
-    let name = needed(line, Field::Name)?;
-    let x = needed(line, Field::X)?;
-    let y = needed(line, Field::Y)?;
-    let step = needed(line, Field::Step)?;
-    let columns = needed(line, Field::Columns)?;
-    let rows = needed(line, Field::Rows)?;
-    let h = needed(line, Field::H)?;
-    Ok(GridValues {
-        name,
-        x,
-        y,
-        step,
-        columns,
-        rows,
-        h,
+        name: needed_name(alloc, line, Field::Name)?,
+        x: needed_whole(line, Field::X)?,
+        y: needed_whole(line, Field::Y)?,
+        step: needed_whole(line, Field::Step)?,
+        columns: needed_whole(line, Field::Columns)?,
+        rows: needed_whole(line, Field::Rows)?,
+        h: needed_whole(line, Field::H)?,
     })
 }
 
