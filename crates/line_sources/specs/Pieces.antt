@@ -15,6 +15,8 @@ use Rattle.scene_book.specs.declared.edits.EditFault.{EditFault}
 use Rattle.scene_book.specs.declared.edits.EditFault.TheVariants.{NoSuchName}
 use Rattle.scene_book.specs.Book.{Book}
 use Rattle.scene_book.specs.Applying.{applied}
+use Rattle.command_lines.specs.declared.commands.Command.{Command}
+use Rattle.command_lines.specs.declared.commands.Command.TheVariants as commands
 use Rattle.command_lines.specs.Views.{LineSource}
 use Rattle.line_sources.specs.Legs.{legs_of, count_of, place_of}
 use Rattle.line_sources.specs.Gains.{gain_of}
@@ -128,3 +130,9 @@ removes_or_none name (first ∷ rest) = Ok (removes (first ∷ rest))
 
 abbrev pub unline_edits_of : List ℕ → Book → Result (List Edit) EditFault
 unline_edits_of name book = removes_or_none name (beyond name [] book.sources)
+
+-- the edits of a command that makes edits together, or the first fault; any other makes none here
+abbrev pub batch_edits_of : Command → Book → Result (List Edit) EditFault
+batch_edits_of (commands.Line line) book = line_edits_of line book
+batch_edits_of (commands.Unline name) book = unline_edits_of name book
+batch_edits_of other book = Ok []

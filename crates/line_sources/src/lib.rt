@@ -2,6 +2,7 @@
 //! middle (ISO 9613-2, clause 4).
 #![tactic(auto)]
 
+mod batches;
 mod counts;
 mod edits;
 mod gains;
@@ -12,5 +13,6 @@ mod places;
 mod removals;
 mod sources;
 
+pub use batches::batch_edits;
 pub use edits::LineEdits;
 pub use lines::{pieces, unline};
