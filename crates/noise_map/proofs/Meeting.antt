@@ -11,7 +11,7 @@ use Rattle.scene_book.specs.declared.edits.Edit.{Edit}
 use Rattle.scene_book.specs.declared.edits.EditFault.{EditFault}
 use Rattle.scene_book.specs.declared.edits.EditFault.TheVariants as faults
 use Rattle.scene_book.specs.Limits.{most_receivers}
-use Rattle.command_lines.specs.Views.{Contour, LineSource}
+use Rattle.command_lines.specs.Views.{Contour}
 use Rattle.map_text.specs.declared.refusals.Refusal.{Refusal}
 use Rattle.map_text.specs.declared.refusals.Refusal.TheVariants.{Edit as OfEdit, Line as OfLine, LongLine}
 use Rattle.turn_lock.specs.History.{entries_of, entry}
@@ -36,7 +36,7 @@ use Rattle.scene_undo.specs.declared.versions.KeptVersion.{KeptVersion}
 use Rattle.scene_undo.specs.Versions.{kept_in}
 use Rattle.command_lines.specs.declared.commands.Command.{Command}
 use Rattle.command_lines.specs.declared.commands.Command.TheVariants as commands
-use Rattle.line_sources.specs.Pieces.{line_edits_of, unline_edits_of}
+use Rattle.line_sources.specs.Pieces.{batch_edits_of}
 use Rattle.level_contours.specs.GridNames.{first_missing_of}
 use Rattle.command_lines.specs.declared.faults.LineFault.{LineFault}
 use Rattle.command_lines.specs.Lines.{command_of}
@@ -46,7 +46,7 @@ use Rattle.noise_map.specs.Effects.{Display, silent, refused, settled, known, co
 use Rattle.noise_map.specs.Texts.{answer_to, looked_by, settled_by, contoured_by}
 use Rattle.noise_map.specs.Ways.{look_in, looks_in, look_entry, edit_entry, lacking_edit, BreaksOff, Settles, DoesLook, Does, IsNoLook}
 use Rattle.noise_map.specs.inner.Answers.{ShowsFew}
-use Rattle.noise_map.specs.inner.Steps.{past_of, IsKeptOf, Descends, Knows, HasGone, HasMade, HasLacked, MakesOrLacks, MakesUnlessMemory, display_behind, HasMet, HasFollowed, HasFailed, MeetsUnlessMemory, MeetsEditsUnlessMemory}
+use Rattle.noise_map.specs.inner.Steps.{past_of, IsKeptOf, Descends, Knows, IsBatch, HasGone, HasMade, HasLacked, MakesOrLacks, MakesUnlessMemory, display_behind, HasMet, HasFollowed, HasFailed, MeetsUnlessMemory, MeetsEditsUnlessMemory}
 use Rattle.noise_map.proofs.Effects.{newest-with}
 use Rattle.noise_map.proofs.KeptVersions.{all-each, all-front, kept-with-edit}
 use Rattle.noise_map.proofs.Ways.{looks_in-append, looks_in-one, accepted-append, accepted-one, own-front}
@@ -615,14 +615,12 @@ pub none-missing : (before : Editor) (contour : Contour) → Knows before → fi
     → effect_of (past_of before) (command (commands.Contour contour)) ≡ shows (contoured contour)
 none-missing before contour knows is = ap (effect_of_contour contour) (ap (first_missing_of contour) (sym knows.scene) ∙ is)
 
--- ---- line sources
+-- ---- edits made together
 
--- the edits of a line source in the scene that the editor knows
-pub line-in : (before : Editor) (line : LineSource) → Knows before → effect_of_edits (line_edits_of line before.scene) ≡ effect_of (past_of before) (command (commands.Line line))
-line-in before line knows = ap (λ (book : Book). effect_of_edits (line_edits_of line book)) knows.scene
-
-pub unline-in : (before : Editor) (name : List ℕ) → Knows before → effect_of_edits (unline_edits_of name before.scene) ≡ effect_of (past_of before) (command (commands.Unline name))
-unline-in before name knows = ap (λ (book : Book). effect_of_edits (unline_edits_of name book)) knows.scene
+-- the edits of a command in the scene that the editor knows
+pub batch-in : (before : Editor) (asked : Command) → IsBatch asked → Knows before → effect_of_edits (batch_edits_of asked before.scene) ≡ effect_of (past_of before) (command asked)
+batch-in before asked batch knows =
+    ap (λ (book : Book). effect_of_edits (batch_edits_of asked book)) knows.scene ∙ sym (batch (newest_scene (accepted_edits before.seat.mine)) (past_of before))
 
 -- what is carried out of one effect is carried out of the same by another name
 pub meets-as : {E : Type 0} (before after : Editor) (result : Result Answer E) (edits : Result (List Edit) EditFault) (demand : Demand)

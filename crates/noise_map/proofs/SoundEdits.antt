@@ -24,7 +24,7 @@ use Rattle.command_lines.specs.Fields.{Entry, first, is_missing, is_wrong, made_
 use Rattle.command_lines.specs.Lines.{word_of, command_from, json_of, command_in, command_of}
 use Rattle.command_lines.specs.Views.{LineSource}
 use Rattle.command_lines.specs.Words.{part_of, removal_of, checked_edit, raw_contour_of, contour_of, raw_line_source_of, line_source_of, unline_of, raw_version_of, undo_of, asked}
-use Rattle.line_sources.specs.Pieces.{puts, removes, beyond, edits_with, accepted, sources_of, line_edits_of, removes_or_none, unline_edits_of}
+use Rattle.line_sources.specs.Pieces.{puts, removes, beyond, edits_with, accepted, sources_of, line_edits_of, removes_or_none, unline_edits_of, batch_edits_of}
 use Rattle.scene_undo.specs.Scenes.{IsEdit}
 use Rattle.scene_undo.proofs.Checked.{checked-edit}
 
@@ -95,7 +95,7 @@ pub sound-command : (bytes : List ℕ) → IfOk (command_of bytes) IsSoundComman
 unfolding command_of
 sound-command bytes = sound-if (is_utf8 bytes) _ _ (sound-in bytes) tt
 
--- ---- line sources
+-- ---- edits made together
 
 puts-edits : (sources : List Source) → All IsEdit (puts sources)
 puts-edits [] = All-nil IsEdit
@@ -112,8 +112,8 @@ accepted-edits list book all = by (applied list book)
     by (Ok after) = all
     by (Err fault) = tt
 
--- the edits of a line
-pub line-edits : (line : LineSource) (book : Book) → IfOk (line_edits_of line book) (All IsEdit)
+-- the edits that put a line
+line-edits : (line : LineSource) (book : Book) → IfOk (line_edits_of line book) (All IsEdit)
 unfolding line_edits_of
 line-edits line book =
     accepted-edits (edits_with line.name book (sources_of line)) book
@@ -121,9 +121,15 @@ line-edits line book =
     (removes-edits (beyond line.name (sources_of line) book.sources)))
 
 -- and those that take it out
-pub unline-edits : (name : List ℕ) (book : Book) → IfOk (unline_edits_of name book) (All IsEdit)
+unline-edits : (name : List ℕ) (book : Book) → IfOk (unline_edits_of name book) (All IsEdit)
 unline-edits name book = by (beyond name [] book.sources)
   where
     by : (names : List (List ℕ)) → IfOk (removes_or_none name names) (All IsEdit)
     by [] = tt
     by (first_name ∷ names) = removes-edits (first_name ∷ names)
+
+-- the edits of a command that makes edits together
+pub batch-edits : (asked : Command) (book : Book) → IfOk (batch_edits_of asked book) (All IsEdit)
+batch-edits (commands.Line line) book = line-edits line book
+batch-edits (commands.Unline name) book = unline-edits name book
+batch-edits other book = All-nil IsEdit

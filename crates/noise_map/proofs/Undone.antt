@@ -13,7 +13,7 @@ use Rattle.command_lines.specs.declared.commands.Command.{Command}
 use Rattle.command_lines.specs.declared.commands.Command.TheVariants as commands
 use Rattle.command_lines.specs.declared.faults.LineFault.{LineFault}
 use Rattle.command_lines.specs.Lines.{command_of}
-use Rattle.line_sources.specs.Pieces.{line_edits_of, unline_edits_of}
+use Rattle.line_sources.specs.Pieces.{batch_edits_of}
 use Rattle.scene_undo.specs.Versions.{is_kept}
 use Rattle.level_contours.specs.GridNames.{first_missing_of}
 use Rattle.map_io.specs.Reading.{line_limit}
@@ -28,7 +28,7 @@ use Rattle.noise_map.specs.Effects.{Past, edits_back, Effect, effect_of_edits, e
 use Rattle.noise_map.specs.Undone.{LeadsBack}
 use Rattle.noise_map.proofs.Journals.{version-scene}
 use Rattle.noise_map.proofs.Trails.{IsSound, sound-start, sound-edits, HasLed, undo-leads}
-use Rattle.noise_map.proofs.SoundEdits.{IsSoundCommand, sound-command, line-edits, unline-edits}
+use Rattle.noise_map.proofs.SoundEdits.{IsSoundCommand, sound-command, batch-edits}
 use Rattle.order_law.proofs.Shown.{rows-shuffled}
 
 -- ---- effects
@@ -58,12 +58,11 @@ sound-undo past to = by (is_kept to past.kept) refl
 
 sound-asked : (past : Past) (asked : Command) → IsSoundCommand asked → IsSoundEffect past (effect_in (newest_scene past.journal) past asked)
 sound-asked past (commands.Edit edit) sound = All-cons IsEdit edit [] sound (All-nil IsEdit)
-sound-asked past (commands.Line line) sound = sound-list past (line_edits_of line (newest_scene past.journal)) (line-edits line (newest_scene past.journal))
-sound-asked past (commands.Unline name) sound = sound-list past (unline_edits_of name (newest_scene past.journal)) (unline-edits name (newest_scene past.journal))
 sound-asked past (commands.Undo to) sound = sound-undo past to
 sound-asked past (commands.Contour contour) sound = sound-contour past contour (first_missing_of contour (newest_scene past.journal))
 sound-asked past commands.Settle sound = All-nil IsEdit
 sound-asked past commands.Look sound = All-nil IsEdit
+sound-asked past batch sound = sound-list past (batch_edits_of batch (newest_scene past.journal)) (batch-edits batch (newest_scene past.journal))
 
 -- what a line asks for is in its ranges
 abbrev IsSoundDemand : Demand → Type 0

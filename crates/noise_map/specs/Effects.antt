@@ -14,7 +14,7 @@ use Rattle.map_text.specs.declared.refusals.Refusal.TheVariants.{Edit as OfEdit,
 use Rattle.scene_undo.specs.Inverse.{inverse_of}
 use Rattle.scene_undo.specs.Versions.{is_kept}
 use Rattle.map_board.specs.Journal.{scene_at, newest_scene}
-use Rattle.line_sources.specs.Pieces.{line_edits_of, unline_edits_of}
+use Rattle.line_sources.specs.Pieces.{batch_edits_of}
 use Rattle.level_contours.specs.GridNames.{first_missing_of}
 use Rattle.noise_map.specs.Demands.{Demand, nothing, refusal, command, demand_of}
 
@@ -75,7 +75,7 @@ display_of_edit (Err fault) = refused (OfEdit fault)
 abbrev pub effect_of_edit : Edit → Result (Book × Option Part) EditFault → Effect
 effect_of_edit edit answer = record { edits = edit ∷ []; back = None; display = display_of_edit answer }
 
--- the edits of a line source are all made, or none where the scene refuses one of them
+-- edits that a command makes together are all made, or none where the scene refuses one of them
 abbrev pub effect_of_edits : Result (List Edit) EditFault → Effect
 effect_of_edits (Ok edits) = record { edits = edits; back = None; display = silent }
 effect_of_edits (Err fault) = shows (refused (OfEdit fault))
@@ -94,12 +94,12 @@ effect_of_undo to past =
 -- what a command comes to in the newest scene of this past
 abbrev pub effect_in : Book → Past → Command → Effect
 effect_in scene past (commands.Edit edit) = effect_of_edit edit (apply_of edit scene)
-effect_in scene past (commands.Line line) = effect_of_edits (line_edits_of line scene)
-effect_in scene past (commands.Unline name) = effect_of_edits (unline_edits_of name scene)
 effect_in scene past (commands.Undo to) = effect_of_undo to past
 effect_in scene past (commands.Contour contour) = effect_of_contour contour (first_missing_of contour scene)
 effect_in scene past commands.Settle = shows settled
 effect_in scene past commands.Look = shows known
+-- a command that makes edits together
+effect_in scene past batch = effect_of_edits (batch_edits_of batch scene)
 
 -- what a line comes to, of which this is asked, behind this past
 abbrev pub effect_of : Past → Demand → Effect

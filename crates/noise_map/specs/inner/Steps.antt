@@ -1,8 +1,11 @@
 -- What one line does at the board, as the run's own functions see it.
 use Rattle.std.specs.Prelude.{◌≡◌, ◌≤◌, ◌<◌, ◌⊎◌, ℕ, Bool, true, false, List, [], ◌∷◌, ◌++◌, length, take, slice_get, All, IsSomeAnd, Result, Ok, Err}
+use Rattle.scene_book.specs.Book.{Book}
 use Rattle.scene_book.specs.Applying.{apply_of, lacks_memory}
 use Rattle.scene_book.specs.declared.edits.Edit.{Edit}
 use Rattle.scene_book.specs.declared.edits.EditFault.{EditFault}
+use Rattle.command_lines.specs.declared.commands.Command.{Command}
+use Rattle.line_sources.specs.Pieces.{batch_edits_of}
 use Rattle.map_text.specs.declared.refusals.Refusal.TheVariants.{Edit as OfEdit}
 use Rattle.turn_lock.specs.History.{Begins}
 use Rattle.map_board.specs.Journal.{newest_scene}
@@ -16,7 +19,7 @@ use Rattle.noise_map.specs.declared.run.editor.Editor.{Editor}
 use Rattle.scene_undo.specs.declared.versions.KeptVersion.{KeptVersion}
 use Rattle.scene_undo.specs.Versions.{kept_in}
 use Rattle.noise_map.specs.Demands.{Demand}
-use Rattle.noise_map.specs.Effects.{Display, silent, refused, Past, way_back, Effect, display_of_edit, effect_of_edits, effect_of, looks_asked, journal_with, journal_with_all, kept_with, kept_with_all, past_with}
+use Rattle.noise_map.specs.Effects.{Display, silent, refused, Past, way_back, Effect, display_of_edit, effect_of_edits, effect_in, effect_of, looks_asked, journal_with, journal_with_all, kept_with, kept_with_all, past_with}
 use Rattle.noise_map.specs.Texts.{answer_to}
 use Rattle.noise_map.specs.inner.Answers.{ShowsFew}
 use Rattle.noise_map.specs.Ways.{edit_entry, edit_entries, lacking_edit, Does, Fails, looks_in}
@@ -143,7 +146,12 @@ MeetsUnlessMemory before demand (Ok answer) after =
     × HasFollowed before (effect_of (past_of before) demand) after
 MeetsUnlessMemory before demand (Err want) after = HasFailed before.seat (effect_of (past_of before) demand) after.seat
 
--- the edits of a line source were made, or it was refused, or there was no memory
+-- the command makes edits together, and they are all that it comes to
+abbrev pub IsBatch : Command → Type 0
+IsBatch asked =
+    (scene : Book) (past : Past) → effect_in scene past asked ≡ effect_of_edits (batch_edits_of asked scene)
+
+-- edits were made together, or they were refused, or there was no memory
 abbrev pub MeetsEditsUnlessMemory : {E : Type 0} → Editor → Result (List Edit) EditFault → Result Answer E → Editor
     → Type 0
 MeetsEditsUnlessMemory before edits (Ok answer) after =

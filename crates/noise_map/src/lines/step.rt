@@ -10,22 +10,22 @@ ghost use Rattle.map_lock.specs.Settling.{HasNotFinished};
 ghost use Rattle.noise_map.specs.Demands.{command as asks, demand_read, demand_of, is_blank, is_blank_byte};
 ghost use Rattle.noise_map.specs.inner.Answers.{ShowsFew};
 ghost use Rattle.noise_map.specs.declared.run.editor.Editor.{Editor as EditorSaid};
-ghost use Rattle.noise_map.specs.inner.Steps.{Knows, has_lacked, MakesUnlessMemory, MakesAllUnlessMemory, MeetsEditsUnlessMemory, MeetsUnlessMemory};
+ghost use Rattle.noise_map.specs.inner.Steps.{Knows, IsBatch, has_lacked, MakesUnlessMemory, MakesAllUnlessMemory, MeetsEditsUnlessMemory, MeetsUnlessMemory};
 ghost use Rattle.scene_book.specs.Applying.{lacks_memory};
 ghost use Rattle.scene_book.specs.declared.edits.Edit.{Edit as EditSaid};
 ghost use Rattle.scene_book.specs.declared.edits.EditFault.{EditFault as FaultSaid};
 
 use crate::lines::answer::Answer;
 use crate::run::editor::{Editor, edit_lacks_memory, follow};
-use command_lines::{Command, ContourSpec, LineFault, LineSpec, command};
+use command_lines::{Command, ContourSpec, LineFault, command};
 use level_contours::first_missing;
-use line_sources::{LineEdits, pieces, unline};
+use line_sources::{LineEdits, batch_edits};
 use map_board::laws::runs_show_right;
 use map_io::Gate;
 use map_lock::MapLock;
 use map_text::Refusal;
 use scene_book::{Edit, EditFault};
-use scene_parts::{Name, NoMemory};
+use scene_parts::NoMemory;
 use scene_undo::{KeptVersion, inverse, keeps, make_room, never_fits, take_later};
 use std::alloc::Global;
 use std::sync::Wait;
@@ -148,7 +148,7 @@ impl<'a, R: Threads + Wait + Sync, G: Gate> Shared<'a, R, G> {
         }
     }
 
-    /// Has the edits of a line source made, or none where one of them would be refused.
+    /// Has edits made together, or none where one of them would be refused.
     fn make_or_refuse(
         &self,
         editor: &mut Editor,
@@ -170,23 +170,14 @@ impl<'a, R: Threads + Wait + Sync, G: Gate> Shared<'a, R, G> {
         }
     }
 
-    /// Puts a line source as point sources.
-    fn line_source(&self, editor: &mut Editor, line: &LineSpec) -> Result<Answer, NoMemory>
+    /// Does a command that makes edits together.
+    fn batch(&self, editor: &mut Editor, command: &Command) -> Result<Answer, NoMemory>
         requires own { editor.old.seat.table ≡ self.now.lock.now }
         requires knows { Knows editor.old }
-        ensures { MeetsUnlessMemory editor.old (asks (commands.Line line.now)) result editor.new }
+        requires batch { IsBatch command.now }
+        ensures { MeetsUnlessMemory editor.old (asks command.now) result editor.new }
     {
-        let edits = pieces(self.alloc, line, &editor.scene);
-        self.make_or_refuse(editor, edits)
-    }
-
-    /// Takes the point sources of a line source out.
-    fn unline(&self, editor: &mut Editor, name: &Name) -> Result<Answer, NoMemory>
-        requires own { editor.old.seat.table ≡ self.now.lock.now }
-        requires knows { Knows editor.old }
-        ensures { MeetsUnlessMemory editor.old (asks (commands.Unline name.now)) result editor.new }
-    {
-        let edits = unline(self.alloc, name, &editor.scene);
+        let edits = batch_edits(self.alloc, command, &editor.scene);
         self.make_or_refuse(editor, edits)
     }
 
@@ -254,12 +245,12 @@ impl<'a, R: Threads + Wait + Sync, G: Gate> Shared<'a, R, G> {
     {
         match command {
             Command::Edit(edit) => self.edit(editor, edit),
-            Command::Line(line) => self.line_source(editor, &line),
-            Command::Unline(name) => self.unline(editor, &name),
             Command::Undo(version) => self.undo(editor, version),
             Command::Contour(contour) => self.contours(editor, contour),
             Command::Settle => self.settle(editor),
             Command::Look => self.look(editor),
+            // The others make edits together.
+            batch => self.batch(editor, &batch),
         }
     }
 
@@ -267,7 +258,8 @@ impl<'a, R: Threads + Wait + Sync, G: Gate> Shared<'a, R, G> {
         requires own { editor.old.seat.table ≡ self.now.lock.now }
         requires unfinished { HasNotFinished editor.old.seat.mine }
         requires knows { Knows editor.old }
-        ensures { MeetsUnlessMemory editor.old (demand_read (command_of line.now)) result editor.new }
+        ensures { MeetsUnlessMemory editor.old (demand_read (command_of line.now)) result
+            editor.new }
     {
         match command(self.alloc, line) {
             Ok(command) => self.execute(editor, command),
