@@ -131,7 +131,7 @@ pub(crate) fn origins_of<L: Ledger>(
 {
     let mut workspace = Workspace::new(alloc);
     let mut origins = Origins {
-        list: Vec::with_capacity(alloc, renewal.kept.len())?,
+        list: Vec::with_capacity(alloc, renewal.scene.sources().len())?,
         next: 0,
     };
     for (place, source) in renewal.scene.sources().iter().enumerate() {

@@ -11,12 +11,31 @@ use image_source::Leg;
 use part_grid::Found;
 use scene_parts::{Crossing, Edge, NoMemory};
 use std::alloc::Global;
+use std::marker::Model;
 use term_barrier::EdgeBuffers;
 
-/// The memory that the calculation of a path needs: lent to one path after another, it is asked for once. What stands in it
-/// means nothing, and no path depends on it. A path in the open asks for none of it.
+/// How many items a list that is lent gets room for at first: few paths have more.
+pub(crate) const FIRST_ROOM: usize = 64;
+
+/// The memory that the calculation of a path needs: lent to one path after another, it is asked for once. A path in the open
+/// asks for none of it. Contracts see nothing of it, since no path depends on what another has left there.
 #[derive(Drop)]
 pub struct Workspace {
+    pub(crate) paths: PathBuffers,
+}
+
+impl Model for Workspace {
+    ghost use Rattle.std.specs.Prelude.{⊤};
+
+    ghost Value = { ⊤ };
+
+    ghost view = { λ _. tt };
+}
+
+/// What all paths between a source and a receiver need: their trace, what crosses the line of sight, what is found round its
+/// sides and by way of walls.
+#[derive(Drop)]
+pub(crate) struct PathBuffers {
     pub(crate) trace: Segs,
     pub(crate) crossings: Vec<Crossing>,
     pub(crate) lateral: Vec<LateralScreening>,
@@ -46,30 +65,32 @@ pub(crate) struct ScreeningBuffers {
 
 impl Workspace {
     /// None yet: no memory is taken before it is needed.
-    pub fn new(alloc: Global) -> Workspace
-        ensures trace { result.trace ≡ [] }
-        ensures reflected { result.reflected.items ≡ [] }
-    {
-        Workspace {
+    pub fn new(alloc: Global) -> Workspace {
+        let screening = ScreeningBuffers {
+            edges: Vec::new(alloc),
+            marks: Vec::new(alloc),
+            shared: EdgeBuffers::new(alloc),
+            spare: Vec::new(alloc),
+        };
+        let lines = LineBuffers {
+            found: Found::new(alloc),
+            legs: Vec::new(alloc),
+            on_legs: Vec::new(alloc),
+            screening,
+        };
+        let paths = PathBuffers {
             trace: Segs::new(alloc),
             crossings: Vec::new(alloc),
             lateral: Vec::new(alloc),
             strings: Strings::none(alloc),
             reflected: Vec::new(alloc),
-            lines: LineBuffers {
-                found: Found::new(alloc),
-                legs: Vec::new(alloc),
-                on_legs: Vec::new(alloc),
-                screening: ScreeningBuffers {
-                    edges: Vec::new(alloc),
-                    marks: Vec::new(alloc),
-                    shared: EdgeBuffers::new(alloc),
-                    spare: Vec::new(alloc),
-                },
-            },
-        }
+            lines,
+        };
+        Workspace { paths }
     }
+}
 
+impl PathBuffers {
     /// Takes back what was lent to paths that are no longer read.
     pub(crate) fn take_back(&mut self, paths: Paths)
         ensures trace { self.new.trace ≡ self.old.trace }
@@ -95,5 +116,5 @@ pub(crate) fn make_ready<T: Drop>(list: &mut Vec<T>) -> Result<(), NoMemory>
     ensures { OnOk result (list.new.items ≡ []) }
 {
     list.clear();
-    Ok(list.reserve(64)?)
+    Ok(list.reserve(FIRST_ROOM)?)
 }

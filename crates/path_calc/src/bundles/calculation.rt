@@ -11,7 +11,7 @@ use crate::energies::path_energies;
 use crate::energies::paths::paths_between;
 use crate::indexed::IndexedScene;
 use crate::prepared::{PreparedReceiver, PreparedSource};
-use crate::workspace::Workspace;
+use crate::workspace::{PathBuffers, Workspace};
 use part_grid::Grid;
 use scene_book::Scene;
 use scene_parts::{Name, NoMemory, PointSource, Receiver};
@@ -94,7 +94,8 @@ pub fn bundle_between<L: Ledger>(
     ensures step { steps.new ≡ steps.old + 1 }
 {
     steps.tick();
-    calculated(alloc, scene, source, from, receiver, to, workspace)
+    let buffers = &mut workspace.paths;
+    calculated(alloc, scene, source, from, receiver, to, buffers)
 }
 
 /// What that path comes to, whose step is counted.
@@ -105,17 +106,17 @@ fn calculated(
     from: &PreparedSource,
     receiver: &Receiver,
     to: &PreparedReceiver,
-    workspace: &mut Workspace,
+    buffers: &mut PathBuffers,
 ) -> Result<Bundle, NoMemory>
     requires source { from.now ≡ prepared_of source.now }
     requires receiver { to.now ≡ receiver.now.h }
     ensures { IfOk result (λ bundle. bundle ≡ bundle_of scene.now source.now receiver.now) }
 {
     let name = Name::from_vec(source.name.items().to_vec(alloc)?);
-    let paths = paths_between(alloc, scene, source, from, receiver, to, workspace)?;
+    let paths = paths_between(alloc, scene, source, from, receiver, to, buffers)?;
     let energies = path_energies(&paths, from);
-    workspace.take_back(paths);
-    let segs = workspace.trace.copied(alloc)?;
+    buffers.take_back(paths);
+    let segs = buffers.trace.copied(alloc)?;
     Ok(Bundle {
         source: name,
         at: source.at,

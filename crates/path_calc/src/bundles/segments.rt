@@ -2,6 +2,7 @@
 ghost use Rattle.std.specs.Prelude.{◌≡◌, [], ◌∷◌, ◌++◌, All, IfOk, OnOk};
 ghost use Rattle.path_calc.specs.Segments.{FitsSegment};
 
+use crate::workspace::FIRST_ROOM;
 use scene_geom::{Pt, Side};
 use scene_parts::NoMemory;
 use std::alloc::{AllocError, Global};
@@ -132,7 +133,7 @@ impl Segs {
 fn both(alloc: Global, first: Seg, second: Seg) -> Result<Vec<Seg>, NoMemory>
     ensures { IfOk result (λ segments. segments.items ≡ first ∷ second ∷ []) }
 {
-    let mut segments = Vec::with_capacity(alloc, 64)?;
+    let mut segments = Vec::with_capacity(alloc, FIRST_ROOM)?;
     segments.push_reserved(first);
     segments.push_reserved(second);
     Ok(segments)

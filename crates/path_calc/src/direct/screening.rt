@@ -12,7 +12,7 @@ ghost use Rattle.path_calc.specs.inner.Hearing.{edges_among, bar_over, bars_over
 ghost use Rattle.path_calc.specs.inner.Ranges.{IsUnscreened, IsScreened};
 
 use crate::energies::small_sums::minus;
-use crate::workspace::{ScreeningBuffers, make_ready};
+use crate::workspace::{FIRST_ROOM, ScreeningBuffers, make_ready};
 use fix_interval::{Iv, exact};
 use path_shape::Path;
 use scene_geom::Band;
@@ -72,6 +72,9 @@ impl BarrierAttenuations {
         ensures { vec_len spare.old ≤ vec_len spare.new }
     {
         if let Some(memory) = self.bands {
+            if spare.is_empty() {
+                drop(spare.reserve(FIRST_ROOM));
+            }
             drop(spare.push(memory));
         }
     }

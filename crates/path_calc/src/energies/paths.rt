@@ -21,7 +21,7 @@ use crate::indexed::IndexedScene;
 use crate::lateral::{LateralScreening, lateral_screening};
 use crate::prepared::{PreparedReceiver, PreparedSource};
 use crate::reflected::Reflected;
-use crate::workspace::Workspace;
+use crate::workspace::PathBuffers;
 use fix_interval::Iv;
 use path_shape::Path;
 use scene_geom::Band;
@@ -39,7 +39,7 @@ pub(crate) struct Paths {
     pub(crate) reflected: Vec<Reflected>,
 }
 
-/// The paths from a source to a receiver. Their trace stands in the workspace that is lent to them, in place of another's.
+/// The paths from a source to a receiver. Their trace stands in the buffers that are lent to them, in place of another's.
 /// One search finds the edges of all bands on a path.
 pub(crate) fn paths_between(
     alloc: Global,
@@ -48,13 +48,13 @@ pub(crate) fn paths_between(
     from: &PreparedSource,
     receiver: &Receiver,
     to: &PreparedReceiver,
-    workspace: &mut Workspace,
+    buffers: &mut PathBuffers,
 ) -> Result<Paths, NoMemory>
     requires source { from.now ≡ prepared_of source.now }
     requires receiver { to.now ≡ receiver.now.h }
     ensures value { IfOk result (λ paths. ArePaths paths scene.now source.now receiver.now) }
     ensures range { IfOk result AreInRange }
-    ensures trace { OnOk result (workspace.new.trace ≡ trace_of scene.now source.now receiver.now) }
+    ensures trace { OnOk result (buffers.new.trace ≡ trace_of scene.now source.now receiver.now) }
 {
     let ends = Ends {
         s: source.at,
@@ -71,57 +71,57 @@ pub(crate) fn paths_between(
     };
     let path = Path::direct(source.at, source.h, receiver.at, receiver.h);
     let distance = distance(source.at, source.h, receiver.at, receiver.h);
-    scene.find_crossings(ends, &mut workspace.lines.found, &mut workspace.crossings)?;
+    scene.find_crossings(ends, &mut buffers.lines.found, &mut buffers.crossings)?;
     let square = direct_square(source.at, receiver.at);
     let powered = from.powered();
     let direct = between.along(
         &path,
         square,
         distance,
-        workspace.crossings.as_slice(),
+        buffers.crossings.as_slice(),
         &powered,
-        &mut workspace.lines.screening,
+        &mut buffers.lines.screening,
     )?;
-    find_others(&between, distance, workspace)?;
+    find_others(&between, distance, buffers)?;
     Ok(Paths {
         direct,
-        lateral: mem::replace(&mut workspace.lateral, Vec::new(alloc)),
-        reflected: mem::replace(&mut workspace.reflected, Vec::new(alloc)),
+        lateral: mem::replace(&mut buffers.lateral, Vec::new(alloc)),
+        reflected: mem::replace(&mut buffers.reflected, Vec::new(alloc)),
     })
 }
 
 /// Finds the paths round the sides of what crosses the line of sight, over a distance in metres, and those by way of walls,
-/// and the trace of all paths, in place of what the workspace held.
+/// and the trace of all paths, in place of what the buffers held.
 fn find_others(
     between: &Between<'_>,
     distance: Iv,
-    workspace: &mut Workspace,
+    buffers: &mut PathBuffers,
 ) -> Result<(), NoMemory>
     requires ends { FitsEnds between.now }
     requires distance { IsOnMap distance }
-    requires crossings { workspace.old.crossings.items
+    requires crossings { buffers.old.crossings.items
         ≡ crossings_of between.now.ends between.now.scene.now.obstacles }
     ensures lateral { OnOk result ((band : Band)
-        → both_of (lateral_of workspace.new.lateral.items band)
+        → both_of (lateral_of buffers.new.lateral.items band)
         ≡ d_z_over between.now.ends between.now.scene.now.obstacles distance band) }
-    ensures bounds { OnOk result (All IsLateralScreening workspace.new.lateral.items) }
-    ensures reflected { OnOk result (let book = between.now.scene.now in workspace.new.reflected.items
+    ensures bounds { OnOk result (All IsLateralScreening buffers.new.lateral.items) }
+    ensures reflected { OnOk result (let book = between.now.scene.now in buffers.new.reflected.items
         ≡ map (reflected_of book.globals between.now.from.now between.now.ends)
         (reflected_paths book between.now.ends)) }
-    ensures few { OnOk result (length workspace.new.reflected.items ≤ most_sides) }
-    ensures trace { OnOk result (workspace.new.trace
+    ensures few { OnOk result (length buffers.new.reflected.items ≤ most_sides) }
+    ensures trace { OnOk result (buffers.new.trace
         ≡ Straight between.now.ends.s between.now.ends.r
         ∷ (flat_map (segments_in_band between.now.ends between.now.scene.now.obstacles) all_bands
-        ++ map (λ path. path.wall) workspace.new.reflected.items)) }
+        ++ map (λ path. path.wall) buffers.new.reflected.items)) }
 {
-    let Workspace {
+    let PathBuffers {
         trace,
         crossings,
         lateral,
         strings,
         reflected,
         lines,
-    } = workspace;
+    } = buffers;
     let ends = between.ends;
     trace.clear();
     trace.push(Seg::Straight(ends.s, ends.r))?;

@@ -1,8 +1,9 @@
 use Rattle.std.proofs.Common.{◌≡◌, ◌+◌, ◌<◌, ◌≤◌, List, length, get_or, sym, ap, ◌∙◌, subst, arith}
 use Rattle.std.specs.Prelude.{All, count_by, slice_get, slice_set}
-use Rattle.std.proofs.lemmas.List.{take_all}
+use Rattle.std.proofs.lemmas.List.{take_all, length-map, get_or-map}
 use Rattle.scene_parts.specs.Views.{Source}
 use Rattle.path_calc.specs.Bundles.{Bundle}
+use Rattle.path_calc.specs.Prepared.{PreparedSource, prepared_of}
 use Rattle.path_cache.specs.declared.replacing.Replaced.{Replaced}
 use Rattle.path_cache.specs.declared.replacing.Replacing.{Replacing}
 use Rattle.path_cache.specs.Refreshed.{is_wanted, count_wanted}
@@ -13,6 +14,26 @@ use Rattle.path_cache.proofs.Standing.{as-many, counted, all-refreshed, one-want
 use Rattle.path_cache.proofs.replacing.replace_marked.Given.{Over}
 use Rattle.path_cache.proofs.replacing.replace_marked.Goals as goal
 use Rattle.path_cache.proofs.replacing.replace_marked.Goals.{After-calculated, then-marked+in_ok-bundle+in_ok-put, else-marked}
+
+-- each source is prepared
+pub bounds-renewal-place : goal.bounds-renewal-place
+bounds-renewal-place g c =
+    let book = c.args.renewal.now.scene.now in
+    let prepared = ap length c.args.renewal.now.of_sources ∙ length-map book.sources prepared_of in
+    omega (arith, c.loop-place-test.true, c.args.renewal.now.keeps.one_each, as-many book c.args.renewal.now.receiver.now c.args.renewal.now.kept.now c.requires.stand, prepared)
+
+pub calculated-requires : goal.calculated-requires
+calculated-requires g c =
+    let book = c.args.renewal.now.scene.now in
+    let i = c.loop-place.place in
+    let s = c.index-sources-place.result in
+    let from = c.index-renewal-place.result in
+    let below : i < length book.sources =
+    omega (arith, c.loop-place-test.true, c.args.renewal.now.keeps.one_each, as-many book c.args.renewal.now.receiver.now c.args.renewal.now.kept.now c.requires.stand) in
+    let s-is : s ≡ get_or book.sources i s = c.index-sources-place.is ∙ ap (λ (ss : List Source). get_or ss i s) c.sources-sources.ensures.value in
+    ap (λ (ps : List PreparedSource). get_or ps i from) c.args.renewal.now.of_sources
+    ∙ get_or-map prepared_of book.sources i s from below
+    ∙ ap prepared_of (sym s-is)
 
 -- with the step for a marked bundle no more are counted than are wanted
 no-more : (g : Over) (c : After-calculated g) → c.calculated.new.steps

@@ -81,7 +81,7 @@ returns-clause-trace c =
     let ends : there ≡ ends_of s r =
     ap (λ (s : Source). record { s = s.at; hs = s.h; r = c.receiver.inside.at; hr = c.receiver.inside.h }) c.source.view_is ∙ ap (λ (r : Receiver). ends_of s r) c.receiver.view_is in
     c.in_ok-find_others.ensures.trace
-    ∙ ap (λ (e : Ends). Straight e.s e.r ∷ (flat_map (segments_in_band e book.obstacles) all_bands ++ map (λ (path : Reflected). path.wall) c.find_others.new.workspace.reflected.items)) ends
+    ∙ ap (λ (e : Ends). Straight e.s e.r ∷ (flat_map (segments_in_band e book.obstacles) all_bands ++ map (λ (path : Reflected). path.wall) c.find_others.new.buffers.reflected.items)) ends
     ∙ ap (λ (found : List Reflected). Straight s.at r.at ∷ (flat_map (segments_in_band (ends_of s r) book.obstacles) all_bands ++ map (λ (path : Reflected). path.wall) found))
     (c.in_ok-find_others.ensures.reflected ∙ ap (λ (e : Ends). map (reflected_of book.globals c.args.from.now e) (reflected_paths book e)) ends)
     ∙ ap (λ (l : List Seg). Straight s.at r.at ∷ (flat_map (segments_in_band (ends_of s r) book.obstacles) all_bands ++ l))
