@@ -80,7 +80,7 @@ impl Reflected {
     {
         match self.echo {
             Echo::Silent => {}
-            Echo::Audible(sound) => sound.path.give_back(spare),
+            Echo::Audible(mut sound) => sound.path.give_back(spare),
         }
     }
 }

@@ -12,6 +12,7 @@ use part_grid::Found;
 use scene_parts::{Crossing, Edge, NoMemory};
 use std::alloc::Global;
 use std::marker::Model;
+use std::mem;
 use term_barrier::EdgeBuffers;
 
 /// How many items a list that is lent gets room for at first: few paths have more.
@@ -92,22 +93,17 @@ impl Workspace {
 
 impl PathBuffers {
     /// Takes back what was lent to paths that are no longer read.
-    pub(crate) fn take_back(&mut self, paths: Paths)
+    pub(crate) fn take_back(&mut self, paths: &mut Paths)
         ensures trace { self.new.trace ≡ self.old.trace }
         ensures reflected { self.new.reflected.items ≡ [] }
     {
-        let Paths {
-            direct,
-            lateral,
-            mut reflected,
-        } = paths;
         let spare = &mut self.lines.screening.spare;
-        direct.give_back(spare);
-        while let Some(path) = reflected.pop() {
+        paths.direct.give_back(spare);
+        while let Some(path) = paths.reflected.pop() {
             path.give_back(spare);
         }
-        self.lateral = lateral;
-        self.reflected = reflected;
+        mem::swap(&mut self.lateral, &mut paths.lateral);
+        mem::swap(&mut self.reflected, &mut paths.reflected);
     }
 }
 

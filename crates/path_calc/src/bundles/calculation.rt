@@ -113,9 +113,9 @@ fn calculated(
     ensures { IfOk result (λ bundle. bundle ≡ bundle_of scene.now source.now receiver.now) }
 {
     let name = Name::from_vec(source.name.items().to_vec(alloc)?);
-    let paths = paths_between(alloc, scene, source, from, receiver, to, buffers)?;
+    let mut paths = paths_between(alloc, scene, source, from, receiver, to, buffers)?;
     let energies = path_energies(&paths, from);
-    buffers.take_back(paths);
+    buffers.take_back(&mut paths);
     let segs = buffers.trace.copied(alloc)?;
     Ok(Bundle {
         source: name,

@@ -169,10 +169,10 @@ impl Propagation {
     }
 
     /// Gives the memory of quantities that are no longer read to those of other paths.
-    pub(crate) fn give_back(self, spare: &mut Vec<Box<[Iv; 8]>>)
+    #[inline(always)]
+    pub(crate) fn give_back(&mut self, spare: &mut Vec<Box<[Iv; 8]>>)
         ensures { vec_len spare.old ≤ vec_len spare.new }
     {
-        let Propagation { screening, .. } = self;
-        screening.give_back(spare);
+        self.screening.give_back(spare);
     }
 }

@@ -19,6 +19,7 @@ use scene_geom::Band;
 use scene_parts::{Crossing, Edge, NoMemory};
 use std::alloc::Global;
 use std::marker::Model;
+use std::mem;
 use term_barrier::Screens;
 
 /// A_bar of a path over the top in each band in dB (ISO 9613-2, 7.4): a path that nothing crosses keeps no values of eight
@@ -68,10 +69,12 @@ impl BarrierAttenuations {
     }
 
     /// Gives the memory of attenuations that are no longer read to others. Where there is no memory to note it, it is gone.
-    pub(crate) fn give_back(self, spare: &mut Vec<Box<[Iv; 8]>>)
+    #[inline(always)]
+    pub(crate) fn give_back(&mut self, spare: &mut Vec<Box<[Iv; 8]>>)
         ensures { vec_len spare.old ≤ vec_len spare.new }
     {
-        if let Some(memory) = self.bands {
+        let kept = mem::replace(self, BarrierAttenuations::none());
+        if let Some(memory) = kept.bands {
             if spare.is_empty() {
                 drop(spare.reserve(FIRST_ROOM));
             }
