@@ -10,7 +10,7 @@ use Rattle.scene_parts.specs.declared.kinds.Class.TheVariants as classes
 use Rattle.scene_book.specs.declared.edits.Edit.TheVariants as edits
 use Rattle.scene_book.specs.declared.edits.EditFault.{EditFault}
 use Rattle.scene_book.specs.declared.edits.EditFault.TheVariants.{Full}
-use Rattle.scene_book.specs.Limits.{most_sources, most_obstacles, most_sides, most_zones, most_foliage, most_receivers}
+use Rattle.scene_book.specs.Limits.{most_obstacles, most_sides, most_receivers}
 use Rattle.scene_book.specs.Lists.{put_all}
 use Rattle.scene_book.specs.Book.{Book, IsWithin, side_total, globals_with}
 use Rattle.scene_book.specs.Grid.{receivers_of}
@@ -129,33 +129,14 @@ set-accepts setting a = refl
 
 -- a scene within the limits has room for each part of it
 pub within-fits : (part : Part) (book : Book) → IsWithin book → in_limits part book ≡ fine
-within-fits (parts.Source s) book within = at_most-fits classes.Source most_sources (length book.sources) within.sources
 within-fits (parts.Obstacle o) book within =
     rw (at_most-fits classes.Obstacle most_obstacles (length book.obstacles) within.obstacles)
     (at_most-fits classes.Side most_sides (side_total book.obstacles) within.sides)
-within-fits (parts.Zone z) book within = at_most-fits classes.Zone most_zones (length book.zones) within.zones
-within-fits (parts.Foliage f) book within = at_most-fits classes.Foliage most_foliage (length book.foliage) within.foliage
-within-fits (parts.Receiver r) book within =
-    at_most-fits classes.Receiver most_receivers (length book.receivers) within.receivers
-
--- a scene is within the limits where each list is
-pub all-within : (book : Book) → length book.sources ≤ most_sources → length book.obstacles ≤ most_obstacles
-    → side_total book.obstacles ≤ most_sides → length book.zones ≤ most_zones → length book.foliage ≤ most_foliage
-    → length book.receivers ≤ most_receivers → IsWithin book
-all-within book s o sides z f r =
-    record { sources = s; obstacles = o; sides = sides; zones = z; foliage = f; receivers = r }
+within-fits part book within = search at_most-fits
 
 pub put-within : (part : Part) (a : Book) → IsWithin a → in_limits part (with_part part a) ≡ fine → IsWithin (with_part part a)
-put-within (parts.Source s) a h room =
-    all-within _ (at_most-ok classes.Source most_sources _ room) h.obstacles h.sides h.zones h.foliage h.receivers
 put-within (parts.Obstacle o) a h room =
     let after = (with_part (parts.Obstacle o) a).obstacles in
     let both = then-ok (at_most classes.Obstacle most_obstacles (length after)) (at_most classes.Side most_sides (side_total after)) tt room in
-    all-within _ h.sources (at_most-ok classes.Obstacle most_obstacles _ both.0) (at_most-ok classes.Side most_sides _ both.1)
-    h.zones h.foliage h.receivers
-put-within (parts.Zone z) a h room =
-    all-within _ h.sources h.obstacles h.sides (at_most-ok classes.Zone most_zones _ room) h.foliage h.receivers
-put-within (parts.Foliage f) a h room =
-    all-within _ h.sources h.obstacles h.sides h.zones (at_most-ok classes.Foliage most_foliage _ room) h.receivers
-put-within (parts.Receiver r) a h room =
-    all-within _ h.sources h.obstacles h.sides h.zones h.foliage (at_most-ok classes.Receiver most_receivers _ room)
+    omega (arith, h, at_most-ok classes.Obstacle most_obstacles _ both.0, at_most-ok classes.Side most_sides _ both.1)
+put-within part a h room = omega (arith, h, at_most-ok _ _ _ room)

@@ -6,18 +6,19 @@ use Rattle.scene_parts.specs.Sides.{sides_of}
 use Rattle.scene_parts.specs.Answers.{◌>>◌}
 use Rattle.scene_parts.specs.declared.parts.Part.{Part}
 use Rattle.scene_parts.specs.declared.parts.Part.TheVariants as parts
+use Rattle.scene_parts.specs.declared.kinds.Class.{Class}
 use Rattle.scene_parts.specs.declared.kinds.Class.TheVariants as classes
 use Rattle.scene_book.specs.declared.edits.Edit.TheVariants as edits
 use Rattle.scene_book.specs.declared.edits.EditFault.{EditFault}
-use Rattle.scene_book.specs.Limits.{most_sources, most_zones, most_foliage, most_receivers}
-use Rattle.scene_book.specs.Lists.{put_in, take_out, put_all, AreApart}
+use Rattle.scene_book.specs.Limits.{most_receivers}
+use Rattle.scene_book.specs.Lists.{named, put_in, take_out, put_all, AreApart}
 use Rattle.scene_book.specs.Book.{Book, NamesAreApart, globals_with}
 use Rattle.scene_book.specs.Grid.{receivers_of}
 use Rattle.scene_book.specs.Applying.{apply_of, put_of, put_where_room, remove_of, grid_of, own_class, holder, in_limits, at_most, all_own, taken, part_named, name_of, class_of, with_part, without, replaced}
 use Rattle.scene_book.specs.Orders.{Shuffled, SameParts}
 use Rattle.scene_undo.specs.Laws.{Agree, EditsAgree}
 use Rattle.scene_undo.proofs.Maps.{named-put, named-take, apart-put, apart-take, shuffled-alike, alike-shuffled, shuffled-length, shuffled-total}
-use Rattle.scene_undo.proofs.Spaces.{Found, first, SameFound, same-found}
+use Rattle.scene_undo.proofs.Spaces.{first, SameFound, named-same, same-found}
 use Rattle.scene_undo.proofs.Accepting.{left, puts_in}
 
 -- ---- lists
@@ -51,52 +52,32 @@ puts-shuffled name_of (new ∷ news) xs ys h apart =
 
 -- ---- scenes
 
--- scenes have the same parts where each list has
-all-shuffled : (a b : Book) → Shuffled a.sources b.sources → Shuffled a.obstacles b.obstacles → Shuffled a.zones b.zones
-    → Shuffled a.foliage b.foliage → Shuffled a.receivers b.receivers → b.globals ≡ a.globals → SameParts a b
-all-shuffled a b s o z f r globals =
-    record { sources = s; obstacles = o; zones = z; foliage = f; receivers = r; globals = globals }
-
 parts-put : (part : Part) (a b : Book) → SameParts a b → NamesAreApart a → SameParts (with_part part a) (with_part part b)
-parts-put (parts.Source s) a b h apart =
-    all-shuffled _ _ (put-shuffled (λ x. x.name) a.sources b.sources h.sources apart.sources s) h.obstacles h.zones h.foliage h.receivers h.globals
-parts-put (parts.Obstacle o) a b h apart =
-    all-shuffled _ _ h.sources (put-shuffled (λ x. x.name) a.obstacles b.obstacles h.obstacles apart.obstacles o) h.zones h.foliage h.receivers h.globals
-parts-put (parts.Zone z) a b h apart =
-    all-shuffled _ _ h.sources h.obstacles (put-shuffled (λ x. x.name) a.zones b.zones h.zones apart.zones z) h.foliage h.receivers h.globals
-parts-put (parts.Foliage f) a b h apart =
-    all-shuffled _ _ h.sources h.obstacles h.zones (put-shuffled (λ x. x.name) a.foliage b.foliage h.foliage apart.foliage f) h.receivers h.globals
-parts-put (parts.Receiver r) a b h apart =
-    all-shuffled _ _ h.sources h.obstacles h.zones h.foliage (put-shuffled (λ x. x.name) a.receivers b.receivers h.receivers apart.receivers r) h.globals
+parts-put (parts.Source s) a b h apart = search put-shuffled
+parts-put part a b h apart = search put-shuffled
 
 parts-take : (gone : List ℕ) (part : Part) (a b : Book) → SameParts a b → NamesAreApart a
     → SameParts (without gone part a) (without gone part b)
-parts-take gone (parts.Source s) a b h apart =
-    all-shuffled _ _ (take-shuffled (λ x. x.name) a.sources b.sources h.sources apart.sources gone) h.obstacles h.zones h.foliage h.receivers h.globals
-parts-take gone (parts.Obstacle o) a b h apart =
-    all-shuffled _ _ h.sources (take-shuffled (λ x. x.name) a.obstacles b.obstacles h.obstacles apart.obstacles gone) h.zones h.foliage h.receivers h.globals
-parts-take gone (parts.Zone z) a b h apart =
-    all-shuffled _ _ h.sources h.obstacles (take-shuffled (λ x. x.name) a.zones b.zones h.zones apart.zones gone) h.foliage h.receivers h.globals
-parts-take gone (parts.Foliage f) a b h apart =
-    all-shuffled _ _ h.sources h.obstacles h.zones (take-shuffled (λ x. x.name) a.foliage b.foliage h.foliage apart.foliage gone) h.receivers h.globals
-parts-take gone (parts.Receiver r) a b h apart =
-    all-shuffled _ _ h.sources h.obstacles h.zones h.foliage (take-shuffled (λ x. x.name) a.receivers b.receivers h.receivers apart.receivers gone) h.globals
+parts-take gone (parts.Source s) a b h apart = search take-shuffled
+parts-take gone part a b h apart = search take-shuffled
 
 -- no order changes what has room
+room-same : {A : Type 0} (class : Class) (most : ℕ) (xs ys : List A) → Shuffled xs ys
+    → at_most class most (length xs) ≡ at_most class most (length ys)
+room-same class most xs ys h = ap (at_most class most) (shuffled-length xs ys h)
+
 limits-same : (part : Part) (a b : Book) → SameParts a b → in_limits part a ≡ in_limits part b
-limits-same (parts.Source s) a b h = ap (at_most classes.Source most_sources) (shuffled-length a.sources b.sources h.sources)
 limits-same (parts.Obstacle o) a b h =
     rw (shuffled-length a.obstacles b.obstacles h.obstacles, shuffled-total (λ x. length (sides_of x)) a.obstacles b.obstacles h.obstacles) refl
-limits-same (parts.Zone z) a b h = ap (at_most classes.Zone most_zones) (shuffled-length a.zones b.zones h.zones)
-limits-same (parts.Foliage f) a b h = ap (at_most classes.Foliage most_foliage) (shuffled-length a.foliage b.foliage h.foliage)
-limits-same (parts.Receiver r) a b h = ap (at_most classes.Receiver most_receivers) (shuffled-length a.receivers b.receivers h.receivers)
+limits-same part a b h = search room-same
+
+found-in-same : {A : Type 0} (kind : A → Part) (name_of : A → List ℕ) (name : List ℕ) (xs ys : List A) → Shuffled xs ys → AreApart name_of xs
+    → option_map kind (named name_of name xs) ≡ option_map kind (named name_of name ys)
+found-in-same kind name_of name xs ys h apart = ap (option_map kind) (named-same name_of name xs ys h apart)
 
 replaced-same : (part : Part) (a b : Book) → SameParts a b → NamesAreApart a → replaced part a ≡ replaced part b
-replaced-same (parts.Source s) a b h apart = ap (λ (f : Found). option_map parts.Source f.0) ((same-found a b h apart).1 s.name)
-replaced-same (parts.Obstacle o) a b h apart = ap (λ (f : Found). option_map parts.Obstacle f.1) ((same-found a b h apart).1 o.name)
-replaced-same (parts.Zone z) a b h apart = ap (λ (f : Found). option_map parts.Zone f.2) ((same-found a b h apart).1 z.name)
-replaced-same (parts.Foliage g) a b h apart = ap (λ (f : Found). option_map parts.Foliage f.3) ((same-found a b h apart).1 g.name)
-replaced-same (parts.Receiver r) a b h apart = ap (λ (f : Found). option_map parts.Receiver f.4) ((same-found a b h apart).1 r.name)
+replaced-same (parts.Source s) a b h apart = search found-in-same
+replaced-same part a b h apart = search found-in-same
 
 found-alike : (a b : Book) → SameParts a b → NamesAreApart a → SameFound a b
 found-alike a b h apart name = ap first ((same-found a b h apart).1 name)
@@ -152,6 +133,6 @@ edits-agree (edits.Grid grid) a b apart h =
     (all_own-same a b (found-alike a b h apart) news)
     (agree-behind room-a room-b (left (puts_in news a) None) (left (puts_in news b) None)
     (ap (at_most classes.Receiver most_receivers) (shuffled-length (puts_in news a).receivers (puts_in news b).receivers after))
-    (all-shuffled _ _ h.sources h.obstacles h.zones h.foliage after h.globals, refl)))
+    (search (after, h), refl)))
 edits-agree (edits.Set setting) a b apart h =
-    (all-shuffled _ _ h.sources h.obstacles h.zones h.foliage h.receivers (ap (globals_with setting) h.globals), refl)
+    (search (h, ap (globals_with setting) h.globals), refl)

@@ -10,7 +10,6 @@ use Rattle.scene_book.specs.Book.{Book}
 use Rattle.scene_book.specs.Applying.{part_named, holder, own_class, all_own, with_part}
 use Rattle.scene_undo.proofs.Maps.{own_name}
 use Rattle.scene_undo.proofs.Spaces.{IsMap, Kin, kin-from, fine, put-found, put-map}
-use Rattle.scene_undo.proofs.Spaces.Kin.{receivers}
 use Rattle.scene_undo.proofs.Accepting.{then-ok, puts_in}
 
 -- no name of these receivers is borne by a part of another class
@@ -32,7 +31,7 @@ kin-more r a (s ∷ rest) map kin h =
     (subst (Kin (parts.Receiver s)) (sym (put-found (parts.Receiver r) a map.one kin s.name)) (by (bytes_eq s.name r.name)), kin-more r a rest map kin h.1)
   where
     by : (t : Bool) → Kin (parts.Receiver s) (cond t (Some (parts.Receiver r)) (part_named a s.name))
-    by true = receivers s r
+    by true = refl
     by false = h.0
 
 pub grid-map : (news : List Receiver) (a : Book) → IsMap a → AllKin a news → IsMap (puts_in news a)

@@ -8,18 +8,18 @@ use Rattle.scene_parts.specs.declared.parts.Part.{Part}
 use Rattle.scene_parts.specs.declared.parts.Part.TheVariants as parts
 use Rattle.scene_book.specs.declared.edits.Edit.TheVariants as edits
 use Rattle.scene_book.specs.Lists.{named, put_in, take_out, total}
-use Rattle.scene_book.specs.Book.{Book, IsWithin, empty_book, globals_with}
+use Rattle.scene_book.specs.Book.{Book, IsWithin, empty_book, globals_with, with_setting}
 use Rattle.scene_book.specs.Grid.{receivers_of}
 use Rattle.scene_book.specs.Applying.{name_of, with_part, without}
 use Rattle.scene_book.specs.Orders.{Shuffled, SameParts}
 use Rattle.scene_book.specs.Orders.Shuffled.{same, under, exchange, after}
 use Rattle.scene_book.proofs.ListLemmas.{length-take_out}
 use Rattle.scene_parts.specs.Sides.{sides_of}
-use Rattle.scene_undo.specs.Scenes.{IsZoneWithin, IsFoliageWithin, IsScene, IsEdit}
+use Rattle.scene_undo.specs.Scenes.{HasOneNameSpace, IsScene, IsEdit}
 use Rattle.scene_undo.specs.Laws.{SceneIsKept}
 use Rattle.scene_undo.proofs.Maps.{shuffled-length, shuffled-total}
-use Rattle.scene_undo.proofs.Spaces.{IsMap, all-apart, one-from, one-to, put-map, take-map, same-map}
-use Rattle.scene_undo.proofs.Accepting.{put-accepted, remove-accepted, grid-accepted, set-accepted, all-within, put-within, puts_in}
+use Rattle.scene_undo.proofs.Spaces.{IsMap, one-from, one-to, put-map, take-map, same-map}
+use Rattle.scene_undo.proofs.Accepting.{put-accepted, remove-accepted, grid-accepted, set-accepted, put-within, puts_in}
 use Rattle.scene_undo.proofs.Grids.{all-kin, grid-map}
 
 -- ---- what holds of every thing of a list
@@ -74,80 +74,24 @@ total-take name_of f gone (x ∷ xs) = by (bytes_eq gone (name_of x)) (total-tak
 -- ---- the limits
 
 take-within : (gone : List ℕ) (part : Part) (a : Book) → IsWithin a → IsWithin (without gone part a)
-take-within gone (parts.Source s) a h =
-    all-within _ (omega (arith, h.sources, length-take_out (λ x. x.name) gone a.sources)) h.obstacles h.sides h.zones h.foliage
-    h.receivers
 take-within gone (parts.Obstacle o) a h =
-    all-within _ h.sources
-    (omega (arith, h.obstacles, length-take_out (λ x. x.name) gone a.obstacles))
-    (omega (arith, h.sides, total-take (λ x. x.name) (λ x. length (sides_of x)) gone a.obstacles))
-    h.zones h.foliage h.receivers
-take-within gone (parts.Zone z) a h =
-    all-within _ h.sources h.obstacles h.sides (omega (arith, h.zones, length-take_out (λ x. x.name) gone a.zones)) h.foliage
-    h.receivers
-take-within gone (parts.Foliage f) a h =
-    all-within _ h.sources h.obstacles h.sides h.zones (omega (arith, h.foliage, length-take_out (λ x. x.name) gone a.foliage))
-    h.receivers
-take-within gone (parts.Receiver r) a h =
-    all-within _ h.sources h.obstacles h.sides h.zones h.foliage
-    (omega (arith, h.receivers, length-take_out (λ x. x.name) gone a.receivers))
+    omega (arith, h, length-take_out (λ x. x.name) gone a.obstacles, total-take (λ x. x.name) (λ x. length (sides_of x)) gone a.obstacles)
+take-within gone part a h = omega (arith, h, length-take_out)
 
 -- no order changes the counts
 pub same-within : (a b : Book) → SameParts a b → IsWithin a → IsWithin b
-same-within a b h within = record {
-  sources = omega (arith, within.sources, shuffled-length a.sources b.sources h.sources);
-  obstacles = omega (arith, within.obstacles, shuffled-length a.obstacles b.obstacles h.obstacles);
-  sides = omega (arith, within.sides, shuffled-total (λ x. length (sides_of x)) a.obstacles b.obstacles h.obstacles);
-  zones = omega (arith, within.zones, shuffled-length a.zones b.zones h.zones);
-  foliage = omega (arith, within.foliage, shuffled-length a.foliage b.foliage h.foliage);
-  receivers = omega (arith, within.receivers, shuffled-length a.receivers b.receivers h.receivers);
-}
+same-within a b h within =
+    omega (arith, within, h, shuffled-length, shuffled-total (λ x. length (sides_of x)) a.obstacles b.obstacles h.obstacles)
 
--- ---- zones, foliage and globals
-
-put-zones : (part : Part) (a : Book) → IsEdit (edits.Put part) → All IsZoneWithin a.zones → All IsZoneWithin (with_part part a).zones
-put-zones (parts.Zone z) a is all = all-put IsZoneWithin (λ x. x.name) z a.zones is all
-put-zones (parts.Source s) a is all = all
-put-zones (parts.Obstacle o) a is all = all
-put-zones (parts.Foliage f) a is all = all
-put-zones (parts.Receiver r) a is all = all
-
-put-foliage : (part : Part) (a : Book) → IsEdit (edits.Put part) → All IsFoliageWithin a.foliage
-    → All IsFoliageWithin (with_part part a).foliage
-put-foliage (parts.Foliage f) a is all = all-put IsFoliageWithin (λ x. x.name) f a.foliage is all
-put-foliage (parts.Source s) a is all = all
-put-foliage (parts.Obstacle o) a is all = all
-put-foliage (parts.Zone z) a is all = all
-put-foliage (parts.Receiver r) a is all = all
-
-take-zones : (gone : List ℕ) (part : Part) (a : Book) → All IsZoneWithin a.zones → All IsZoneWithin (without gone part a).zones
-take-zones gone (parts.Zone z) a all = all-take IsZoneWithin (λ x. x.name) gone a.zones all
-take-zones gone (parts.Source s) a all = all
-take-zones gone (parts.Obstacle o) a all = all
-take-zones gone (parts.Foliage f) a all = all
-take-zones gone (parts.Receiver r) a all = all
-
-take-foliage : (gone : List ℕ) (part : Part) (a : Book) → All IsFoliageWithin a.foliage
-    → All IsFoliageWithin (without gone part a).foliage
-take-foliage gone (parts.Foliage f) a all = all-take IsFoliageWithin (λ x. x.name) gone a.foliage all
-take-foliage gone (parts.Source s) a all = all
-take-foliage gone (parts.Obstacle o) a all = all
-take-foliage gone (parts.Zone z) a all = all
-take-foliage gone (parts.Receiver r) a all = all
+-- ---- globals
 
 pub put-globals : (part : Part) (a : Book) → (with_part part a).globals ≡ a.globals
 put-globals (parts.Source s) a = refl
-put-globals (parts.Obstacle o) a = refl
-put-globals (parts.Zone z) a = refl
-put-globals (parts.Foliage f) a = refl
-put-globals (parts.Receiver r) a = refl
+put-globals part a = refl
 
 pub take-globals : (gone : List ℕ) (part : Part) (a : Book) → (without gone part a).globals ≡ a.globals
 take-globals gone (parts.Source s) a = refl
-take-globals gone (parts.Obstacle o) a = refl
-take-globals gone (parts.Zone z) a = refl
-take-globals gone (parts.Foliage f) a = refl
-take-globals gone (parts.Receiver r) a = refl
+take-globals gone part a = refl
 
 either : (P : ℕ → Type 0) (given : Option ℕ) (old : ℕ) → IfSome given P → P old → P (unwrap_or given old)
 either P None old is was = was
@@ -166,80 +110,54 @@ pub scene-map : (a : Book) → IsScene a → IsMap a
 scene-map a is = record { apart = is.apart; one = one-from a is.one }
 
 pub empty-scene : IsScene empty_book
-empty-scene = record {
-  within = record {
-    sources = omega arith;
-    obstacles = omega arith;
-    sides = omega arith;
-    zones = omega arith;
-    foliage = omega arith;
-    receivers = omega arith;
-  };
-  apart = record { sources = tt; obstacles = tt; zones = tt; foliage = tt; receivers = tt };
-  one = λ name. omega arith;
-  zones = All-nil IsZoneWithin;
-  foliage = All-nil IsFoliageWithin;
-  globals = record {
-    reach = record { low = omega arith; high = omega arith };
-    ground_factor = omega arith;
-    c0 = omega arith;
-  };
-}
+empty-scene = search (All-nil, within, one, globals)
+  where
+    within : IsWithin empty_book
+    within = omega arith
+
+    one : HasOneNameSpace empty_book
+    one name = omega arith
+
+    globals : AreGlobals empty_book.globals
+    globals = omega arith
 
 -- a scene in another order is a scene
 pub scene-same : (a b : Book) → SameParts a b → IsScene a → IsScene b
 scene-same a b h is =
     let map = same-map a b h (scene-map a is) in
-    record {
-      within = same-within a b h is.within;
-      apart = map.0.apart;
-      one = one-to b map.0.one;
-      zones = all-shuffled IsZoneWithin a.zones b.zones h.zones is.zones;
-      foliage = all-shuffled IsFoliageWithin a.foliage b.foliage h.foliage is.foliage;
-      globals = subst AreGlobals (sym h.globals) is.globals;
-    }
+    search (same-within a b h is.within, map.0, one-to b map.0.one, all-shuffled, subst AreGlobals (sym h.globals) is.globals)
+
+-- a scene with a part put into it or taken out of it, where it is within the limits and each name is borne by one part alone
+scene-put : (part : Part) (a : Book) → IsEdit (edits.Put part) → IsScene a → IsWithin (with_part part a) → IsMap (with_part part a)
+    → IsScene (with_part part a)
+scene-put (parts.Source s) a is-edit is within map = search (one-to (with_part (parts.Source s) a) map.one)
+scene-put (parts.Obstacle o) a is-edit is within map = search (one-to (with_part (parts.Obstacle o) a) map.one)
+scene-put (parts.Receiver r) a is-edit is within map = search (one-to (with_part (parts.Receiver r) a) map.one)
+scene-put part a is-edit is within map = search (one-to (with_part part a) map.one, all-put)
+
+scene-taken : (gone : List ℕ) (part : Part) (a : Book) → IsScene a → IsWithin (without gone part a) → IsMap (without gone part a)
+    → IsScene (without gone part a)
+scene-taken gone (parts.Source s) a is within map = search (one-to (without gone (parts.Source s) a) map.one)
+scene-taken gone (parts.Obstacle o) a is within map = search (one-to (without gone (parts.Obstacle o) a) map.one)
+scene-taken gone (parts.Receiver r) a is within map = search (one-to (without gone (parts.Receiver r) a) map.one)
+scene-taken gone part a is within map = search (one-to (without gone part a) map.one, all-take)
 
 pub scene-kept : SceneIsKept
 scene-kept (edits.Put part) a b old is-edit is e =
     let put = put-accepted part a b old e in
-    let map : IsMap (with_part part a) = put-map part a (scene-map a is) put.kin in
-    subst IsScene put.made (record {
-      within = put-within part a is.within put.room;
-      apart = map.apart;
-      one = one-to (with_part part a) map.one;
-      zones = put-zones part a is-edit is.zones;
-      foliage = put-foliage part a is-edit is.foliage;
-      globals = subst AreGlobals (sym (put-globals part a)) is.globals;
-    })
+    subst IsScene put.made
+    (scene-put part a is-edit is (put-within part a is.within put.room) (put-map part a (scene-map a is) put.kin))
 scene-kept (edits.Remove name) a b old is-edit is e =
     let removed = remove-accepted name a b old e in
-    let map : IsMap (without name removed.part a) = take-map name removed.part a (scene-map a is) removed.found in
-    subst IsScene removed.made (record {
-      within = take-within name removed.part a is.within;
-      apart = map.apart;
-      one = one-to (without name removed.part a) map.one;
-      zones = take-zones name removed.part a is.zones;
-      foliage = take-foliage name removed.part a is.foliage;
-      globals = subst AreGlobals (sym (take-globals name removed.part a)) is.globals;
-    })
+    subst IsScene removed.made
+    (scene-taken name removed.part a is (take-within name removed.part a is.within)
+    (take-map name removed.part a (scene-map a is) removed.found))
 scene-kept (edits.Grid grid) a b old is-edit is e =
     let put = grid-accepted grid a b old e in
     let map : IsMap (puts_in (receivers_of grid) a) =
     grid-map (receivers_of grid) a (scene-map a is) (all-kin a (receivers_of grid) put.own) in
-    subst IsScene put.made (record {
-      within = all-within _ is.within.sources is.within.obstacles is.within.sides is.within.zones is.within.foliage put.room;
-      apart = map.apart;
-      one = one-to (puts_in (receivers_of grid) a) map.one;
-      zones = is.zones;
-      foliage = is.foliage;
-      globals = is.globals;
-    })
+    let within : IsWithin (puts_in (receivers_of grid) a) = omega (arith, is.within, put.room) in
+    subst IsScene put.made (search (within, map, one-to (puts_in (receivers_of grid) a) map.one, is))
 scene-kept (edits.Set setting) a b old is-edit is e =
-    subst IsScene (set-accepted setting a b old e) (record {
-      within = all-within _ is.within.sources is.within.obstacles is.within.sides is.within.zones is.within.foliage is.within.receivers;
-      apart = all-apart _ is.apart.sources is.apart.obstacles is.apart.zones is.apart.foliage is.apart.receivers;
-      one = is.one;
-      zones = is.zones;
-      foliage = is.foliage;
-      globals = set-globals setting a.globals is-edit is.globals;
-    })
+    let within : IsWithin (with_setting setting a) = omega (arith, is.within) in
+    subst IsScene (set-accepted setting a b old e) (search (within, is.one, set-globals setting a.globals is-edit is.globals, is))

@@ -1,7 +1,7 @@
 -- Scenes as maps: what a scene has under each name after a put and a removal, and that scenes which have the same under
 -- each name have the same parts.
 use Rattle.std.proofs.Common.{◌≡◌, ℕ, ◌≤◌, refl, sym, ap, subst, ◌∙◌, arith, Bool, true, false, cond, List, length, ◌++◌}
-use Rattle.std.specs.Prelude.{bytes_eq, Option, Some, None, option_map, Result, Ok, Err, if◌then◌else◌}
+use Rattle.std.specs.Prelude.{bytes_eq, ◌==◌, Option, Some, None, option_map, Result, Ok, Err, if◌then◌else◌}
 use Rattle.std.specs.Option.{option_or, option_to_list}
 use Rattle.scene_parts.specs.Views.{Source, Obstacle, Zone, Foliage, Receiver}
 use Rattle.scene_parts.specs.declared.parts.Part.{Part}
@@ -13,8 +13,8 @@ use Rattle.scene_parts.specs.declared.kinds.Class.TheVariants as classes
 use Rattle.scene_book.specs.declared.edits.EditFault.{EditFault}
 use Rattle.scene_book.specs.Lists.{named, AreApart}
 use Rattle.scene_book.specs.Book.{Book, NamesAreApart}
-use Rattle.scene_book.specs.Applying.{class_of, class_of_shape, same_class, own_class, part_named, name_of, with_part, without}
-use Rattle.scene_book.specs.Orders.{SameParts}
+use Rattle.scene_book.specs.Applying.{class_of, class_number, class_of_shape, same_class, own_class, part_named, name_of, with_part, without}
+use Rattle.scene_book.specs.Orders.{Shuffled, SameParts}
 use Rattle.scene_undo.specs.Scenes.{HasOneNameSpace}
 use Rattle.scene_undo.proofs.Maps.{one_name, named-put, named-take, apart-put, apart-take, shuffled-alike, alike-shuffled}
 
@@ -53,10 +53,7 @@ split (Some (parts.Receiver r)) = (None, None, None, None, Some r)
 first-split : (found : Option Part) → first (split found) ≡ found
 first-split None = refl
 first-split (Some (parts.Source s)) = refl
-first-split (Some (parts.Obstacle o)) = refl
-first-split (Some (parts.Zone z)) = refl
-first-split (Some (parts.Foliage f)) = refl
-first-split (Some (parts.Receiver r)) = refl
+first-split (Some part) = refl
 
 is-split : (lists : Found) (found : Option Part) → lists ≡ split found → lists ≡ split (first lists)
 is-split lists found e = e ∙ sym (ap (λ (f : Found). split (first f)) e ∙ ap split (first-split found))
@@ -73,29 +70,22 @@ bearers_of lists =
     ++ option_to_list (option_map parts.Foliage lists.3)
     ++ option_to_list (option_map parts.Receiver lists.4)
 
-alone : (ms : Option Source) (mo : Option Obstacle) (mz : Option Zone) (mf : Option Foliage) (mr : Option Receiver)
-    → length (bearers_of (ms, mo, mz, mf, mr)) ≤ 1 → (ms, mo, mz, mf, mr) ≡ split (first (ms, mo, mz, mf, mr))
-alone None None None None None h = refl
-alone None None None None (Some r) h = refl
-alone None None None (Some f) None h = refl
-alone None None (Some z) None None h = refl
-alone None (Some o) None None None h = refl
-alone (Some s) None None None None h = refl
-alone ms mo mz mf mr h = absurd (omega (arith, h))
+alone : (lists : Found) → length (bearers_of lists) ≤ 1 → lists ≡ split (first lists)
+alone (None, None, None, None, None) h = refl
+alone (None, None, None, None, Some r) h = refl
+alone (None, None, None, Some f, None) h = refl
+alone (None, None, Some z, None, None) h = refl
+alone (None, Some o, None, None, None) h = refl
+alone (Some s, None, None, None, None) h = refl
+alone lists h = absurd (omega (arith, h))
 
 few : (found : Option Part) → length (bearers_of (split found)) ≤ 1
 few None = omega arith
 few (Some (parts.Source s)) = omega arith
-few (Some (parts.Obstacle o)) = omega arith
-few (Some (parts.Zone z)) = omega arith
-few (Some (parts.Foliage f)) = omega arith
-few (Some (parts.Receiver r)) = omega arith
+few (Some part) = omega arith
 
 pub one-from : (book : Book) → HasOneNameSpace book → One book
-one-from book one name =
-    alone (named (λ s. s.name) name book.sources) (named (λ o. o.name) name book.obstacles)
-    (named (λ z. z.name) name book.zones) (named (λ f. f.name) name book.foliage) (named (λ r. r.name) name book.receivers)
-    (one name)
+one-from book one name = alone (found_in book name) (one name)
 
 pub one-to : (book : Book) → One book → HasOneNameSpace book
 one-to book one name =
@@ -104,21 +94,12 @@ one-to book one name =
 -- ---- parts of one class
 
 -- no part, or one of the same class
-pub data Kin : Part → Option Part → Type 0 where
-  free : (part : Part) → Kin part None
-  sources : (s t : Source) → Kin (parts.Source s) (Some (parts.Source t))
-  obstacles : (o q : Obstacle) → same_class (class_of_shape o.shape) (class_of_shape q.shape) ≡ true
-      → Kin (parts.Obstacle o) (Some (parts.Obstacle q))
-  zones : (z y : Zone) → Kin (parts.Zone z) (Some (parts.Zone y))
-  foliage : (f g : Foliage) → Kin (parts.Foliage f) (Some (parts.Foliage g))
-  receivers : (r q : Receiver) → Kin (parts.Receiver r) (Some (parts.Receiver q))
+abbrev pub Kin : Part → Option Part → Type 0
+Kin part None = Unit {0}
+Kin part (Some other) = same_class (class_of part) (class_of other) ≡ true
 
 abbrev pub fine : Result (Unit {0}) EditFault
 fine = Ok tt
-
-refused : {P : Type 0} (test : Bool) (fault : EditFault) → test ≡ false → (if test then fine else Err fault) ≡ fine → P
-refused true fault e h = cc
-refused false fault e h = cc
 
 -- a shape's class is no other part's
 shape-other : (class : Class) (shape : Shape) → same_class class classes.Barrier ≡ false → same_class class classes.Building ≡ false
@@ -131,12 +112,9 @@ other-shape : (class : Class) (shape : Shape) → same_class classes.Barrier cla
 other-shape class shapes.Barrier e h = e
 other-shape class shapes.Building e h = h
 
-shape-turned : (one other : Shape) → same_class (class_of_shape one) (class_of_shape other) ≡ true
-    → same_class (class_of_shape other) (class_of_shape one) ≡ true
-shape-turned shapes.Barrier shapes.Barrier e = refl
-shape-turned shapes.Barrier shapes.Building e = cc
-shape-turned shapes.Building shapes.Barrier e = cc
-shape-turned shapes.Building shapes.Building e = refl
+clash : {P : Type 0} (test : Bool) → test ≡ false → test ≡ true → P
+clash true e h = cc
+clash false e h = cc
 
 passed : (test : Bool) (fault : EditFault) → (if test then fine else Err fault) ≡ fine → test ≡ true
 passed true fault e = refl
@@ -144,124 +122,91 @@ passed false fault e = cc
 
 pub kin-from : (name : List ℕ) (part : Part) (found : Option Part)
     → own_class name (class_of part) (option_map class_of found) ≡ fine → Kin part found
-kin-from name part None e = free part
-kin-from name (parts.Source s) (Some (parts.Source t)) e = sources s t
-kin-from name (parts.Obstacle o) (Some (parts.Obstacle q)) e = obstacles o q (passed _ _ e)
-kin-from name (parts.Zone z) (Some (parts.Zone y)) e = zones z y
-kin-from name (parts.Foliage f) (Some (parts.Foliage g)) e = foliage f g
-kin-from name (parts.Receiver r) (Some (parts.Receiver q)) e = receivers r q
-kin-from name (parts.Obstacle o) (Some (parts.Source s)) e = refused _ _ (other-shape classes.Source o.shape refl refl) e
-kin-from name (parts.Obstacle o) (Some (parts.Zone z)) e = refused _ _ (other-shape classes.Zone o.shape refl refl) e
-kin-from name (parts.Obstacle o) (Some (parts.Foliage f)) e = refused _ _ (other-shape classes.Foliage o.shape refl refl) e
-kin-from name (parts.Obstacle o) (Some (parts.Receiver r)) e = refused _ _ (other-shape classes.Receiver o.shape refl refl) e
-kin-from name part (Some (parts.Obstacle o)) e = refused _ _ (shape-other (class_of part) o.shape refl refl) e
-kin-from name part (Some other) e = cc
+kin-from name part None e = tt
+kin-from name part (Some other) e = passed (same_class (class_of part) (class_of other)) _ e
 
 pub kin-owns : (name : List ℕ) (part : Part) (found : Option Part) → Kin part found
     → own_class name (class_of part) (option_map class_of found) ≡ fine
-kin-owns name _ _ (free part) = refl
-kin-owns name _ _ (sources s t) = refl
-kin-owns name _ _ (obstacles o q e) = rw e refl
-kin-owns name _ _ (zones z y) = refl
-kin-owns name _ _ (foliage f g) = refl
-kin-owns name _ _ (receivers r q) = refl
+kin-owns name part None kin = refl
+kin-owns name part (Some other) kin = rw kin refl
 
 abbrev pub KinBack : Part → Option Part → Type 0
 KinBack part None = Unit {0}
 KinBack part (Some other) = Kin other (Some part)
 
+equal-back : (n m : ℕ) → (n == m) ≡ true → (m == n) ≡ true
+equal-back n m e = grind arith
+
 pub kin-back : (part : Part) (found : Option Part) → Kin part found → KinBack part found
-kin-back _ _ (free part) = tt
-kin-back _ _ (sources s t) = sources t s
-kin-back _ _ (obstacles o q e) = obstacles q o (shape-turned o.shape q.shape e)
-kin-back _ _ (zones z y) = zones y z
-kin-back _ _ (foliage f g) = foliage g f
-kin-back _ _ (receivers r q) = receivers q r
+kin-back part None kin = tt
+kin-back part (Some other) kin = equal-back (class_number (class_of part)) (class_number (class_of other)) kin
+
+-- what the kin of a receiver is
+abbrev pub ReceiverOrNone : Option Part → Type 0
+ReceiverOrNone None = Unit {0}
+ReceiverOrNone (Some found) = (q : Receiver) × (found ≡ parts.Receiver q)
+
+pub receiver-kin : (r : Receiver) (found : Option Part) → Kin (parts.Receiver r) found → ReceiverOrNone found
+receiver-kin r None kin = tt
+receiver-kin r (Some (parts.Receiver q)) kin = (q, refl)
+receiver-kin r (Some (parts.Obstacle o)) kin = clash _ (shape-other classes.Receiver o.shape refl refl) kin
+receiver-kin r (Some other) kin = cc
 
 -- ---- a put and a removal
 
--- what stands in one list in the place of what stood there
-abbrev in_sources : Found → Option Source → Found
-in_sources lists found = (found, lists.1, lists.2, lists.3, lists.4)
-
-abbrev in_obstacles : Found → Option Obstacle → Found
-in_obstacles lists found = (lists.0, found, lists.2, lists.3, lists.4)
-
-abbrev in_zones : Found → Option Zone → Found
-in_zones lists found = (lists.0, lists.1, found, lists.3, lists.4)
-
-abbrev in_foliage : Found → Option Foliage → Found
-in_foliage lists found = (lists.0, lists.1, lists.2, found, lists.4)
-
-abbrev in_receivers : Found → Option Receiver → Found
-in_receivers lists found = (lists.0, lists.1, lists.2, lists.3, found)
+-- what a list has left of what it had, where something of it may be gone
+abbrev left_of : {A : Type 0} → Option A → Option A → Option A
+left_of None old = old
+left_of (Some gone) old = None
 
 -- a part in the place of its class
 abbrev with_slot : Part → Found → Found
-with_slot (parts.Source s) lists = in_sources lists (Some s)
-with_slot (parts.Obstacle o) lists = in_obstacles lists (Some o)
-with_slot (parts.Zone z) lists = in_zones lists (Some z)
-with_slot (parts.Foliage f) lists = in_foliage lists (Some f)
-with_slot (parts.Receiver r) lists = in_receivers lists (Some r)
+with_slot part lists =
+    let new = split (Some part) in
+    (option_or new.0 lists.0, option_or new.1 lists.1, option_or new.2 lists.2, option_or new.3 lists.3, option_or new.4 lists.4)
 
 abbrev without_slot : Part → Found → Found
-without_slot (parts.Source s) lists = in_sources lists None
-without_slot (parts.Obstacle o) lists = in_obstacles lists None
-without_slot (parts.Zone z) lists = in_zones lists None
-without_slot (parts.Foliage f) lists = in_foliage lists None
-without_slot (parts.Receiver r) lists = in_receivers lists None
+without_slot part lists =
+    let gone = split (Some part) in
+    (left_of gone.0 lists.0, left_of gone.1 lists.1, left_of gone.2 lists.2, left_of gone.3 lists.3, left_of gone.4 lists.4)
 
 free-slot : (part : Part) → with_slot part (split None) ≡ split (Some part)
 free-slot (parts.Source s) = refl
-free-slot (parts.Obstacle o) = refl
-free-slot (parts.Zone z) = refl
-free-slot (parts.Foliage f) = refl
-free-slot (parts.Receiver r) = refl
+free-slot part = refl
 
 kin-slot : (part : Part) (found : Option Part) → Kin part found → with_slot part (split found) ≡ split (Some part)
-kin-slot _ _ (free part) = free-slot part
-kin-slot _ _ (sources s t) = refl
-kin-slot _ _ (obstacles o q e) = refl
-kin-slot _ _ (zones z y) = refl
-kin-slot _ _ (foliage f g) = refl
-kin-slot _ _ (receivers r q) = refl
+kin-slot part None kin = free-slot part
+kin-slot (parts.Obstacle o) (Some (parts.Obstacle q)) kin = refl
+kin-slot (parts.Obstacle o) (Some other) kin = clash _ (other-shape (class_of other) o.shape refl refl) kin
+kin-slot part (Some (parts.Obstacle o)) kin = clash _ (shape-other (class_of part) o.shape refl refl) kin
+kin-slot (parts.Source s) (Some (parts.Source t)) kin = refl
+kin-slot part (Some other) kin = search
 
 left-slot : (part : Part) → without_slot part (split (Some part)) ≡ split None
 left-slot (parts.Source s) = refl
-left-slot (parts.Obstacle o) = refl
-left-slot (parts.Zone z) = refl
-left-slot (parts.Foliage f) = refl
-left-slot (parts.Receiver r) = refl
-
-at-slot : {A : Type 0} (in_list : A → Found) (t : Bool) (new old : A) → in_list (cond t new old) ≡ cond t (in_list new) (in_list old)
-at-slot in_list true new old = refl
-at-slot in_list false new old = refl
+left-slot part = refl
 
 found-put : (part : Part) (a : Book) (name : List ℕ)
     → found_in (with_part part a) name ≡ cond (bytes_eq name (name_of part)) (with_slot part (found_in a name)) (found_in a name)
-found-put (parts.Source s) a name =
-    rw (named-put (λ x. x.name) name s a.sources) (at-slot (in_sources (found_in a name)) (bytes_eq name s.name) (Some s) _)
-found-put (parts.Obstacle o) a name =
-    rw (named-put (λ x. x.name) name o a.obstacles) (at-slot (in_obstacles (found_in a name)) (bytes_eq name o.name) (Some o) _)
-found-put (parts.Zone z) a name =
-    rw (named-put (λ x. x.name) name z a.zones) (at-slot (in_zones (found_in a name)) (bytes_eq name z.name) (Some z) _)
-found-put (parts.Foliage f) a name =
-    rw (named-put (λ x. x.name) name f a.foliage) (at-slot (in_foliage (found_in a name)) (bytes_eq name f.name) (Some f) _)
-found-put (parts.Receiver r) a name =
-    rw (named-put (λ x. x.name) name r a.receivers) (at-slot (in_receivers (found_in a name)) (bytes_eq name r.name) (Some r) _)
+found-put part a name = by part (bytes_eq name (name_of part)) refl
+  where
+    by : (part : Part) (t : Bool) → bytes_eq name (name_of part) ≡ t
+        → found_in (with_part part a) name ≡ cond t (with_slot part (found_in a name)) (found_in a name)
+    by (parts.Source s) true e = simp (named-put, e)
+    by (parts.Source s) false e = simp (named-put, e)
+    by part true e = simp (named-put, e)
+    by part false e = simp (named-put, e)
 
 found-take : (gone : List ℕ) (part : Part) (a : Book) (name : List ℕ) → NamesAreApart a
     → found_in (without gone part a) name ≡ cond (bytes_eq name gone) (without_slot part (found_in a name)) (found_in a name)
-found-take gone (parts.Source s) a name apart =
-    rw (named-take (λ x. x.name) name gone a.sources apart.sources) (at-slot (in_sources (found_in a name)) (bytes_eq name gone) None _)
-found-take gone (parts.Obstacle o) a name apart =
-    rw (named-take (λ x. x.name) name gone a.obstacles apart.obstacles) (at-slot (in_obstacles (found_in a name)) (bytes_eq name gone) None _)
-found-take gone (parts.Zone z) a name apart =
-    rw (named-take (λ x. x.name) name gone a.zones apart.zones) (at-slot (in_zones (found_in a name)) (bytes_eq name gone) None _)
-found-take gone (parts.Foliage f) a name apart =
-    rw (named-take (λ x. x.name) name gone a.foliage apart.foliage) (at-slot (in_foliage (found_in a name)) (bytes_eq name gone) None _)
-found-take gone (parts.Receiver r) a name apart =
-    rw (named-take (λ x. x.name) name gone a.receivers apart.receivers) (at-slot (in_receivers (found_in a name)) (bytes_eq name gone) None _)
+found-take gone part a name apart = by part (bytes_eq name gone) refl
+  where
+    by : (part : Part) (t : Bool) → bytes_eq name gone ≡ t
+        → found_in (without gone part a) name ≡ cond t (without_slot part (found_in a name)) (found_in a name)
+    by (parts.Source s) true e = search (named-take, e)
+    by (parts.Source s) false e = search (named-take, e)
+    by part true e = search (named-take, e)
+    by part false e = search (named-take, e)
 
 -- what every scene keeps of its names
 pub record IsMap (book : Book) : Type 0 where
@@ -300,35 +245,13 @@ pub take-found : (gone : List ℕ) (part : Part) (a : Book) → IsMap a → part
     → part_named (without gone part a) name ≡ cond (bytes_eq name gone) None (part_named a name)
 take-found gone part a map is name = ap first (take-split gone part a map is name) ∙ first-split _
 
--- names are apart in a scene where they are in each list
-pub all-apart : (book : Book) → AreApart (λ s. s.name) book.sources → AreApart (λ o. o.name) book.obstacles
-    → AreApart (λ z. z.name) book.zones → AreApart (λ f. f.name) book.foliage → AreApart (λ r. r.name) book.receivers
-    → NamesAreApart book
-all-apart book s o z f r = record { sources = s; obstacles = o; zones = z; foliage = f; receivers = r }
-
 pub put-apart : (part : Part) (a : Book) → NamesAreApart a → NamesAreApart (with_part part a)
-put-apart (parts.Source s) a h =
-    all-apart _ (apart-put (λ x. x.name) s a.sources h.sources) h.obstacles h.zones h.foliage h.receivers
-put-apart (parts.Obstacle o) a h =
-    all-apart _ h.sources (apart-put (λ x. x.name) o a.obstacles h.obstacles) h.zones h.foliage h.receivers
-put-apart (parts.Zone z) a h =
-    all-apart _ h.sources h.obstacles (apart-put (λ x. x.name) z a.zones h.zones) h.foliage h.receivers
-put-apart (parts.Foliage f) a h =
-    all-apart _ h.sources h.obstacles h.zones (apart-put (λ x. x.name) f a.foliage h.foliage) h.receivers
-put-apart (parts.Receiver r) a h =
-    all-apart _ h.sources h.obstacles h.zones h.foliage (apart-put (λ x. x.name) r a.receivers h.receivers)
+put-apart (parts.Source s) a h = search apart-put
+put-apart part a h = search apart-put
 
 pub take-apart : (gone : List ℕ) (part : Part) (a : Book) → NamesAreApart a → NamesAreApart (without gone part a)
-take-apart gone (parts.Source s) a h =
-    all-apart _ (apart-take (λ x. x.name) gone a.sources h.sources) h.obstacles h.zones h.foliage h.receivers
-take-apart gone (parts.Obstacle o) a h =
-    all-apart _ h.sources (apart-take (λ x. x.name) gone a.obstacles h.obstacles) h.zones h.foliage h.receivers
-take-apart gone (parts.Zone z) a h =
-    all-apart _ h.sources h.obstacles (apart-take (λ x. x.name) gone a.zones h.zones) h.foliage h.receivers
-take-apart gone (parts.Foliage f) a h =
-    all-apart _ h.sources h.obstacles h.zones (apart-take (λ x. x.name) gone a.foliage h.foliage) h.receivers
-take-apart gone (parts.Receiver r) a h =
-    all-apart _ h.sources h.obstacles h.zones h.foliage (apart-take (λ x. x.name) gone a.receivers h.receivers)
+take-apart gone (parts.Source s) a h = search apart-take
+take-apart gone part a h = search apart-take
 
 pub put-map : (part : Part) (a : Book) → IsMap a → Kin part (part_named a (name_of part)) → IsMap (with_part part a)
 put-map part a map kin = record {
@@ -348,17 +271,22 @@ take-map gone part a map is = record {
 abbrev pub SameFound : Book → Book → Type 0
 SameFound a b = (name : List ℕ) → part_named a name ≡ part_named b name
 
+-- what stands apart in a list, and what it has under a name, in any order of it
+apart-same : {A : Type 0} (name_of : A → List ℕ) (xs ys : List A) → Shuffled xs ys → AreApart name_of xs → AreApart name_of ys
+apart-same name_of xs ys h apart = (shuffled-alike name_of xs ys h apart).0
+
+pub named-same : {A : Type 0} (name_of : A → List ℕ) (name : List ℕ) (xs ys : List A) → Shuffled xs ys → AreApart name_of xs
+    → named name_of name xs ≡ named name_of name ys
+named-same name_of name xs ys h apart = (shuffled-alike name_of xs ys h apart).1 name
+
+all-same : {A B C D E : Type 0} {a a' : A} {b b' : B} {c c' : C} {d d' : D} {e e' : E} → a ≡ a' → b ≡ b' → c ≡ c' → d ≡ d' → e ≡ e'
+    → ◌≡◌ {A = A × B × C × D × E} (a, b, c, d, e) (a', b', c', d', e')
+all-same p q r s t = λ i. (p i, q i, r i, s i, t i)
+
 pub same-found : (a b : Book) → SameParts a b → NamesAreApart a
     → NamesAreApart b × ((name : List ℕ) → found_in a name ≡ found_in b name)
 same-found a b h apart =
-    let sources = shuffled-alike (λ x. x.name) a.sources b.sources h.sources apart.sources in
-    let obstacles = shuffled-alike (λ x. x.name) a.obstacles b.obstacles h.obstacles apart.obstacles in
-    let zones = shuffled-alike (λ x. x.name) a.zones b.zones h.zones apart.zones in
-    let foliage = shuffled-alike (λ x. x.name) a.foliage b.foliage h.foliage apart.foliage in
-    let receivers = shuffled-alike (λ x. x.name) a.receivers b.receivers h.receivers apart.receivers in (
-      record { sources = sources.0; obstacles = obstacles.0; zones = zones.0; foliage = foliage.0; receivers = receivers.0 },
-      λ name. λ i. (sources.1 name i, obstacles.1 name i, zones.1 name i, foliage.1 name i, receivers.1 name i),
-    )
+    (search apart-same, λ name. all-same (search named-same) (search named-same) (search named-same) (search named-same) (search named-same))
 
 pub same-map : (a b : Book) → SameParts a b → IsMap a → IsMap b × SameFound a b
 same-map a b h map =
@@ -369,13 +297,7 @@ same-map a b h map =
 
 pub found-same : (a b : Book) → IsMap a → IsMap b → SameFound a b → b.globals ≡ a.globals → SameParts a b
 found-same a b map other found globals =
-    let lists : (name : List ℕ) → found_in a name ≡ found_in b name =
-    λ name. map.one name ∙ ap split (found name) ∙ sym (other.one name) in
-    record {
-      sources = alike-shuffled (λ x. x.name) a.sources b.sources map.apart.sources other.apart.sources (λ name. ap (λ (f : Found). f.0) (lists name));
-      obstacles = alike-shuffled (λ x. x.name) a.obstacles b.obstacles map.apart.obstacles other.apart.obstacles (λ name. ap (λ (f : Found). f.1) (lists name));
-      zones = alike-shuffled (λ x. x.name) a.zones b.zones map.apart.zones other.apart.zones (λ name. ap (λ (f : Found). f.2) (lists name));
-      foliage = alike-shuffled (λ x. x.name) a.foliage b.foliage map.apart.foliage other.apart.foliage (λ name. ap (λ (f : Found). f.3) (lists name));
-      receivers = alike-shuffled (λ x. x.name) a.receivers b.receivers map.apart.receivers other.apart.receivers (λ name. ap (λ (f : Found). f.4) (lists name));
-      globals = globals;
-    }
+    search (alike-shuffled, both (λ f. f.0), both (λ f. f.1), both (λ f. f.2), both (λ f. f.3), both (λ f. f.4), globals)
+  where
+    both : {A : Type 0} (list : Found → A) (name : List ℕ) → list (found_in a name) ≡ list (found_in b name)
+    both list name = ap list (map.one name ∙ ap split (found name) ∙ sym (other.one name))

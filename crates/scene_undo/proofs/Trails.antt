@@ -1,56 +1,34 @@
 -- Edits undone one after the other, the last first.
-use Rattle.std.proofs.Common.{◌≡◌, ℕ, refl, sym, ap, subst, ◌∙◌, List, [], ◌∷◌, ◌++◌}
-use Rattle.std.specs.Prelude.{Option, Some, None, Result, Ok, Err, All, map, slice_index_or}
+use Rattle.std.proofs.Common.{◌≡◌, ℕ, refl, sym, subst, ◌∙◌, List, [], ◌∷◌, ◌++◌}
+use Rattle.std.specs.Prelude.{Option, Some, None, IfSome, Result, Ok, Err, All, map, slice_index_or}
 use Rattle.std.proofs.lemmas.List.Elements.{All-nil, All-cons, All-head, All-tail, All-map}
 use Rattle.scene_parts.specs.Answers.{◌>>=◌}
 use Rattle.scene_parts.specs.declared.parts.Part.{Part}
-use Rattle.scene_parts.specs.declared.parts.Part.TheVariants as parts
 use Rattle.scene_book.specs.declared.edits.Edit.{Edit}
 use Rattle.scene_book.specs.declared.edits.Edit.TheVariants as edits
 use Rattle.scene_book.specs.declared.edits.EditFault.{EditFault}
+use Rattle.scene_book.specs.Lists.{named}
 use Rattle.scene_book.specs.Book.{Book}
 use Rattle.scene_book.specs.Applying.{apply_of, applied, part_named}
 use Rattle.scene_book.specs.Orders.{SameParts}
 use Rattle.scene_book.specs.Orders.Shuffled.{same, after}
 use Rattle.scene_undo.specs.Inverse.{names_in, put_back, inverse_of, setting_of}
-use Rattle.scene_undo.specs.Scenes.{IsZoneWithin, IsFoliageWithin, IsScene, IsEdit}
+use Rattle.scene_undo.specs.Scenes.{IsScene, IsEdit}
 use Rattle.scene_undo.specs.Laws.{LeadTo, InverseIsOfEdits, Entry, IsTrail, inverses_of, TrailLaw}
 use Rattle.scene_undo.proofs.Maps.{turned}
-use Rattle.scene_undo.proofs.Spaces.{Found, split}
-use Rattle.scene_undo.proofs.Kept.{all-found, scene-map, scene-kept}
-use Rattle.scene_undo.proofs.Undoing.{undo}
+use Rattle.scene_undo.proofs.Kept.{all-found, scene-kept}
+use Rattle.scene_undo.proofs.Undoing.{either-is, of-kind, undo}
 
 -- ---- the same parts
 
 pub same-parts : (a : Book) → SameParts a a
-same-parts a = record {
-  sources = same a.sources;
-  obstacles = same a.obstacles;
-  zones = same a.zones;
-  foliage = same a.foliage;
-  receivers = same a.receivers;
-  globals = refl;
-}
+same-parts a = search same
 
 pub same-parts-turned : (a b : Book) → SameParts a b → SameParts b a
-same-parts-turned a b h = record {
-  sources = turned a.sources b.sources h.sources;
-  obstacles = turned a.obstacles b.obstacles h.obstacles;
-  zones = turned a.zones b.zones h.zones;
-  foliage = turned a.foliage b.foliage h.foliage;
-  receivers = turned a.receivers b.receivers h.receivers;
-  globals = sym h.globals;
-}
+same-parts-turned a b h = search (turned, sym h.globals)
 
 pub same-parts-on : (a b c : Book) → SameParts a b → SameParts b c → SameParts a c
-same-parts-on a b c h k = record {
-  sources = after h.sources k.sources;
-  obstacles = after h.obstacles k.obstacles;
-  zones = after h.zones k.zones;
-  foliage = after h.foliage k.foliage;
-  receivers = after h.receivers k.receivers;
-  globals = k.globals ∙ h.globals;
-}
+same-parts-on a b c h k = search (after, k.globals ∙ h.globals)
 
 -- ---- edits in a row
 
@@ -100,20 +78,26 @@ trail (entry ∷ earlier) start top h =
 
 -- ---- the ranges of an inverse
 
-put_back-edit : (a : Book) → IsScene a → (name : List ℕ) → IsEdit (put_back name (part_named a name))
-put_back-edit a is name = by (part_named a name) refl
+found-in-range : {A : Type 0} (P : A → Type 0) (name_of : A → List ℕ) (name : List ℕ) (xs : List A) → All P xs → IfSome (named name_of name xs) P
+found-in-range {A = A} P name_of name xs all = by (named name_of name xs) refl
   where
-    by : (found : Option Part) → part_named a name ≡ found → IsEdit (put_back name found)
+    by : (found : Option A) → named name_of name xs ≡ found → IfSome found P
     by None e = tt
-    by (Some (parts.Source s)) e = tt
-    by (Some (parts.Obstacle o)) e = tt
-    by (Some (parts.Zone z)) e =
-        all-found IsZoneWithin (λ x. x.name) name z a.zones
-        (ap (λ (f : Found). f.2) ((scene-map a is).one name ∙ ap split e)) is.zones
-    by (Some (parts.Foliage g)) e =
-        all-found IsFoliageWithin (λ x. x.name) name g a.foliage
-        (ap (λ (f : Found). f.3) ((scene-map a is).one name ∙ ap split e)) is.foliage
-    by (Some (parts.Receiver r)) e = tt
+    by (Some x) e = all-found P name_of name x xs e all
+
+rangeless : {A : Type 0} (found : Option A) → IfSome found (λ x. Unit {0})
+rangeless None = tt
+rangeless (Some x) = tt
+
+put_back-edit : (a : Book) → IsScene a → (name : List ℕ) → IsEdit (put_back name (part_named a name))
+put_back-edit a is name = by (part_named a name) in-range
+  where
+    in-range : IfSome (part_named a name) (λ part. IsEdit (edits.Put part))
+    in-range = search (either-is, of-kind, found-in-range, rangeless) depth 9
+
+    by : (found : Option Part) → IfSome found (λ part. IsEdit (edits.Put part)) → IsEdit (put_back name found)
+    by None is = tt
+    by (Some part) is = is
 
 names-edits : (a : Book) → IsScene a → (names : List (List ℕ)) → All IsEdit (map (λ name. put_back name (part_named a name)) names)
 names-edits a is names =

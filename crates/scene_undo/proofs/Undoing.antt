@@ -1,6 +1,7 @@
 -- What undoes an edit.
 use Rattle.std.proofs.Common.{◌≡◌, ℕ, ◌≤◌, refl, sym, ap, subst, ◌∙◌, arith, Bool, true, false, cond, List, [], ◌∷◌, length}
-use Rattle.std.specs.Prelude.{bytes_eq, Option, Some, None, map}
+use Rattle.std.specs.Prelude.{bytes_eq, Option, Some, None, option_map, IfSome, map}
+use Rattle.std.specs.Option.{option_or}
 use Rattle.scene_parts.specs.Views.{Receiver, Grid}
 use Rattle.scene_parts.specs.declared.parts.Part.{Part}
 use Rattle.scene_parts.specs.declared.parts.Part.TheVariants as parts
@@ -19,23 +20,34 @@ use Rattle.scene_undo.specs.Inverse.{put_back, setting_of}
 use Rattle.scene_undo.specs.Scenes.{IsGridWithin}
 use Rattle.scene_undo.specs.Laws.{LeadTo, UndoLaw}
 use Rattle.scene_undo.proofs.Maps.{one_name, own_name, other_way, found-name, shuffled-length}
-use Rattle.scene_undo.proofs.Spaces.{IsMap, One, Found, split, found_in, Kin, kin-back, fine, put-found, put-map, take-found, take-map, SameFound, same-map, found-same}
-use Rattle.scene_undo.proofs.Spaces.Kin.{free, sources, obstacles, zones, foliage, receivers}
+use Rattle.scene_undo.proofs.Spaces.{IsMap, One, Found, split, Kin, kin-back, ReceiverOrNone, receiver-kin, fine, put-found, put-map, take-found, take-map, SameFound, same-map, found-same}
 use Rattle.scene_undo.proofs.Accepting.{left, put-accepted, put-accepts, remove-accepted, remove-accepts, grid-accepted, set-accepted, set-accepts, within-fits, puts_in, at_most-fits}
 use Rattle.scene_undo.proofs.Grids.{AllKin, AtReceiver, AllThere, all-kin, grid-map, grid-other, grid-there}
 use Rattle.scene_undo.proofs.Kept.{put-globals, take-globals, same-within, scene-map}
 
 -- ---- the part that a name finds bears it
 
-pub part-name : (name : List ℕ) (part : Part) (a : Book) → One a → part_named a name ≡ Some part → name ≡ name_of part
-part-name name part a one is = by part (one name ∙ ap split is)
+found-bears : {A : Type 0} (name_of : A → List ℕ) (name : List ℕ) (xs : List A) → IfSome (named name_of name xs) (λ x. name ≡ name_of x)
+found-bears {A = A} name_of name xs = by (named name_of name xs) refl
   where
-    by : (part : Part) → found_in a name ≡ split (Some part) → name ≡ name_of part
-    by (parts.Source s) e = found-name (λ x. x.name) name s a.sources (ap (λ (f : Found). f.0) e)
-    by (parts.Obstacle o) e = found-name (λ x. x.name) name o a.obstacles (ap (λ (f : Found). f.1) e)
-    by (parts.Zone z) e = found-name (λ x. x.name) name z a.zones (ap (λ (f : Found). f.2) e)
-    by (parts.Foliage g) e = found-name (λ x. x.name) name g a.foliage (ap (λ (f : Found). f.3) e)
-    by (parts.Receiver r) e = found-name (λ x. x.name) name r a.receivers (ap (λ (f : Found). f.4) e)
+    by : (found : Option A) → named name_of name xs ≡ found → IfSome found (λ x. name ≡ name_of x)
+    by None e = tt
+    by (Some x) e = found-name name_of name x xs e
+
+module _ (P : Part → Type 0) where
+  pub either-is : (one other : Option Part) → IfSome one P → IfSome other P → IfSome (option_or one other) P
+  either-is None other is too = too
+  either-is (Some part) other is too = is
+
+  pub of-kind : {A : Type 0} (kind : A → Part) (found : Option A) → IfSome found (λ x. P (kind x)) → IfSome (option_map kind found) P
+  of-kind kind None is = tt
+  of-kind kind (Some x) is = is
+
+pub part-name : (name : List ℕ) (part : Part) (a : Book) → One a → part_named a name ≡ Some part → name ≡ name_of part
+part-name name part a one is = subst (λ found. IfSome found (λ p. name ≡ name_of p)) is bears
+  where
+    bears : IfSome (part_named a name) (λ p. name ≡ name_of p)
+    bears = search (either-is, of-kind, found-bears) depth 9
 
 -- ---- one edit, and the rest
 
@@ -126,23 +138,6 @@ given-back name a b within map other globals others can = by (part_named a name)
 
 -- ---- a grid
 
--- what a receiver's name may find is a receiver
-abbrev ReceiverKin : Option Part → Part → Type 0
-ReceiverKin None part = Unit {0}
-ReceiverKin (Some found) (parts.Receiver r) = AtReceiver (Some found)
-ReceiverKin (Some found) (parts.Source s) = Unit {0}
-ReceiverKin (Some found) (parts.Obstacle o) = Unit {0}
-ReceiverKin (Some found) (parts.Zone z) = Unit {0}
-ReceiverKin (Some found) (parts.Foliage f) = Unit {0}
-
-receiver-kin : (part : Part) (found : Option Part) → Kin part found → ReceiverKin found part
-receiver-kin _ _ (free part) = tt
-receiver-kin _ _ (sources s t) = tt
-receiver-kin _ _ (obstacles o q e) = tt
-receiver-kin _ _ (zones z y) = tt
-receiver-kin _ _ (foliage f g) = tt
-receiver-kin _ _ (receivers r q) = (q, refl)
-
 -- the receiver of a name that finds one
 receiver-there : (name : List ℕ) (s : Receiver) (b : Book) → One b → part_named b name ≡ Some (parts.Receiver s)
     → named (λ r. r.name) name b.receivers ≡ Some s
@@ -157,7 +152,7 @@ put-step : (name : List ℕ) (q : Receiver) (a b : Book) → IsMap a → IsMap b
 put-step name q a b map other is there room =
     let bears : name ≡ q.name = part-name name (parts.Receiver q) a map.one is in
     let found : part_named b q.name ≡ Some (parts.Receiver there.0) = ap (part_named b) (sym bears) ∙ there.1 in
-    let owns : Kin (parts.Receiver q) (part_named b q.name) = subst (Kin (parts.Receiver q)) (sym found) (receivers q there.0) in
+    let owns : Kin (parts.Receiver q) (part_named b q.name) = subst (Kin (parts.Receiver q)) (sym found) refl in
     let as_long : length (put_in (λ r. r.name) q b.receivers) ≡ length b.receivers =
     length-put_in-there (λ r. r.name) q there.0 b.receivers (receiver-there q.name there.0 b other.one found) in
     let fits : length (put_in (λ r. r.name) q b.receivers) ≤ most_receivers = omega (arith, as_long, room) in (
@@ -178,13 +173,13 @@ take-step name a b other is there room = (
 grid-step : (r : Receiver) (a b : Book) → IsMap a → IsMap b → Kin (parts.Receiver r) (part_named a r.name)
     → AtReceiver (part_named b r.name) → length b.receivers ≤ most_receivers
     → Step r.name (put_back r.name (part_named a r.name)) a b
-grid-step r a b map other kin there room = by (part_named a r.name) refl (receiver-kin (parts.Receiver r) (part_named a r.name) kin)
+grid-step r a b map other kin there room = by (part_named a r.name) refl (receiver-kin r (part_named a r.name) kin)
   where
-    by : (was : Option Part) → part_named a r.name ≡ was → ReceiverKin was (parts.Receiver r) → Step r.name (put_back r.name was) a b
+    by : (was : Option Part) → part_named a r.name ≡ was → ReceiverOrNone was → Step r.name (put_back r.name was) a b
     by None is h = take-step r.name a b other is there room
     by (Some part) is h =
-        subst (λ (was : Option Part). Step r.name (put_back r.name was) a b) (sym h.1)
-        (put-step r.name h.0 a b map other (is ∙ h.1) there room)
+        subst (λ (was : Part). Step r.name (put_back r.name (Some was)) a b) (sym h.1)
+        (put-step r.name h.0 a b map other (is ∙ ap Some h.1) there room)
 
 -- receivers stay under names that an edit doesn't change
 there-kept : (name : List ℕ) (news : List Receiver) (b next : Book)
@@ -263,7 +258,7 @@ undo (edits.Remove name) a b c old is-edit is e same =
     (same.globals ∙ ap (λ (x : Book). x.globals) (sym removed.made) ∙ take-globals name removed.part a)
     (λ other apart. found other ∙ rw apart refl)
     (subst (λ (was : Option Part). CanGiveBack was (part_named b name)) (sym removed.found)
-    (subst (Kin removed.part) (sym gone) (free removed.part)))
+    (subst (Kin removed.part) (sym gone) tt))
 undo (edits.Grid grid) a b c old is-edit is e same =
     let put = grid-accepted grid a c old e in
     let map = scene-map a is in
@@ -280,15 +275,4 @@ undo (edits.Set setting) a b c old is-edit is e same =
     let made = set-accepted setting a c old e in
     let here : SameParts (with_setting setting a) b = subst (λ (x : Book). SameParts x b) (sym made) same in
     lead-on a (edits.Set (setting_of a.globals)) [] b (with_setting (setting_of a.globals) b) None
-    (set-accepts (setting_of a.globals) b) (
-      with_setting (setting_of a.globals) b,
-      refl,
-      record {
-        sources = here.sources;
-        obstacles = here.obstacles;
-        zones = here.zones;
-        foliage = here.foliage;
-        receivers = here.receivers;
-        globals = refl;
-      },
-    )
+    (set-accepts (setting_of a.globals) b) (with_setting (setting_of a.globals) b, refl, search here)
