@@ -1,6 +1,6 @@
 #!/bin/bash
-# Prints what the first settle of dense sites costs: instructions a path (a source and a receiver within reach) of the whole
-# program with --bands by `valgrind --tool=callgrind`, where it is there, and milliseconds; both less those of the same input
+# Prints what the first settle of dense sites costs: instructions and allocations a path (a source and a receiver within reach)
+# of the whole program with --bands by `valgrind`, where it is there, and milliseconds; each less those of the same input
 # without the settle. Then the instructions of other work, each less those of the same input without it.
 set -e
 . "$(dirname "$0")/timing.sh"
@@ -63,6 +63,14 @@ instructions() {
         sed -n 's/.*Collected : //p'
 }
 
+# allocations INPUT WORD..: how often a run over a file, with these words, asks for memory.
+allocations() {
+    input=$1
+    shift
+    valgrind --leak-check=no "$program" "$@" < "$input" 2>&1 > /dev/null |
+        sed -n 's/.*total heap usage: \([0-9,]*\) allocs.*/\1/p' | tr -d ,
+}
+
 # row SOURCES RECEIVERS OBSTACLES HALF KIND: one line of the table.
 row() {
     dense "$@" > "$work/site"
@@ -70,11 +78,13 @@ row() {
     tail -n +2 "$work/site" > "$work/scene"
     { cat "$work/scene"; echo '{"do":"settle"}'; } > "$work/settled"
     spent=$(settle_time "$work/scene")
-    counted=-
+    counted=- asked=-
     if command -v valgrind > /dev/null; then
         counted=$((($(instructions "$work/settled" --bands) - $(instructions "$work/scene" --bands)) / paths))
+        tenths=$((($(allocations "$work/settled" --bands) - $(allocations "$work/scene" --bands)) * 10 / paths))
+        asked=$((tenths / 10)).$((tenths % 10))
     fi
-    printf '%7d  %9d  %9d  %7d  %10s  %6d  %19s  %9d\n' "$1" "$2" "$3" "$(($4 / 500))" "$5" "$paths" "$counted" "$spent"
+    printf '%7d  %9d  %9d  %7d  %10s  %6d  %19s  %18s  %9d\n' "$1" "$2" "$3" "$(($4 / 500))" "$5" "$paths" "$counted" "$asked" "$spent"
 }
 
 # beside WHAT COUNT WORD..: a line of the second table: the instructions of $work/after less those of $work/before, by so many.
@@ -85,7 +95,7 @@ beside() {
 }
 
 program=$root/crates/noise_map/out/noise_map
-echo 'sources  receivers  obstacles  metres        kind   paths  instructions a path  settle ms'
+echo 'sources  receivers  obstacles  metres        kind   paths  instructions a path  allocations a path  settle ms'
 row 16 64 500 500000 half
 row 4 16 1024 1000000 reflect
 row 8 64 200 500000 pairs
