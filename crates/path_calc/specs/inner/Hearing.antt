@@ -36,6 +36,8 @@ use Rattle.path_calc.specs.declared.reflected.Echo.TheVariants.{Silent, Audible}
 use Rattle.path_calc.specs.declared.reflected.Sound.{Sound}
 use Rattle.path_calc.specs.inner.Propagations.{Reflected, counts_at}
 use Rattle.path_calc.specs.inner.Losses.{loss_in, losses_along}
+use Rattle.path_calc.specs.inner.BarrierAttenuations.{no_attenuations}
+use Rattle.path_calc.specs.inner.Ends.{direct_path_of}
 use Rattle.path_calc.specs.declared.energies.paths.Paths.{Paths}
 use Rattle.path_calc.specs.Absorption.{coefficient_in}
 use Rattle.path_calc.specs.Lengths.{distance, reflected_distance}
@@ -104,6 +106,30 @@ propagation_over globals foliage path square d grounds edges asked = record {
 abbrev pub grounds_along : Globals → List Zone → Path → Interval → List Interval
 grounds_along globals zones path d =
     map enc (ground_along globals.method zones globals.g path (Known path.dp) (Known d))
+
+-- what the bands share of a path of a scene that is screened by these attenuations
+abbrev pub propagation_past : Book → Path → Frac → Interval → List Interval → Propagation
+propagation_past book path square d screening = record {
+  air = book.globals.air;
+  distance = d;
+  divergence = enc (divergence (Known d));
+  grounds = grounds_along book.globals book.zones path d;
+  omega = omega_along book.globals.method path (square_form square);
+  screening = screening;
+  foliage = losses_along book.foliage path d;
+  correction = enc (correction (Known path.dp) path.hs path.hr book.globals.c0);
+}
+
+-- what the bands share of the direct path between two ends of a scene, as it is in the open
+abbrev pub open_path : Book → Ends → Propagation
+open_path book ends =
+    propagation_past book (direct_path_of ends) (over (pos (plan_square ends.s ends.r)) (pos 1))
+    (enc (distance ends.s ends.hs ends.r ends.hr))
+    no_attenuations
+
+-- the same of a path that is screened by these
+abbrev pub screened_by : Propagation → List Interval → Propagation
+screened_by propagation screening = record propagation { screening = screening }
 
 -- what the bands share of a path of a scene, where these sides cross it and these bands are asked for
 abbrev pub propagation_along : Book → Path → Frac → Interval → List Crossing → (Band → Bool) → Propagation

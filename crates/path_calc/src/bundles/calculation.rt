@@ -7,8 +7,9 @@ ghost use Rattle.path_calc.specs.Prepared.{prepared_of};
 
 use crate::bundles::Bundle;
 use crate::bundles::steps::Steps;
+use crate::direct::propagation::Between;
 use crate::energies::path_energies;
-use crate::energies::paths::paths_between;
+use crate::energies::paths::Paths;
 use crate::indexed::IndexedScene;
 use crate::prepared::{PreparedReceiver, PreparedSource};
 use crate::workspace::{PathBuffers, Workspace};
@@ -113,7 +114,10 @@ fn calculated(
     ensures { IfOk result (λ bundle. bundle ≡ bundle_of scene.now source.now receiver.now) }
 {
     let name = Name::from_vec(source.name.items().to_vec(alloc)?);
-    let mut paths = paths_between(alloc, scene, source, from, receiver, to, buffers)?;
+    let between = Between::of(alloc, scene, source, from, receiver, to);
+    let path = between.direct_path();
+    let mut paths = Paths::in_the_open(&between, &path);
+    paths.find_all(&between, &path, buffers)?;
     let energies = path_energies(&paths, from);
     buffers.take_back(&mut paths);
     let segs = buffers.trace.copied(alloc)?;

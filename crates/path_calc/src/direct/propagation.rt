@@ -1,10 +1,13 @@
 //! What all bands share of a path.
-ghost use Rattle.std.specs.Prelude.{◌≡◌, ◌≤◌, All, IfOk, IfSome, vec_len};
+ghost use Rattle.std.specs.Prelude.{◌≡◌, ◌≤◌, All, OnOk, IfSome, vec_len};
 ghost use Rattle.fix_interval.specs.Values.{sub_of};
 ghost use Rattle.path_shape.specs.Shape.{IsPath};
 ghost use Rattle.scene_parts.specs.Ranges.{IsHeight};
 ghost use Rattle.scene_parts.specs.declared.kinds.Ground.TheVariants as methods;
-ghost use Rattle.path_calc.specs.inner.Hearing.{propagation_along, is_asked, grounds_along, omega_along, ground_at, screening_at, power_at};
+ghost use Rattle.path_calc.specs.inner.Hearing.{propagation_past, screened_by, bars_over, edges_among, is_asked, grounds_along, omega_along, ground_at, screening_at, power_at};
+ghost use Rattle.path_calc.specs.inner.BarrierAttenuations.{no_attenuations};
+ghost use Rattle.path_calc.specs.Prepared.{prepared_of};
+ghost use Rattle.path_calc.specs.inner.Ends.{FitsEnds, IsBetween, direct_path_of};
 ghost use Rattle.path_calc.specs.inner.Prepared.{IsEmission, IsSent};
 ghost use Rattle.path_calc.specs.inner.Propagations.{IsPropagation, IsGroundBy, IsSimpleGround, IsSolidAngle};
 ghost use Rattle.path_calc.specs.inner.Ranges.{IsPathSquare, IsUnscreened, IsScreened};
@@ -23,7 +26,7 @@ use energy_sum::c_met;
 use fix_interval::Iv;
 use path_shape::Path;
 use scene_geom::{Band, Frac};
-use scene_parts::{Air, Crossing, Ends, Ground, NoMemory};
+use scene_parts::{Air, Crossing, Ends, Ground, NoMemory, PointSource, Receiver};
 use std::alloc::Global;
 use term_div_atm::a_div;
 use term_ground::{a_gr_between, a_gr_simple, d_omega};
@@ -55,17 +58,52 @@ pub(crate) struct Propagation {
 }
 
 impl<'a> Between<'a> {
-    /// The quantities of a path, of which the square of the plan length in mm² is this, over a distance in metres, where
-    /// these sides cross it and these bands are asked for. The buffers are lent to what screens it.
-    pub(crate) fn along(
-        &self,
-        path: &Path,
-        square: Frac,
-        distance: Iv,
-        crossings: &[Crossing],
-        asked: &[bool; 8],
-        buffers: &mut ScreeningBuffers,
-    ) -> Result<Propagation, NoMemory>
+    /// What all paths from this source to this receiver share.
+    #[inline(always)]
+    pub(crate) fn of(
+        alloc: Global,
+        scene: &'a IndexedScene<'a>,
+        source: &PointSource,
+        from: &'a PreparedSource,
+        receiver: &Receiver,
+        to: &'a PreparedReceiver,
+    ) -> Between<'a>
+        requires source { from.now ≡ prepared_of source.now }
+        requires receiver { to.now ≡ receiver.now.h }
+        ensures scene { result.scene.now ≡ scene.now }
+        ensures ends { IsBetween result source.now receiver.now }
+        ensures fit { FitsEnds result }
+    {
+        let ends = Ends {
+            s: source.at,
+            hs: source.h,
+            r: receiver.at,
+            hr: receiver.h,
+        };
+        Between {
+            alloc,
+            scene,
+            ends,
+            from,
+            to,
+        }
+    }
+
+    /// The direct path.
+    #[inline(always)]
+    pub(crate) fn direct_path(&self) -> Path
+        requires { FitsEnds self.now }
+        ensures value { result ≡ direct_path_of self.now.ends }
+        ensures shape { IsPath result }
+    {
+        let ends = self.ends;
+        Path::direct(ends.s, ends.hs, ends.r, ends.hr)
+    }
+
+    /// The quantities of a path that nothing screens, of which the square of the plan length in mm² is this, over a distance
+    /// in metres.
+    #[inline(always)]
+    pub(crate) fn in_the_open(&self, path: &Path, square: Frac, distance: Iv) -> Propagation
         requires path { IsPath path.now }
         requires source { self.now.from.now.h ≡ path.now.hs }
         requires receiver { self.now.to.now ≡ path.now.hr }
@@ -73,27 +111,21 @@ impl<'a> Between<'a> {
         requires receiver_height { IsHeight path.now.hr }
         requires square { IsPathSquare square }
         requires distance { IsDistance distance }
-        requires edges { All (λ crossing. FitsEdge crossing.edge) crossings.now }
-        ensures value { IfOk result (λ found. found
-            ≡ propagation_along self.now.scene.now path.now square distance crossings.now
-            (is_asked asked.now)) }
-        ensures range { IfOk result IsPropagation }
+        ensures value { result
+            ≡ propagation_past self.now.scene.now path.now square distance no_attenuations }
+        ensures range { IsPropagation result }
     {
         let globals = self.scene.globals();
-        let grounds = self.grounds_along(path, distance);
-        let screening = over_top(
-            self.alloc, crossings, path, distance, &grounds, asked, buffers,
-        )?;
-        Ok(Propagation {
+        Propagation {
             air: globals.air,
             distance,
             divergence: a_div(distance),
-            grounds,
+            grounds: self.grounds_along(path, distance),
             omega: omega(globals.ground, path, square),
-            screening,
+            screening: BarrierAttenuations::none(),
             foliage: Losses::along(self.scene.foliage(), path, distance),
             correction: c_met(path.dp, path.hs, path.hr, globals.c0),
-        })
+        }
     }
 
     /// The attenuation of a path by the ground in each band, by the method of the scene.
@@ -135,6 +167,27 @@ fn omega(method: Ground, path: &Path, square: Frac) -> Option<Iv>
 }
 
 impl Propagation {
+    /// Screens a path that was in the open over the top, by these sides that cross it, in the bands that are asked for. The
+    /// buffers are lent to it.
+    pub(crate) fn screen(
+        &mut self,
+        alloc: Global,
+        crossings: &[Crossing],
+        path: &Path,
+        asked: &[bool; 8],
+        buffers: &mut ScreeningBuffers,
+    ) -> Result<(), NoMemory>
+        requires range { IsPropagation self.old }
+        requires edges { All (λ crossing. FitsEdge crossing.edge) crossings.now }
+        ensures value { OnOk result (self.new ≡ screened_by self.old (bars_over path.now
+            (λ band. edges_among band crossings.now) self.old.distance self.old.grounds (is_asked asked.now))) }
+        ensures range { OnOk result (IsPropagation self.new) }
+    {
+        let (distance, grounds) = (self.distance, &self.grounds);
+        self.screening = over_top(alloc, crossings, path, distance, grounds, asked, buffers)?;
+        Ok(())
+    }
+
     /// What is sent along the path of what is emitted, in dB: D_Omega is added, where there is one.
     pub(crate) fn power_of(&self, emission: Iv) -> Iv
         requires propagation { IsPropagation self.now }

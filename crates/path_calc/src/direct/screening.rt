@@ -7,7 +7,7 @@ ghost use Rattle.fix_interval.specs.Interval.{Interval};
 ghost use Rattle.fix_interval.specs.Tree.{Const, enc};
 ghost use Rattle.fix_interval.specs.Values.{sub_of};
 ghost use Rattle.scene_geom.specs.Bands.{all_bands, place_of};
-ghost use Rattle.path_calc.specs.inner.BarrierAttenuations.{AreBarrierAttenuations};
+ghost use Rattle.path_calc.specs.inner.BarrierAttenuations.{AreBarrierAttenuations, no_attenuations};
 ghost use Rattle.path_calc.specs.inner.Hearing.{edges_among, bar_over, bars_over, where_asked, is_asked};
 ghost use Rattle.path_calc.specs.inner.Ranges.{IsUnscreened, IsScreened};
 
@@ -43,8 +43,8 @@ impl Model for BarrierAttenuations {
 
 impl BarrierAttenuations {
     /// That of a path that nothing crosses.
-    fn none() -> BarrierAttenuations
-        ensures { result ≡ map (λ band. enc (Const (pos 0) 1)) all_bands }
+    pub(crate) fn none() -> BarrierAttenuations
+        ensures { result ≡ no_attenuations }
     {
         BarrierAttenuations { bands: None }
     }

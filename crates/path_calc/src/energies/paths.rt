@@ -1,14 +1,16 @@
 //! All paths from a source to a receiver: the direct one, those round the sides and those by way of walls.
-ghost use Rattle.std.specs.Prelude.{◌≡◌, ◌≤◌, ◌∷◌, ◌++◌, [], true, length, map, flat_map, All, IfOk, OnOk};
+ghost use Rattle.std.specs.Prelude.{◌≡◌, ◌≤◌, ◌∷◌, ◌++◌, [], true, length, map, flat_map, All, OnOk};
 ghost use Rattle.scene_geom.specs.Bands.{all_bands};
 ghost use Rattle.scene_geom.specs.declared.band.Band.{Band};
+ghost use Rattle.scene_parts.specs.Views.{Source, Receiver};
 ghost use Rattle.scene_book.specs.Limits.{most_sides};
 ghost use Rattle.sight_cut.specs.Cuts.{crossings_of};
 ghost use Rattle.path_calc.specs.declared.bundles.segments.Seg.TheVariants.{Straight};
 ghost use Rattle.path_calc.specs.ReflectedPaths.{reflected_paths};
-ghost use Rattle.path_calc.specs.inner.Ends.{FitsEnds};
-ghost use Rattle.path_calc.specs.inner.Hearing.{ArePaths, lateral_at, reflected_of};
-ghost use Rattle.path_calc.specs.Prepared.{prepared_of};
+ghost use Rattle.path_calc.specs.inner.Ends.{FitsEnds, IsBetween, direct_path_of};
+ghost use Rattle.path_calc.specs.inner.Hearing.{ArePaths, open_path, lateral_at, reflected_of};
+ghost use Rattle.path_calc.specs.inner.Propagations.{IsPropagation};
+ghost use Rattle.path_shape.specs.Shape.{IsPath};
 ghost use Rattle.path_calc.specs.inner.Ranges.{AreInRange, IsOnMap, IsLateralScreening};
 ghost use Rattle.path_calc.specs.inner.Strings.{both_of, lateral_of, d_z_over};
 ghost use Rattle.path_calc.specs.inner.Tracing.{segments_in_band};
@@ -17,16 +19,13 @@ ghost use Rattle.path_calc.specs.Trace.{trace_of};
 use crate::bundles::segments::{Seg, Segs};
 use crate::direct::lengths::{direct_square, distance};
 use crate::direct::propagation::{Between, Propagation};
-use crate::indexed::IndexedScene;
 use crate::lateral::{LateralScreening, lateral_screening};
-use crate::prepared::{PreparedReceiver, PreparedSource};
 use crate::reflected::Reflected;
 use crate::workspace::PathBuffers;
 use fix_interval::Iv;
 use path_shape::Path;
 use scene_geom::Band;
-use scene_parts::{Ends, NoMemory, PointSource, Receiver};
-use std::alloc::Global;
+use scene_parts::NoMemory;
 use std::mem;
 
 /// What the bands share of all paths from a source to a receiver: of the direct one, which leads over the top of what
@@ -39,55 +38,62 @@ pub(crate) struct Paths {
     pub(crate) reflected: Vec<Reflected>,
 }
 
-/// The paths from a source to a receiver. Their trace stands in the buffers that are lent to them, in place of another's.
-/// One search finds the edges of all bands on a path.
-pub(crate) fn paths_between(
-    alloc: Global,
-    scene: &IndexedScene<'_>,
-    source: &PointSource,
-    from: &PreparedSource,
-    receiver: &Receiver,
-    to: &PreparedReceiver,
-    buffers: &mut PathBuffers,
-) -> Result<Paths, NoMemory>
-    requires source { from.now ≡ prepared_of source.now }
-    requires receiver { to.now ≡ receiver.now.h }
-    ensures value { IfOk result (λ paths. ArePaths paths scene.now source.now receiver.now) }
-    ensures range { IfOk result AreInRange }
-    ensures trace { OnOk result (buffers.new.trace ≡ trace_of scene.now source.now receiver.now) }
-{
-    let ends = Ends {
-        s: source.at,
-        hs: source.h,
-        r: receiver.at,
-        hr: receiver.h,
-    };
-    let between = Between {
-        alloc,
-        scene,
-        ends,
-        from,
-        to,
-    };
-    let path = Path::direct(source.at, source.h, receiver.at, receiver.h);
-    let distance = distance(source.at, source.h, receiver.at, receiver.h);
-    scene.find_crossings(ends, &mut buffers.lines.found, &mut buffers.crossings)?;
-    let square = direct_square(source.at, receiver.at);
-    let powered = from.powered();
-    let direct = between.along(
-        &path,
-        square,
-        distance,
-        buffers.crossings.as_slice(),
-        &powered,
-        &mut buffers.lines.screening,
-    )?;
-    find_others(&between, distance, buffers)?;
-    Ok(Paths {
-        direct,
-        lateral: mem::replace(&mut buffers.lateral, Vec::new(alloc)),
-        reflected: mem::replace(&mut buffers.reflected, Vec::new(alloc)),
-    })
+impl Paths {
+    /// The direct path between two ends as it is in the open, and no other. The path is that between these ends.
+    #[inline(always)]
+    pub(crate) fn in_the_open(between: &Between<'_>, path: &Path) -> Paths
+        requires ends { FitsEnds between.now }
+        requires path { path.now ≡ direct_path_of between.now.ends }
+        requires shape { IsPath path.now }
+        ensures value { result.direct ≡ open_path between.now.scene.now between.now.ends }
+        ensures range { IsPropagation result.direct }
+        ensures near { IsOnMap result.direct.distance }
+    {
+        let ends = between.ends;
+        let distance = distance(ends.s, ends.hs, ends.r, ends.hr);
+        Paths {
+            direct: between.in_the_open(path, direct_square(ends.s, ends.r), distance),
+            lateral: Vec::new(between.alloc),
+            reflected: Vec::new(between.alloc),
+        }
+    }
+
+    /// Finds all other paths between these ends, and what screens the direct one over the top in the bands in which there is
+    /// power. The trace of all paths stands in the buffers that are lent, in place of another's. One search finds the edges
+    /// of all bands on a path. What may fail gives nothing large.
+    pub(crate) fn find_all(
+        &mut self,
+        between: &Between<'_>,
+        path: &Path,
+        buffers: &mut PathBuffers,
+    ) -> Result<(), NoMemory>
+        requires ends { FitsEnds between.now }
+        requires path { path.now ≡ direct_path_of between.now.ends }
+        requires open { self.old.direct ≡ open_path between.now.scene.now between.now.ends }
+        requires range { IsPropagation self.old.direct }
+        requires near { IsOnMap self.old.direct.distance }
+        ensures value { OnOk result ((s : Source) (r : Receiver) → IsBetween between.now s r
+            → ArePaths self.new between.now.scene.now s r) }
+        ensures range { OnOk result (AreInRange self.new) }
+        ensures trace { OnOk result ((s : Source) (r : Receiver) → IsBetween between.now s r
+            → buffers.new.trace ≡ trace_of between.now.scene.now s r) }
+    {
+        let (ends, alloc) = (between.ends, between.alloc);
+        between
+            .scene
+            .find_crossings(ends, &mut buffers.lines.found, &mut buffers.crossings)?;
+        self.direct.screen(
+            alloc,
+            buffers.crossings.as_slice(),
+            path,
+            &between.from.powered(),
+            &mut buffers.lines.screening,
+        )?;
+        find_others(between, self.direct.distance, buffers)?;
+        self.lateral = mem::replace(&mut buffers.lateral, Vec::new(alloc));
+        self.reflected = mem::replace(&mut buffers.reflected, Vec::new(alloc));
+        Ok(())
+    }
 }
 
 /// Finds the paths round the sides of what crosses the line of sight, over a distance in metres, and those by way of walls,

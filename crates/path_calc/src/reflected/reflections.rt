@@ -234,14 +234,9 @@ impl<'a> Between<'a> {
         } = buffers;
         self.scene.find_leg_crossings(mirror, ends, found, legs)?;
         list_on_legs(legs.as_slice(), on_legs)?;
-        self.along(
-            &path,
-            mirror.plan2,
-            distance,
-            on_legs.as_slice(),
-            asked,
-            screening,
-        )
+        let mut sound = self.in_the_open(&path, mirror.plan2, distance);
+        sound.screen(self.alloc, on_legs.as_slice(), &path, asked, screening)?;
+        Ok(sound)
     }
 }
 

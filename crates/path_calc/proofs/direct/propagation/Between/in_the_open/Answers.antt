@@ -4,7 +4,7 @@ use Rattle.path_shape.proofs.Lengths.{paths-have_lengths}
 use Rattle.path_shape.specs.Shape.{square_form}
 use Rattle.energy_sum.specs.Weather.{IsLengthInPlan}
 use Rattle.path_calc.proofs.Bounds.{raised-by}
-use Rattle.path_calc.proofs.direct.propagation.Between.along.Goals as goal
+use Rattle.path_calc.proofs.direct.propagation.Between.in_the_open.Goals as goal
 
 pub returns-clause-range : goal.returns-clause-range
 returns-clause-range c =
@@ -16,8 +16,8 @@ returns-clause-range c =
       divergence = c.a_div.ensures.value;
       grounds = search rules;
       bands = search rules;
-      omega = raised-by c.globals.inside.ground path (square_form c.args.square) c.omega.result c.grounds_along-grounds.result c.omega.ensures.value c.omega.ensures.bounds
-          (λ simple. c.grounds_along-grounds.ensures.simple (sym (ap (λ (g : Globals). g.method) (c.globals.view_is ∙ c.globals-globals.ensures)) ∙ simple));
+      omega = raised-by c.globals.inside.ground path (square_form c.args.square) c.omega.result c.grounds_along.result c.omega.ensures.value c.omega.ensures.bounds
+          (λ simple. c.grounds_along.ensures.simple (sym (ap (λ (g : Globals). g.method) (c.globals.view_is ∙ c.globals-globals.ensures)) ∙ simple));
       screening = search rules;
       screened_bands = search rules;
       foliage = search rules;
