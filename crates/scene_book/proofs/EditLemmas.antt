@@ -118,7 +118,8 @@ pub record IsSlot (A : Type 0) (slot : Slot A) : Type 0 where
       → ListsEdited (slot.with_list old no_pieces) (slot.with_list new no_pieces) a (slot.with_list after a)
   pub no_piece : slot.with_list [] no_pieces ≡ no_pieces
   pub piece : (x : A) → slot.with_list (x ∷ []) no_pieces ≡ pieces_of (slot.part_of x)
-  pub put : (x : A) (a : Book) → with_part (slot.part_of x) a ≡ slot.with_list (put_in slot.name_of x (slot.list_of a)) a
+  pub put : (x : A) (a : Book)
+      → with_part (slot.part_of x) a ≡ slot.with_list (put_in slot.name_of x (slot.list_of a)) a
   pub replaced : (x : A) (a : Book)
       → replaced (slot.part_of x) a ≡ option_map slot.part_of (named slot.name_of (slot.name_of x) (slot.list_of a))
   pub without : (name : List ℕ) (x : A) (a : Book)
@@ -133,22 +134,25 @@ pieces : (A : Type 0) (slot : Slot A) → IsSlot A slot → (found : Option A)
 pieces A slot is None = is.no_piece
 pieces A slot is (Some x) = is.piece x
 
-put-in_slot : (A : Type 0) (slot : Slot A) → IsSlot A slot → (x : A) (a : Book)
-    → ListsEdited (pieces_of_any (replaced (slot.part_of x) a)) (pieces_of (slot.part_of x)) a (with_part (slot.part_of x) a)
+-- what a put changes
+abbrev Puts : Part → Type 0
+Puts part = (a : Book) → ListsEdited (pieces_of_any (replaced part a)) (pieces_of part) a (with_part part a)
+
+put-in_slot : (A : Type 0) (slot : Slot A) → IsSlot A slot → (x : A) → Puts (slot.part_of x)
 put-in_slot A slot is x a =
-    rw (is.replaced x a, is.put x a, ← is.piece x, ← pieces A slot is (named slot.name_of (slot.name_of x) (slot.list_of a)))
+    let old = named slot.name_of (slot.name_of x) (slot.list_of a) in
+    rw (is.replaced x a, is.put x a, ← is.piece x, ← pieces A slot is old)
     (is.edited a _ (x ∷ []) _ (put-edited slot.name_of x (slot.list_of a)))
 
-put-lists : (part : Part) (a : Book) → ListsEdited (pieces_of_any (replaced part a)) (pieces_of part) a (with_part part a)
-put-lists = of_part (λ part. (a : Book) → ListsEdited (pieces_of_any (replaced part a)) (pieces_of part) a (with_part part a))
-    (each_to put-in_slot slots)
+put-lists : (part : Part) → Puts part
+put-lists = of_part Puts (each_to put-in_slot slots)
 
 -- what a removal changes where this is the part of the name
 abbrev Removes : List ℕ → Book → Book → Option Part → Option Part → Type 0
 Removes name a b old found = taken name found a ≡ Ok (b, old) → ListsEdited (pieces_of_any found) no_pieces a b
 
-taken-in_slot : (name : List ℕ) (a b : Book) (old : Option Part) (A : Type 0) (slot : Slot A) → IsSlot A slot → (x : A)
-    → named slot.name_of name (slot.list_of a) ≡ Some x → Removes name a b old (Some (slot.part_of x))
+taken-in_slot : (name : List ℕ) (a b : Book) (old : Option Part) (A : Type 0) (slot : Slot A) → IsSlot A slot
+    → (x : A) → named slot.name_of name (slot.list_of a) ≡ Some x → Removes name a b old (Some (slot.part_of x))
 taken-in_slot name a b old A slot is x e h =
     rw (← result-first _ (b, old) h, is.without name x a)
     (rw (is.piece x, is.no_piece) at

@@ -10,7 +10,8 @@ use Rattle.scene_book.specs.Book.{Book, Slot, OfEachSlot, source_slot, obstacle_
 use Rattle.scene_book.specs.Applying.{part_named}
 
 -- what is shown of any slot holds of each
-pub of_each : {Holds : (A : Type 0) → Slot A → Type 0} → ((A : Type 0) (slot : Slot A) → Holds A slot) → OfEachSlot Holds
+pub of_each : {Holds : (A : Type 0) → Slot A → Type 0}
+    → ((A : Type 0) (slot : Slot A) → Holds A slot) → OfEachSlot Holds
 of_each any = record {
   sources = any Source source_slot;
   obstacles = any Obstacle obstacle_slot;
@@ -19,7 +20,8 @@ of_each any = record {
   receivers = any Receiver receiver_slot;
 }
 
-pub each_to : {Holds Follows : (A : Type 0) → Slot A → Type 0} → ((A : Type 0) (slot : Slot A) → Holds A slot → Follows A slot)
+pub each_to : {Holds Follows : (A : Type 0) → Slot A → Type 0}
+    → ((A : Type 0) (slot : Slot A) → Holds A slot → Follows A slot)
     → OfEachSlot Holds → OfEachSlot Follows
 each_to next each = record {
   sources = next Source source_slot each.sources;
@@ -30,7 +32,8 @@ each_to next each = record {
 }
 
 -- what holds of the parts of each slot holds of every part
-pub of_part : (Holds : Part → Type 0) → OfEachSlot (λ A slot. (x : A) → Holds (slot.part_of x)) → (part : Part) → Holds part
+pub of_part : (Holds : Part → Type 0) → OfEachSlot (λ A slot. (x : A) → Holds (slot.part_of x))
+    → (part : Part) → Holds part
 of_part Holds each (parts.Source source) = each.sources source
 of_part Holds each (parts.Obstacle obstacle) = each.obstacles obstacle
 of_part Holds each (parts.Zone zone) = each.zones zone
@@ -49,7 +52,8 @@ last Holds f (Some x) here none = here x refl
 
 -- what holds of the part of a name in each slot, and of none, holds of the part of the name
 pub of_named : (Holds : Option Part → Type 0) (book : Book) (name : List ℕ)
-    → OfEachSlot (λ A slot. (x : A) → named slot.name_of name (slot.list_of book) ≡ Some x → Holds (Some (slot.part_of x)))
+    → OfEachSlot (λ A slot. (x : A) → named slot.name_of name (slot.list_of book) ≡ Some x
+    → Holds (Some (slot.part_of x)))
     → Holds None → Holds (part_named book name)
 of_named Holds book name each none =
     first Holds parts.Source _ _ each.sources

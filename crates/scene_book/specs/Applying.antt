@@ -87,7 +87,8 @@ put_of part book =
 
 -- a part's list without the part of a name
 abbrev pub without : List ℕ → Part → Book → Book
-without name part book = by_slot (λ A slot old. slot.with_list (take_out slot.name_of name (slot.list_of book)) book) part
+without name part book =
+    by_slot (λ A slot old. slot.with_list (take_out slot.name_of name (slot.list_of book)) book) part
 
 -- the scene without the part of a name, where there is one
 abbrev pub without_any : List ℕ → Option Part → Book → Book
