@@ -1,24 +1,24 @@
--- Edits of lists.
+-- Edits of lists and of scenes.
 use Rattle.std.proofs.Common.{◌≡◌, ℕ, refl, sym, ◌∙◌, ap, subst, Bool, true, false, cond, List, length, ◌*◌, [], ◌∷◌, ◌++◌, append-nil, ◌||◌}
 use Rattle.std.specs.Prelude.{bytes_eq, Option, Some, None, option_map, Result, Ok, Err, flat_map, filter}
 use Rattle.std.specs.List.{list_any}
-use Rattle.std.specs.Option.{option_to_list, option_or}
+use Rattle.std.specs.Option.{option_to_list}
 use Rattle.std.proofs.lemmas.Grind.{flat_map-append}
 use Rattle.std.proofs.lemmas.List.Elements.{filter-append}
 use Rattle.std.proofs.lemmas.List.Folds.{list_any-append}
 use Rattle.scene_parts.specs.Answers.{◌>>◌}
-use Rattle.scene_parts.specs.Views.{Source, Obstacle, Zone, Foliage, Receiver, Grid}
+use Rattle.scene_parts.specs.Views.{Receiver, Grid}
 use Rattle.scene_parts.specs.declared.parts.Part.{Part}
-use Rattle.scene_parts.specs.declared.parts.Part.TheVariants as parts
+use Rattle.scene_parts.specs.declared.kinds.Class.TheVariants as classes
 use Rattle.scene_book.specs.declared.edits.Edit.TheVariants as edits
 use Rattle.scene_book.specs.declared.edits.EditFault.{EditFault}
-use Rattle.scene_parts.specs.declared.kinds.Class.TheVariants as classes
 use Rattle.scene_book.specs.Limits.{most_receivers}
 use Rattle.scene_book.specs.Lists.{named, put_in, take_out, put_all}
-use Rattle.scene_book.specs.Book.{Book}
+use Rattle.scene_book.specs.Book.{Book, Slot, OfEachSlot, at_most}
 use Rattle.scene_book.specs.Grid.{receivers_of}
-use Rattle.scene_book.specs.Applying.{apply_of, at_most, all_own, own_class, name_of, class_of, holder, in_limits, put_of, put_where_room, remove_of, grid_of, taken, with_part, replaced, with_receivers}
-use Rattle.scene_book.specs.Laws.{Edited, FlatMapStays, FilterStays, AnyStays, PutsInTurn, Pieces, no_pieces, pieces_of, pieces_of_any, ListsEdited, Changes, AcceptedChanges}
+use Rattle.scene_book.specs.Applying.{apply_of, all_own, own_class, name_of, class_of, holder, in_limits, part_named, put_of, put_where_room, remove_of, grid_of, taken, with_part, without, replaced, with_receivers}
+use Rattle.scene_book.specs.Laws.{Edited, FlatMapStays, FilterStays, AnyStays, PutsInTurn, no_pieces, pieces_of, pieces_of_any, ListsEdited, Changes, AcceptedChanges}
+use Rattle.scene_book.proofs.SlotLemmas.{each_to, of_part, of_named}
 
 module _ {A : Type 0} where
   -- an edit behind a thing that stays
@@ -109,158 +109,58 @@ answer-last : (q r s : Result (Unit {0}) EditFault) (x y : Book × Option Part) 
 answer-last (Ok done) r s x y e = answer-later r s x y e
 answer-last (Err fault) r s x y e = cc
 
-abbrev own_source : Source → List ℕ
-own_source s = s.name
-
-abbrev own_obstacle : Obstacle → List ℕ
-own_obstacle o = o.name
-
-abbrev own_zone : Zone → List ℕ
-own_zone z = z.name
-
-abbrev own_foliage : Foliage → List ℕ
-own_foliage f = f.name
-
 abbrev own_receiver : Receiver → List ℕ
 own_receiver r = r.name
 
--- an edit of one list of a scene
-in-sources : (a : Book) (old new after : List Source) → Edited old new a.sources after
-    → ListsEdited (record no_pieces { sources = old }) (record no_pieces { sources = new }) a (record a { sources = after })
-in-sources a old new after e = record {
-  sources = e;
-  obstacles = same a.obstacles;
-  zones = same a.zones;
-  foliage = same a.foliage;
-  receivers = same a.receivers;
-  globals = refl;
-}
+-- what is so of each slot: it changes its list alone, and this is what it says of its parts
+pub record IsSlot (A : Type 0) (slot : Slot A) : Type 0 where
+  pub edited : (a : Book) (old new after : List A) → Edited old new (slot.list_of a) after
+      → ListsEdited (slot.with_list old no_pieces) (slot.with_list new no_pieces) a (slot.with_list after a)
+  pub no_piece : slot.with_list [] no_pieces ≡ no_pieces
+  pub piece : (x : A) → slot.with_list (x ∷ []) no_pieces ≡ pieces_of (slot.part_of x)
+  pub put : (x : A) (a : Book)
+      → with_part (slot.part_of x) a ≡ slot.with_list (put_in slot.name_of x (slot.list_of a)) a
+  pub replaced : (x : A) (a : Book)
+      → replaced (slot.part_of x) a ≡ option_map slot.part_of (named slot.name_of (slot.name_of x) (slot.list_of a))
+  pub without : (name : List ℕ) (x : A) (a : Book)
+      → without name (slot.part_of x) a ≡ slot.with_list (take_out slot.name_of name (slot.list_of a)) a
 
-in-obstacles : (a : Book) (old new after : List Obstacle) → Edited old new a.obstacles after
-    → ListsEdited (record no_pieces { obstacles = old }) (record no_pieces { obstacles = new }) a (record a { obstacles = after })
-in-obstacles a old new after e = record {
-  sources = same a.sources;
-  obstacles = e;
-  zones = same a.zones;
-  foliage = same a.foliage;
-  receivers = same a.receivers;
-  globals = refl;
-}
-
-in-zones : (a : Book) (old new after : List Zone) → Edited old new a.zones after
-    → ListsEdited (record no_pieces { zones = old }) (record no_pieces { zones = new }) a (record a { zones = after })
-in-zones a old new after e = record {
-  sources = same a.sources;
-  obstacles = same a.obstacles;
-  zones = e;
-  foliage = same a.foliage;
-  receivers = same a.receivers;
-  globals = refl;
-}
-
-in-foliage : (a : Book) (old new after : List Foliage) → Edited old new a.foliage after
-    → ListsEdited (record no_pieces { foliage = old }) (record no_pieces { foliage = new }) a (record a { foliage = after })
-in-foliage a old new after e = record {
-  sources = same a.sources;
-  obstacles = same a.obstacles;
-  zones = same a.zones;
-  foliage = e;
-  receivers = same a.receivers;
-  globals = refl;
-}
-
-in-receivers : (a : Book) (old new after : List Receiver) → Edited old new a.receivers after
-    → ListsEdited (record no_pieces { receivers = old }) (record no_pieces { receivers = new }) a (record a { receivers = after })
-in-receivers a old new after e = record {
-  sources = same a.sources;
-  obstacles = same a.obstacles;
-  zones = same a.zones;
-  foliage = same a.foliage;
-  receivers = e;
-  globals = refl;
-}
+pub slots : OfEachSlot IsSlot
+slots = search same
 
 -- the piece of a part that may be there
-source-pieces : (found : Option Source)
-    → record no_pieces { sources = option_to_list found } ≡ pieces_of_any (option_map parts.Source found)
-source-pieces None = refl
-source-pieces (Some s) = refl
+pieces : (A : Type 0) (slot : Slot A) → IsSlot A slot → (found : Option A)
+    → slot.with_list (option_to_list found) no_pieces ≡ pieces_of_any (option_map slot.part_of found)
+pieces A slot is None = is.no_piece
+pieces A slot is (Some x) = is.piece x
 
-obstacle-pieces : (found : Option Obstacle)
-    → record no_pieces { obstacles = option_to_list found } ≡ pieces_of_any (option_map parts.Obstacle found)
-obstacle-pieces None = refl
-obstacle-pieces (Some o) = refl
+-- what a put changes
+abbrev Puts : Part → Type 0
+Puts part = (a : Book) → ListsEdited (pieces_of_any (replaced part a)) (pieces_of part) a (with_part part a)
 
-zone-pieces : (found : Option Zone)
-    → record no_pieces { zones = option_to_list found } ≡ pieces_of_any (option_map parts.Zone found)
-zone-pieces None = refl
-zone-pieces (Some z) = refl
+put-in_slot : (A : Type 0) (slot : Slot A) → IsSlot A slot → (x : A) → Puts (slot.part_of x)
+put-in_slot A slot is x a =
+    let old = named slot.name_of (slot.name_of x) (slot.list_of a) in
+    rw (is.replaced x a, is.put x a, ← is.piece x, ← pieces A slot is old)
+    (is.edited a _ (x ∷ []) _ (put-edited slot.name_of x (slot.list_of a)))
 
-foliage-pieces : (found : Option Foliage)
-    → record no_pieces { foliage = option_to_list found } ≡ pieces_of_any (option_map parts.Foliage found)
-foliage-pieces None = refl
-foliage-pieces (Some f) = refl
+put-lists : (part : Part) → Puts part
+put-lists = of_part Puts (each_to put-in_slot slots)
 
-receiver-pieces : (found : Option Receiver)
-    → record no_pieces { receivers = option_to_list found } ≡ pieces_of_any (option_map parts.Receiver found)
-receiver-pieces None = refl
-receiver-pieces (Some r) = refl
+-- what a removal changes where this is the part of the name
+abbrev Removes : List ℕ → Book → Book → Option Part → Option Part → Type 0
+Removes name a b old found = taken name found a ≡ Ok (b, old) → ListsEdited (pieces_of_any found) no_pieces a b
 
--- an edit between these pieces, of which the first are known
-abbrev Between : Pieces → Book → Book → Pieces → Type 0
-Between new a b old = ListsEdited old new a b
+taken-in_slot : (name : List ℕ) (a b : Book) (old : Option Part) (A : Type 0) (slot : Slot A) → IsSlot A slot
+    → (x : A) → named slot.name_of name (slot.list_of a) ≡ Some x → Removes name a b old (Some (slot.part_of x))
+taken-in_slot name a b old A slot is x e h =
+    rw (← result-first _ (b, old) h, is.without name x a)
+    (rw (is.piece x, is.no_piece) at
+    (is.edited a (x ∷ []) [] _ (rw e at (take-edited slot.name_of name (slot.list_of a)))))
 
-put-lists : (part : Part) (a : Book) → ListsEdited (pieces_of_any (replaced part a)) (pieces_of part) a (with_part part a)
-put-lists (parts.Source s) a =
-    subst (Between (pieces_of (parts.Source s)) a (with_part (parts.Source s) a))
-    (source-pieces (named own_source s.name a.sources))
-    (in-sources a _ (s ∷ []) _ (put-edited own_source s a.sources))
-put-lists (parts.Obstacle o) a =
-    subst (Between (pieces_of (parts.Obstacle o)) a (with_part (parts.Obstacle o) a))
-    (obstacle-pieces (named own_obstacle o.name a.obstacles))
-    (in-obstacles a _ (o ∷ []) _ (put-edited own_obstacle o a.obstacles))
-put-lists (parts.Zone z) a =
-    subst (Between (pieces_of (parts.Zone z)) a (with_part (parts.Zone z) a))
-    (zone-pieces (named own_zone z.name a.zones))
-    (in-zones a _ (z ∷ []) _ (put-edited own_zone z a.zones))
-put-lists (parts.Foliage f) a =
-    subst (Between (pieces_of (parts.Foliage f)) a (with_part (parts.Foliage f) a))
-    (foliage-pieces (named own_foliage f.name a.foliage))
-    (in-foliage a _ (f ∷ []) _ (put-edited own_foliage f a.foliage))
-put-lists (parts.Receiver r) a =
-    subst (Between (pieces_of (parts.Receiver r)) a (with_part (parts.Receiver r) a))
-    (receiver-pieces (named own_receiver r.name a.receivers))
-    (in-receivers a _ (r ∷ []) _ (put-edited own_receiver r a.receivers))
-
--- a removal whose old piece is that of the thing found
-taken-from : {A : Type 0} (name_of : A → List ℕ) (name : List ℕ) (xs : List A) (found : Option A)
-    → named name_of name xs ≡ found → Edited (option_to_list found) [] xs (take_out name_of name xs)
-taken-from name_of name xs found e =
-    subst (λ found. Edited (option_to_list found) [] xs (take_out name_of name xs)) e (take-edited name_of name xs)
-
-take-lists : (name : List ℕ) (a b : Book) (old : Option Part) (ms : Option Source) (mo : Option Obstacle) (mz : Option Zone)
-    (mf : Option Foliage) (mr : Option Receiver) → named (λ s. s.name) name a.sources ≡ ms → named (λ o. o.name) name a.obstacles ≡ mo
-    → named (λ z. z.name) name a.zones ≡ mz → named (λ f. f.name) name a.foliage ≡ mf → named (λ r. r.name) name a.receivers ≡ mr
-    → taken name (option_or (option_map parts.Source ms) (option_or (option_map parts.Obstacle mo)
-    (option_or (option_map parts.Zone mz) (option_or (option_map parts.Foliage mf) (option_map parts.Receiver mr))))) a ≡ Ok (b, old)
-    → ListsEdited (pieces_of_any (option_or (option_map parts.Source ms) (option_or (option_map parts.Obstacle mo)
-    (option_or (option_map parts.Zone mz) (option_or (option_map parts.Foliage mf) (option_map parts.Receiver mr)))))) no_pieces a b
-take-lists name a b old (Some s) mo mz mf mr es eo ez ef er h =
-    subst (ListsEdited (pieces_of (parts.Source s)) no_pieces a) (result-first _ (b, old) h)
-    (in-sources a (s ∷ []) [] _ (taken-from own_source name a.sources (Some s) es))
-take-lists name a b old None (Some o) mz mf mr es eo ez ef er h =
-    subst (ListsEdited (pieces_of (parts.Obstacle o)) no_pieces a) (result-first _ (b, old) h)
-    (in-obstacles a (o ∷ []) [] _ (taken-from own_obstacle name a.obstacles (Some o) eo))
-take-lists name a b old None None (Some z) mf mr es eo ez ef er h =
-    subst (ListsEdited (pieces_of (parts.Zone z)) no_pieces a) (result-first _ (b, old) h)
-    (in-zones a (z ∷ []) [] _ (taken-from own_zone name a.zones (Some z) ez))
-take-lists name a b old None None None (Some f) mr es eo ez ef er h =
-    subst (ListsEdited (pieces_of (parts.Foliage f)) no_pieces a) (result-first _ (b, old) h)
-    (in-foliage a (f ∷ []) [] _ (taken-from own_foliage name a.foliage (Some f) ef))
-take-lists name a b old None None None None (Some r) es eo ez ef er h =
-    subst (ListsEdited (pieces_of (parts.Receiver r)) no_pieces a) (result-first _ (b, old) h)
-    (in-receivers a (r ∷ []) [] _ (taken-from own_receiver name a.receivers (Some r) er))
-take-lists name a b old None None None None None es eo ez ef er h = cc
+take-lists : (name : List ℕ) (a b : Book) (old : Option Part) → Removes name a b old (part_named a name)
+take-lists name a b old =
+    of_named (Removes name a b old) a name (each_to (taken-in_slot name a b old) slots) (λ h. cc)
 
 grid-changes : (grid : Grid) (a b : Book) (old : Option Part) → grid_of grid a ≡ Ok (b, old) → Changes (edits.Grid grid) a b
 unfolding grid_of
@@ -276,9 +176,6 @@ accepted-changes (edits.Put part) a b old h =
     subst (ListsEdited (pieces_of_any (replaced part a)) (pieces_of part) a)
     (answer-later (own_class (name_of part) (class_of part) (holder a (name_of part))) (in_limits part (with_part part a))
     (with_part part a, replaced part a) (b, old) h) (put-lists part a)
-accepted-changes (edits.Remove name) a b old h =
-    take-lists name a b old (named (λ s. s.name) name a.sources) (named (λ o. o.name) name a.obstacles)
-    (named (λ z. z.name) name a.zones) (named (λ f. f.name) name a.foliage) (named (λ r. r.name) name a.receivers)
-    refl refl refl refl refl h
+accepted-changes (edits.Remove name) a b old h = take-lists name a b old h
 accepted-changes (edits.Grid grid) a b old h = grid-changes grid a b old h
 accepted-changes (edits.Set setting) a b old h = sym (result-first _ (b, old) h)

@@ -2,13 +2,11 @@
 use Rattle.std.specs.Prelude.{◌≡◌, Bool, false, List, [], ◌∷◌, ◌++◌, Option, Some, None, Ok, flat_map, filter, ℕ}
 use Rattle.std.specs.List.{list_any}
 use Rattle.std.specs.Option.{option_to_list}
-use Rattle.scene_parts.specs.Views.{Source, Obstacle, Zone, Foliage, Receiver}
 use Rattle.scene_parts.specs.declared.parts.Part.{Part}
-use Rattle.scene_parts.specs.declared.parts.Part.TheVariants as parts
 use Rattle.scene_book.specs.declared.edits.Edit.{Edit}
 use Rattle.scene_book.specs.declared.edits.Edit.TheVariants as edits
 use Rattle.scene_book.specs.Lists.{named, put_in, take_out}
-use Rattle.scene_book.specs.Book.{Book, globals_with}
+use Rattle.scene_book.specs.Book.{Book, OfEachSlot, by_slot, empty_book, globals_with}
 use Rattle.scene_book.specs.Grid.{receivers_of}
 use Rattle.scene_book.specs.Applying.{apply_of, replaced, part_named, with_receivers}
 
@@ -50,36 +48,20 @@ PutsInTurn {A} name_of (new ∷ news) xs ys =
     (zs : List A) × Edited (option_to_list (named name_of (name_of new) xs)) (new ∷ []) xs zs
     × PutsInTurn name_of news zs ys
 
--- a piece for each list of a scene
-pub record Pieces : Type 0 where
-  pub sources : List Source
-  pub obstacles : List Obstacle
-  pub zones : List Zone
-  pub foliage : List Foliage
-  pub receivers : List Receiver
+-- pieces of the lists of a scene: a scene that has no more than them. No pieces, and a part in the list of its class
+abbrev pub no_pieces : Book
+no_pieces = empty_book
 
-abbrev pub no_pieces : Pieces
-no_pieces = record { sources = []; obstacles = []; zones = []; foliage = []; receivers = [] }
+abbrev pub pieces_of : Part → Book
+pieces_of part = by_slot (λ A slot piece. slot.with_list (piece ∷ []) no_pieces) part
 
--- a part in the list of its class
-abbrev pub pieces_of : Part → Pieces
-pieces_of (parts.Source source) = record no_pieces { sources = source ∷ [] }
-pieces_of (parts.Obstacle obstacle) = record no_pieces { obstacles = obstacle ∷ [] }
-pieces_of (parts.Zone zone) = record no_pieces { zones = zone ∷ [] }
-pieces_of (parts.Foliage foliage) = record no_pieces { foliage = foliage ∷ [] }
-pieces_of (parts.Receiver receiver) = record no_pieces { receivers = receiver ∷ [] }
-
-abbrev pub pieces_of_any : Option Part → Pieces
+abbrev pub pieces_of_any : Option Part → Book
 pieces_of_any None = no_pieces
 pieces_of_any (Some part) = pieces_of part
 
 -- the lists of one scene are those of the other with new pieces in the places of old ones, and the globals are the same
-pub record ListsEdited (old new : Pieces) (a b : Book) : Type 0 where
-  pub sources : Edited old.sources new.sources a.sources b.sources
-  pub obstacles : Edited old.obstacles new.obstacles a.obstacles b.obstacles
-  pub zones : Edited old.zones new.zones a.zones b.zones
-  pub foliage : Edited old.foliage new.foliage a.foliage b.foliage
-  pub receivers : Edited old.receivers new.receivers a.receivers b.receivers
+pub record ListsEdited (old new a b : Book) : Type 0 where
+  pub lists : OfEachSlot (λ A slot. Edited (slot.list_of old) (slot.list_of new) (slot.list_of a) (slot.list_of b))
   pub globals : b.globals ≡ a.globals
 
 -- what each kind of edit changes: a put the part that it replaces, a removal the part of its name, a grid the receivers

@@ -1,6 +1,6 @@
 -- Scenes of the same parts, whatever their orders.
 use Rattle.std.specs.Prelude.{◌≡◌, List, ◌∷◌}
-use Rattle.scene_book.specs.Book.{Book}
+use Rattle.scene_book.specs.Book.{Book, OfEachSlot}
 
 -- two lists with the same members, each as often, in any order
 pub data Shuffled {A : Type 0} : List A → List A → Type 0 where
@@ -11,9 +11,5 @@ pub data Shuffled {A : Type 0} : List A → List A → Type 0 where
 
 -- the same parts in each list, and the same globals
 pub record SameParts (a b : Book) : Type 0 where
-  pub sources : Shuffled a.sources b.sources
-  pub obstacles : Shuffled a.obstacles b.obstacles
-  pub zones : Shuffled a.zones b.zones
-  pub foliage : Shuffled a.foliage b.foliage
-  pub receivers : Shuffled a.receivers b.receivers
+  pub lists : OfEachSlot (λ A slot. Shuffled (slot.list_of a) (slot.list_of b))
   pub globals : b.globals ≡ a.globals

@@ -1,12 +1,13 @@
 //! Edits applied to a scene.
 ghost use Rattle.std.specs.Prelude.{◌≡◌, ◌*◌, IfOk, OnErr};
 ghost use Rattle.scene_parts.specs.Answers.{MatchesUnlessMemory};
-ghost use Rattle.scene_book.specs.Applying.{apply_of, put_of, remove_of, grid_of, own_class as own_class_of, holder, all_own as all_own_of, name_of, class_of, Leaves, lacks_memory};
+ghost use Rattle.scene_book.specs.Applying.{apply_of, put_of, remove_of, grid_of, own_class as own_class_of, holder, all_own as all_own_of, Leaves, lacks_memory};
 
 use super::edits::{Edit, EditFault};
 use super::grids::receivers;
 use super::limits::{MAX_RECEIVERS, at_most, same_class};
-use super::scene::{Scene, shape_class};
+use super::named::{part_class, part_name};
+use super::scene::Scene;
 use scene_parts::{Class, GridSpec, Name, NoMemory, Part, Receiver};
 use std::alloc::Global;
 
@@ -94,30 +95,6 @@ fn copy_of(name: &Name) -> Result<Name, NoMemory>
     ensures { IfOk result (λ copied. copied ≡ name.now) }
 {
     Ok(name.clone()?)
-}
-
-fn part_name(part: &Part) -> &Name
-    ensures { result.now ≡ name_of part.now }
-{
-    match part {
-        Part::Source(source) => &source.name,
-        Part::Obstacle(obstacle) => &obstacle.name,
-        Part::Zone(zone) => &zone.name,
-        Part::Foliage(foliage) => &foliage.name,
-        Part::Receiver(receiver) => &receiver.name,
-    }
-}
-
-fn part_class(part: &Part) -> Class
-    ensures { result ≡ class_of part.now }
-{
-    match part {
-        Part::Source(_) => Class::Source,
-        Part::Obstacle(obstacle) => shape_class(obstacle.shape),
-        Part::Zone(_) => Class::Zone,
-        Part::Foliage(_) => Class::Foliage,
-        Part::Receiver(_) => Class::Receiver,
-    }
 }
 
 /// How many receivers a grid has.

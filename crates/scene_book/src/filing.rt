@@ -11,14 +11,14 @@ use std::alloc::Global;
 
 /// The name of a thing, as its key.
 pub(crate) fn key_of<T: Named>(alloc: Global, thing: &T) -> Result<Vec<u8>, NoMemory>
-    ensures { IfOk result (λ key. key.items ≡ T.name_of thing.now) }
+    ensures { IfOk result (λ key. key.items ≡ T.slot.name_of thing.now) }
 {
     Ok(thing.name().to_vec(alloc)?)
 }
 
 /// These things, each with its name as its key.
 pub(crate) fn filed<T: Named>(alloc: Global, things: Vec<T>) -> Result<Vec<(Vec<u8>, T)>, NoMemory>
-    ensures filed { IfOk result (λ entries. AreFiled T.name_of entries.items) }
+    ensures filed { IfOk result (λ entries. AreFiled T.slot.name_of entries.items) }
     ensures things { IfOk result (λ entries. values_of entries.items ≡ things.items) }
 {
     let mut entries = Vec::with_capacity(alloc, things.len())?;

@@ -13,5 +13,6 @@ mod scene;
 mod shared;
 
 pub use edits::{Edit, EditFault, Logged};
+pub use named::part_name;
 pub use scene::Scene;
 pub use scene_parts::NoMemory;

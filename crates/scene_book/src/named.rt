@@ -1,20 +1,21 @@
 //! The five classes of a scene's lists: how each part is found, and how many of them there may be.
+ghost use Rattle.std.specs.Prelude.{◌≡◌};
 ghost use Rattle.scene_parts.specs.declared.kinds.Class.TheVariants as classes;
-ghost use Rattle.scene_parts.specs.declared.parts.Part.TheVariants as parts;
-ghost use Rattle.scene_book.specs.Limits.{most_sources, most_obstacles, most_zones, most_foliage, most_receivers};
+ghost use Rattle.scene_book.specs.Book.{source_slot, obstacle_slot, zone_slot, foliage_slot, receiver_slot, class_of_shape};
+ghost use Rattle.scene_book.specs.Applying.{name_of, class_of};
 
 use super::limits::{MAX_FOLIAGE, MAX_OBSTACLES, MAX_RECEIVERS, MAX_SOURCES, MAX_ZONES};
 use super::register::Named;
-use scene_parts::{Class, Foliage, NoMemory, Obstacle, Part, PointSource, Receiver, Zone};
+use scene_parts::{
+    Class, Foliage, Name, NoMemory, Obstacle, Part, PointSource, Receiver, Shape, Zone,
+};
 
 impl Named for PointSource {
-    ghost name_of = { λ source. source.name };
+    ghost slot = { source_slot };
 
     ghost CLASS = { classes.Source };
 
-    ghost MOST = { most_sources };
-
-    ghost part_of = { λ source. parts.Source source };
+    ghost MOST = { source_slot.most };
 
     const CLASS: Class = Class::Source;
 
@@ -34,13 +35,11 @@ impl Named for PointSource {
 }
 
 impl Named for Obstacle {
-    ghost name_of = { λ obstacle. obstacle.name };
+    ghost slot = { obstacle_slot };
 
     ghost CLASS = { classes.Obstacle };
 
-    ghost MOST = { most_obstacles };
-
-    ghost part_of = { λ obstacle. parts.Obstacle obstacle };
+    ghost MOST = { obstacle_slot.most };
 
     const CLASS: Class = Class::Obstacle;
 
@@ -60,13 +59,11 @@ impl Named for Obstacle {
 }
 
 impl Named for Zone {
-    ghost name_of = { λ zone. zone.name };
+    ghost slot = { zone_slot };
 
     ghost CLASS = { classes.Zone };
 
-    ghost MOST = { most_zones };
-
-    ghost part_of = { λ zone. parts.Zone zone };
+    ghost MOST = { zone_slot.most };
 
     const CLASS: Class = Class::Zone;
 
@@ -86,13 +83,11 @@ impl Named for Zone {
 }
 
 impl Named for Foliage {
-    ghost name_of = { λ foliage. foliage.name };
+    ghost slot = { foliage_slot };
 
     ghost CLASS = { classes.Foliage };
 
-    ghost MOST = { most_foliage };
-
-    ghost part_of = { λ foliage. parts.Foliage foliage };
+    ghost MOST = { foliage_slot.most };
 
     const CLASS: Class = Class::Foliage;
 
@@ -112,13 +107,11 @@ impl Named for Foliage {
 }
 
 impl Named for Receiver {
-    ghost name_of = { λ receiver. receiver.name };
+    ghost slot = { receiver_slot };
 
     ghost CLASS = { classes.Receiver };
 
-    ghost MOST = { most_receivers };
-
-    ghost part_of = { λ receiver. parts.Receiver receiver };
+    ghost MOST = { receiver_slot.most };
 
     const CLASS: Class = Class::Receiver;
 
@@ -134,5 +127,41 @@ impl Named for Receiver {
 
     fn into_part(self) -> Part {
         Part::Receiver(self)
+    }
+}
+
+/// The name of a part.
+pub fn part_name(part: &Part) -> &Name
+    ensures { result.now ≡ name_of part.now }
+{
+    match part {
+        Part::Source(source) => &source.name,
+        Part::Obstacle(obstacle) => &obstacle.name,
+        Part::Zone(zone) => &zone.name,
+        Part::Foliage(foliage) => &foliage.name,
+        Part::Receiver(receiver) => &receiver.name,
+    }
+}
+
+/// The class of a part.
+pub(crate) fn part_class(part: &Part) -> Class
+    ensures { result ≡ class_of part.now }
+{
+    match part {
+        Part::Source(_) => Class::Source,
+        Part::Obstacle(obstacle) => shape_class(obstacle.shape),
+        Part::Zone(_) => Class::Zone,
+        Part::Foliage(_) => Class::Foliage,
+        Part::Receiver(_) => Class::Receiver,
+    }
+}
+
+/// The class of a barrier or a building.
+pub(crate) fn shape_class(shape: Shape) -> Class
+    ensures { result ≡ class_of_shape shape }
+{
+    match shape {
+        Shape::Barrier => Class::Barrier,
+        Shape::Building => Class::Building,
     }
 }

@@ -5,16 +5,17 @@ ghost use Rattle.scene_parts.specs.declared.parts.Part.TheVariants as parts;
 ghost use Rattle.scene_book.specs.Limits.{most_obstacles, most_sides};
 ghost use Rattle.scene_book.specs.Lists.{named, place_of, put_in, take_out, AreApart};
 ghost use Rattle.scene_book.specs.Book.{IsWithin, NamesAreApart, empty_book, side_total, with_setting};
-ghost use Rattle.scene_book.specs.Applying.{holder, class_of_shape, part_named, put_where_room, put_receivers as put_receivers_of, without_any, in_limits, with_part, lacks_memory, Leaves};
+ghost use Rattle.scene_book.specs.Applying.{holder, part_named, put_where_room, put_receivers as put_receivers_of, without_any, in_limits, with_part, lacks_memory, Leaves};
 
 use super::edits::EditFault;
 use super::limits::{MAX_SIDES, at_most};
+use super::named::shape_class;
 use super::register::{Named, part_like};
 use super::shared::Shared;
 use scene_parts::limits::MAX_REACH;
 use scene_parts::{
     Air, Class, Foliage, Globals, Ground, NoMemory, Obstacle, Part, PointSource, Receiver, SetSpec,
-    Shape, Zone, sides,
+    Zone, sides,
 };
 use std::alloc::Global;
 use std::marker::Model;
@@ -322,15 +323,5 @@ impl Scene {
             c0: setting.c0.unwrap_or(self.globals.c0),
             ground: setting.ground.unwrap_or(self.globals.ground),
         };
-    }
-}
-
-/// The class of a barrier or a building.
-pub(crate) fn shape_class(shape: Shape) -> Class
-    ensures { result ≡ class_of_shape shape }
-{
-    match shape {
-        Shape::Barrier => Class::Barrier,
-        Shape::Building => Class::Building,
     }
 }

@@ -43,7 +43,7 @@ impl<T: Named> Shared<T> {
     /// The things, in order.
     pub fn items(&self) -> &[T]
         ensures value { result.now ≡ self.now }
-        ensures apart { AreApart T.name_of self.now }
+        ensures apart { AreApart T.slot.name_of self.now }
     {
         match &self.register {
             Some(register) => register.items(),
@@ -53,7 +53,7 @@ impl<T: Named> Shared<T> {
 
     /// The thing of a name.
     pub fn get(&self, name: &[u8]) -> Option<&T>
-        ensures { option_copied result ≡ named T.name_of name.now self.now }
+        ensures { option_copied result ≡ named T.slot.name_of name.now self.now }
     {
         match &self.register {
             Some(register) => register.get(name),
@@ -63,7 +63,7 @@ impl<T: Named> Shared<T> {
 
     /// The place of the thing of a name.
     pub fn place(&self, name: &[u8]) -> Option<usize>
-        ensures { result ≡ place_of T.name_of name.now self.now }
+        ensures { result ≡ place_of T.slot.name_of name.now self.now }
     {
         match &self.register {
             Some(register) => register.place(name),
@@ -73,15 +73,15 @@ impl<T: Named> Shared<T> {
 
     /// Whether a thing bears a name.
     pub fn has(&self, name: &[u8]) -> bool
-        ensures { result ≡ is_some (named T.name_of name.now self.now) }
+        ensures { result ≡ is_some (named T.slot.name_of name.now self.now) }
     {
         self.get(name).is_some()
     }
 
     /// Whether there are few enough once a thing is put, else `Full`.
     pub fn check_room(&self, new: &T) -> Result<(), EditFault>
-        ensures value { result ≡ room_in T.CLASS T.MOST (put_in T.name_of new.now self.now) }
-        ensures room { OnOk result (length (put_in T.name_of new.now self.now) ≤ T.MOST) }
+        ensures value { result ≡ room_in T.CLASS T.MOST (put_in T.slot.name_of new.now self.now) }
+        ensures room { OnOk result (length (put_in T.slot.name_of new.now self.now) ≤ T.MOST) }
     {
         match &self.register {
             Some(register) => register.check_room(new),
@@ -91,10 +91,10 @@ impl<T: Named> Shared<T> {
 
     /// The same of things that are put one after another, whose names are apart.
     pub fn check_room_for_all(&self, news: &[T]) -> Result<(), EditFault>
-        requires apart { AreApart T.name_of news.now }
+        requires apart { AreApart T.slot.name_of news.now }
         requires few { length news.now < 2 ^ 63 }
-        ensures value { result ≡ room_in T.CLASS T.MOST (put_all T.name_of news.now self.now) }
-        ensures room { OnOk result (length (put_all T.name_of news.now self.now) ≤ T.MOST) }
+        ensures value { result ≡ room_in T.CLASS T.MOST (put_all T.slot.name_of news.now self.now) }
+        ensures room { OnOk result (length (put_all T.slot.name_of news.now self.now) ≤ T.MOST) }
     {
         match &self.register {
             Some(register) => register.check_room_for_all(news),
@@ -104,9 +104,10 @@ impl<T: Named> Shared<T> {
 
     /// Puts a copy of a thing in the place of the one of its name, else at the end, and gives the one that was there.
     pub fn put(&mut self, alloc: Global, thing: &T) -> Result<Option<T>, NoMemory>
-        ensures old { IfOk result (λ old. old ≡ named T.name_of (T.name_of thing.now) self.old) }
-        ensures new { OnOk result (self.new ≡ put_in T.name_of thing.now self.old) }
-        ensures apart { OnOk result (AreApart T.name_of self.new) }
+        ensures old { IfOk result (λ old. old
+            ≡ named T.slot.name_of (T.slot.name_of thing.now) self.old) }
+        ensures new { OnOk result (self.new ≡ put_in T.slot.name_of thing.now self.old) }
+        ensures apart { OnOk result (AreApart T.slot.name_of self.new) }
         ensures err { OnErr result (self.new ≡ self.old) }
     {
         let Some(register) = &mut self.register else {
@@ -120,14 +121,16 @@ impl<T: Named> Shared<T> {
 
     /// Puts a copy of a thing where there is room for it, else `Full`, and gives the part of its name that was there.
     pub fn put_where_room(&mut self, alloc: Global, thing: &T) -> Result<Option<Part>, EditFault>
-        ensures fits { OnOk result (room_in T.CLASS T.MOST (put_in T.name_of thing.now self.old) ≡ Ok tt) }
+        ensures fits { OnOk result
+            (room_in T.CLASS T.MOST (put_in T.slot.name_of thing.now self.old) ≡ Ok tt) }
         ensures full { IfErr result (λ fault. Unless (lacks_memory fault)
-            (room_in T.CLASS T.MOST (put_in T.name_of thing.now self.old) ≡ Err fault)) }
+            (room_in T.CLASS T.MOST (put_in T.slot.name_of thing.now self.old) ≡ Err fault)) }
         ensures old { IfOk result (λ old. old
-            ≡ option_map T.part_of (named T.name_of (T.name_of thing.now) self.old)) }
-        ensures new { OnOk result (self.new ≡ put_in T.name_of thing.now self.old) }
+            ≡ option_map T.slot.part_of
+            (named T.slot.name_of (T.slot.name_of thing.now) self.old)) }
+        ensures new { OnOk result (self.new ≡ put_in T.slot.name_of thing.now self.old) }
         ensures room { length self.old ≤ T.MOST → length self.new ≤ T.MOST }
-        ensures apart { AreApart T.name_of self.old → AreApart T.name_of self.new }
+        ensures apart { AreApart T.slot.name_of self.old → AreApart T.slot.name_of self.new }
         ensures err { OnErr result (self.new ≡ self.old) }
     {
         self.check_room(thing)?;
@@ -136,8 +139,8 @@ impl<T: Named> Shared<T> {
 
     /// Puts these things one after another. There is room for all before the first is put.
     pub fn put_all(&mut self, alloc: Global, news: Vec<T>) -> Result<(), NoMemory>
-        ensures new { OnOk result (self.new ≡ put_all T.name_of news.items self.old) }
-        ensures apart { OnOk result (AreApart T.name_of self.new) }
+        ensures new { OnOk result (self.new ≡ put_all T.slot.name_of news.items self.old) }
+        ensures apart { OnOk result (AreApart T.slot.name_of self.new) }
         ensures err { OnErr result (self.new ≡ self.old) }
     {
         let Some(register) = &mut self.register else {
@@ -151,9 +154,9 @@ impl<T: Named> Shared<T> {
 
     /// Takes out the thing of a name; the others close up.
     pub fn take(&mut self, name: &[u8]) -> Result<Option<T>, NoMemory>
-        ensures value { IfOk result (λ taken. taken ≡ named T.name_of name.now self.old) }
-        ensures left { OnOk result (self.new ≡ take_out T.name_of name.now self.old) }
-        ensures apart { OnOk result (AreApart T.name_of self.new) }
+        ensures value { IfOk result (λ taken. taken ≡ named T.slot.name_of name.now self.old) }
+        ensures left { OnOk result (self.new ≡ take_out T.slot.name_of name.now self.old) }
+        ensures apart { OnOk result (AreApart T.slot.name_of self.new) }
         ensures fewer { length self.new ≤ length self.old }
         ensures absent { IfOk result (λ taken. IfNone taken (self.new ≡ self.old)) }
         ensures err { OnErr result (self.new ≡ self.old) }
@@ -167,9 +170,9 @@ impl<T: Named> Shared<T> {
     /// Takes out the thing of a name and gives it as a part; the others close up.
     pub fn take_part(&mut self, name: &[u8]) -> Result<Option<Part>, NoMemory>
         ensures value { IfOk result (λ taken. taken
-            ≡ option_map T.part_of (named T.name_of name.now self.old)) }
-        ensures left { OnOk result (self.new ≡ take_out T.name_of name.now self.old) }
-        ensures apart { AreApart T.name_of self.old → AreApart T.name_of self.new }
+            ≡ option_map T.slot.part_of (named T.slot.name_of name.now self.old)) }
+        ensures left { OnOk result (self.new ≡ take_out T.slot.name_of name.now self.old) }
+        ensures apart { AreApart T.slot.name_of self.old → AreApart T.slot.name_of self.new }
         ensures fewer { length self.new ≤ length self.old }
         ensures err { OnErr result (self.new ≡ self.old) }
     {

@@ -12,9 +12,9 @@ use Rattle.scene_book.specs.declared.edits.EditFault.{EditFault}
 use Rattle.scene_book.specs.declared.edits.EditFault.TheVariants.{Full}
 use Rattle.scene_book.specs.Limits.{most_obstacles, most_sides, most_receivers}
 use Rattle.scene_book.specs.Lists.{put_all}
-use Rattle.scene_book.specs.Book.{Book, IsWithin, side_total, globals_with}
+use Rattle.scene_book.specs.Book.{Book, IsWithin, at_most, side_total, globals_with}
 use Rattle.scene_book.specs.Grid.{receivers_of}
-use Rattle.scene_book.specs.Applying.{apply_of, put_of, put_where_room, remove_of, grid_of, own_class, holder, in_limits, at_most, all_own, taken, part_named, name_of, class_of, with_part, without, with_receivers, replaced}
+use Rattle.scene_book.specs.Applying.{apply_of, put_of, put_where_room, remove_of, grid_of, own_class, holder, in_limits, all_own, taken, part_named, name_of, class_of, with_part, without, with_receivers, replaced}
 use Rattle.scene_undo.proofs.Spaces.{Kin, kin-from, kin-owns, fine}
 
 -- ---- answers in a row
@@ -130,7 +130,7 @@ set-accepts setting a = refl
 -- a scene within the limits has room for each part of it
 pub within-fits : (part : Part) (book : Book) → IsWithin book → in_limits part book ≡ fine
 within-fits (parts.Obstacle o) book within =
-    rw (at_most-fits classes.Obstacle most_obstacles (length book.obstacles) within.obstacles)
+    rw (at_most-fits classes.Obstacle most_obstacles (length book.obstacles) within.lists.obstacles)
     (at_most-fits classes.Side most_sides (side_total book.obstacles) within.sides)
 within-fits part book within = search at_most-fits
 

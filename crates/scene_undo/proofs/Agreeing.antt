@@ -12,9 +12,9 @@ use Rattle.scene_book.specs.declared.edits.Edit.TheVariants as edits
 use Rattle.scene_book.specs.declared.edits.EditFault.{EditFault}
 use Rattle.scene_book.specs.Limits.{most_receivers}
 use Rattle.scene_book.specs.Lists.{named, put_in, take_out, put_all, AreApart}
-use Rattle.scene_book.specs.Book.{Book, NamesAreApart, globals_with}
+use Rattle.scene_book.specs.Book.{Book, NamesAreApart, at_most, globals_with}
 use Rattle.scene_book.specs.Grid.{receivers_of}
-use Rattle.scene_book.specs.Applying.{apply_of, put_of, put_where_room, remove_of, grid_of, own_class, holder, in_limits, at_most, all_own, taken, part_named, name_of, class_of, with_part, without, replaced}
+use Rattle.scene_book.specs.Applying.{apply_of, put_of, put_where_room, remove_of, grid_of, own_class, holder, in_limits, all_own, taken, part_named, name_of, class_of, with_part, without, replaced}
 use Rattle.scene_book.specs.Orders.{Shuffled, SameParts}
 use Rattle.scene_undo.specs.Laws.{Agree, EditsAgree}
 use Rattle.scene_undo.proofs.Maps.{named-put, named-take, apart-put, apart-take, shuffled-alike, alike-shuffled, shuffled-length, shuffled-total}
@@ -68,7 +68,7 @@ room-same class most xs ys h = ap (at_most class most) (shuffled-length xs ys h)
 
 limits-same : (part : Part) (a b : Book) → SameParts a b → in_limits part a ≡ in_limits part b
 limits-same (parts.Obstacle o) a b h =
-    rw (shuffled-length a.obstacles b.obstacles h.obstacles, shuffled-total (λ x. length (sides_of x)) a.obstacles b.obstacles h.obstacles) refl
+    rw (shuffled-length a.obstacles b.obstacles h.lists.obstacles, shuffled-total (λ x. length (sides_of x)) a.obstacles b.obstacles h.lists.obstacles) refl
 limits-same part a b h = search room-same
 
 found-in-same : {A : Type 0} (kind : A → Part) (name_of : A → List ℕ) (name : List ℕ) (xs ys : List A) → Shuffled xs ys → AreApart name_of xs
@@ -120,7 +120,7 @@ edits-agree (edits.Remove name) a b apart h =
     agree-taken name a b h apart (part_named a name) (part_named b name) (found-alike a b h apart name)
 edits-agree (edits.Grid grid) a b apart h =
     let news = receivers_of grid in
-    let after = puts-shuffled (λ r. r.name) news a.receivers b.receivers h.receivers apart.receivers in
+    let after = puts-shuffled (λ r. r.name) news a.receivers b.receivers h.lists.receivers apart.receivers in
     let count = at_most classes.Receiver most_receivers (grid.columns * grid.rows) in
     let room-a = at_most classes.Receiver most_receivers (length (puts_in news a).receivers) in
     let room-b = at_most classes.Receiver most_receivers (length (puts_in news b).receivers) in

@@ -81,7 +81,7 @@ take-within gone part a h = omega (arith, h, length-take_out)
 -- no order changes the counts
 pub same-within : (a b : Book) → SameParts a b → IsWithin a → IsWithin b
 same-within a b h within =
-    omega (arith, within, h, shuffled-length, shuffled-total (λ x. length (sides_of x)) a.obstacles b.obstacles h.obstacles)
+    omega (arith, within, h, shuffled-length, shuffled-total (λ x. length (sides_of x)) a.obstacles b.obstacles h.lists.obstacles)
 
 -- ---- globals
 

@@ -270,7 +270,7 @@ undo (edits.Grid grid) a b c old is-edit is e same =
     grid-back news a b map (grid-apart grid is-edit) kin alike.0 here.globals
     (λ name none. sym (alike.1 name) ∙ grid-other name news a map kin none)
     (there-same news after b alike.1 (grid-there news a map kin))
-    (omega (arith, put.room, shuffled-length after.receivers b.receivers here.receivers))
+    (omega (arith, put.room, shuffled-length after.receivers b.receivers here.lists.receivers))
 undo (edits.Set setting) a b c old is-edit is e same =
     let made = set-accepted setting a c old e in
     let here : SameParts (with_setting setting a) b = subst (λ (x : Book). SameParts x b) (sym made) same in

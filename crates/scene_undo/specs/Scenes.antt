@@ -1,5 +1,5 @@
 -- What every scene keeps that edits made, and what every edit keeps.
-use Rattle.std.specs.Prelude.{ℕ, ◌≤◌, List, ◌++◌, length, option_map, All}
+use Rattle.std.specs.Prelude.{ℕ, ◌≤◌, List, length, option_map, All}
 use Rattle.std.specs.Option.{option_to_list}
 use Rattle.scene_parts.specs.Limits.{most_corners, most_columns}
 use Rattle.scene_parts.specs.Views.{Zone, Foliage, Grid}
@@ -9,16 +9,12 @@ use Rattle.scene_parts.specs.declared.parts.Part.TheVariants as parts
 use Rattle.scene_book.specs.declared.edits.Edit.{Edit}
 use Rattle.scene_book.specs.declared.edits.Edit.TheVariants as edits
 use Rattle.scene_book.specs.Lists.{named}
-use Rattle.scene_book.specs.Book.{Book, IsWithin, NamesAreApart}
+use Rattle.scene_book.specs.Book.{Book, IsWithin, NamesAreApart, of_slots}
 
 -- the parts that bear a name: of each list the first
 abbrev pub bearers : Book → List ℕ → List Part
 bearers book name =
-    option_to_list (option_map parts.Source (named (λ s. s.name) name book.sources))
-    ++ option_to_list (option_map parts.Obstacle (named (λ o. o.name) name book.obstacles))
-    ++ option_to_list (option_map parts.Zone (named (λ z. z.name) name book.zones))
-    ++ option_to_list (option_map parts.Foliage (named (λ f. f.name) name book.foliage))
-    ++ option_to_list (option_map parts.Receiver (named (λ r. r.name) name book.receivers))
+    of_slots (λ A slot. option_to_list (option_map slot.part_of (named slot.name_of name (slot.list_of book))))
 
 -- no name is borne by parts of two lists
 abbrev pub HasOneNameSpace : Book → Type 0

@@ -1,13 +1,13 @@
 //! The edits that undo an edit.
 ghost use Rattle.std.specs.Prelude.{◌≡◌, [], ◌∷◌, map, IfOk};
-ghost use Rattle.scene_book.specs.Applying.{part_named, name_of};
+ghost use Rattle.scene_book.specs.Applying.{part_named};
 ghost use Rattle.scene_undo.specs.Inverse.{inverse_of, put_back as put_back_of, setting_of as setting_of_all};
 ghost use Rattle.scene_undo.specs.Laws.{IsUndone};
 
 use super::edits::Inverse;
 use scene_book::grids::receivers;
-use scene_book::{Edit, Scene};
-use scene_parts::{Globals, Name, NoMemory, Part, Receiver, SetSpec};
+use scene_book::{Edit, Scene, part_name};
+use scene_parts::{Globals, Name, NoMemory, Receiver, SetSpec};
 use std::alloc::Global;
 
 /// What undoes an edit of a scene that accepts it: of a put the old part's put, or the remove of a new name; of a removal
@@ -78,17 +78,5 @@ fn setting_of(globals: &Globals) -> SetSpec
         air: Some(globals.air),
         c0: Some(globals.c0),
         ground: Some(globals.ground),
-    }
-}
-
-fn part_name(part: &Part) -> &Name
-    ensures { result.now ≡ name_of part.now }
-{
-    match part {
-        Part::Source(source) => &source.name,
-        Part::Obstacle(obstacle) => &obstacle.name,
-        Part::Zone(zone) => &zone.name,
-        Part::Foliage(foliage) => &foliage.name,
-        Part::Receiver(receiver) => &receiver.name,
     }
 }

@@ -8,9 +8,9 @@ pub loop-thing-preserved : goal.loop-thing-preserved
 loop-thing-preserved g c = record {
   can_next = tt;
   is_finite = tt;
-  filed = rw c.in_ok-push.ensures.items (filed-push g.T.Named.name_of c.loop-thing.entries.items c.in_ok-key.key c.in-Some.thing c.in_ok-key.ensures c.loop-thing.invariant.filed);
+  filed = rw c.in_ok-push.ensures.items (filed-push g.T.Named.slot.name_of c.loop-thing.entries.items c.in_ok-key.key c.in-Some.thing c.in_ok-key.ensures c.loop-thing.invariant.filed);
   so_far = rw c.in_ok-push.ensures.items
-      (values-push g.T.Named.name_of c.loop-thing.entries.items c.in_ok-key.key c.in-Some.thing c.next.new.self.rest.items
+      (values-push g.T.Named.slot.name_of c.loop-thing.entries.items c.in_ok-key.key c.in-Some.thing c.next.new.self.rest.items
       ∙ ap (λ l. values_of c.loop-thing.entries.items ++ l) (sym c.in-Some.ensures.steps.0)
       ∙ c.loop-thing.invariant.so_far);
 }

@@ -4,4 +4,4 @@ use Rattle.scene_book.proofs.register.Register.copy.Given as goal
 
 abbrev pub invariant-loop-thing : goal.invariant-loop-thing
 invariant-loop-thing g l =
-    put_all g.T.Named.name_of (drop l.thing-index l.self) l.copied ≡ put_all g.T.Named.name_of l.self []
+    put_all g.T.Named.slot.name_of (drop l.thing-index l.self) l.copied ≡ put_all g.T.Named.slot.name_of l.self []

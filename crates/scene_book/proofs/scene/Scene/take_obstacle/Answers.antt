@@ -1,7 +1,8 @@
-use Rattle.std.proofs.Common.{◌≡◌, ℕ, List, length, sym, ◌∙◌, arith}
+use Rattle.std.proofs.Common.{◌≡◌, ◌≤◌, ℕ, List, length, sym, ◌∙◌, arith}
 use Rattle.std.specs.Prelude.{Some}
 use Rattle.scene_parts.specs.Views.{Obstacle}
 use Rattle.scene_parts.specs.Sides.{sides_of}
+use Rattle.scene_book.specs.Limits.{most_obstacles}
 use Rattle.scene_book.specs.Lists.{named}
 use Rattle.scene_book.proofs.ListLemmas.{sum-take_out, total-there}
 use Rattle.scene_book.proofs.scene.Scene.take_obstacle.Goals as goal
@@ -26,21 +27,13 @@ pub invariant_of-self-2 : goal.invariant_of-self-2
 invariant_of-self-2 c =
     let there : named own_name c.args.name.now c.self.inside.obstacles ≡ Some c.in-Some.obstacle = sym c.in_ok-obstacle.ensures.value ∙ c.in-Some.is in
     let out = sum-take_out own_name weight c.args.name.now c.in-Some.obstacle c.self.inside.obstacles there in
+    let few : length c.take.new.self ≤ most_obstacles =
+    omega (arith, c.self.invariant.within.lists.obstacles, c.in_ok-obstacle.ensures.fewer) in
     record {
       count = rw c.in_ok-obstacle.ensures.left (omega (arith, c.self.invariant.count, c.sides.ensures.count, out));
       within = record {
-        sources = c.self.invariant.within.sources;
-        obstacles = omega (arith, c.self.invariant.within.obstacles, c.in_ok-obstacle.ensures.fewer);
+        lists = assumption (few, c.self.invariant.within.lists);
         sides = rw c.in_ok-obstacle.ensures.left (omega (arith, c.self.invariant.within.sides, out));
-        zones = c.self.invariant.within.zones;
-        foliage = c.self.invariant.within.foliage;
-        receivers = c.self.invariant.within.receivers;
       };
-      apart = record {
-        sources = c.self.invariant.apart.sources;
-        obstacles = c.in_ok-obstacle.ensures.apart;
-        zones = c.self.invariant.apart.zones;
-        foliage = c.self.invariant.apart.foliage;
-        receivers = c.self.invariant.apart.receivers;
-      };
+      apart = assumption (c.in_ok-obstacle.ensures.apart, c.self.invariant.apart);
     }
