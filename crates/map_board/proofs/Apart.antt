@@ -1,5 +1,5 @@
 -- Names that are apart: in lists after puts and removals, and of the sources of every scene that edits make.
-use Rattle.std.proofs.Common.{◌≡◌, ℕ, ◌*◌, length, Bool, true, false, cond, List, [], ◌∷◌, map, Some, None, refl, sym, ap, ◌∙◌, subst}
+use Rattle.std.proofs.Common.{◌≡◌, ℕ, ◌*◌, length, Bool, true, false, cond, List, [], ◌∷◌, map, Some, refl, sym, ap, ◌∙◌, subst}
 use Rattle.std.specs.Prelude.{bytes_eq, Option, Result, Ok, Err, filter, is_some}
 use Rattle.scene_parts.specs.Answers.{◌>>◌}
 use Rattle.scene_parts.specs.Views.{Source, Receiver}
@@ -10,7 +10,7 @@ use Rattle.scene_book.specs.Lists.{named, put_in, take_out, put_all, NoneNamed, 
 use Rattle.scene_book.specs.Book.{Book, empty_book}
 use Rattle.scene_book.specs.Grid.{receivers_of}
 use Rattle.scene_book.specs.Limits.{most_receivers}
-use Rattle.scene_book.specs.Applying.{apply_of, put_of, put_where_room, remove_of, grid_of, taken, part_named, in_limits, with_part, own_class, name_of, class_of, holder, at_most, all_own}
+use Rattle.scene_book.specs.Applying.{apply_of, grid_of, with_part, without, at_most, all_own}
 use Rattle.scene_book.specs.declared.edits.Edit.{Edit}
 use Rattle.scene_book.specs.declared.edits.Edit.TheVariants as edits
 use Rattle.scene_book.specs.declared.edits.EditFault.{EditFault}
@@ -20,6 +20,7 @@ use Rattle.path_calc.specs.Show.{sources_within, bundles_of}
 use Rattle.touch_test.proofs.Lists.{In, here, there}
 use Rattle.map_board.specs.Journal.{scene_left, book_after, book_after_all, newest_scene}
 use Rattle.map_board.proofs.Naming.{turned, same-name, itself}
+use Rattle.map_board.proofs.Receivers.{with-put, without-removed}
 
 module _ {A : Type 0} (name_of : A → List ℕ) where
   none-put : (name : List ℕ) (new : A) (xs : List A) → bytes_eq name (name_of new) ≡ false → NoneNamed name_of name xs → NoneNamed name_of name (put_in name_of new xs)
@@ -126,26 +127,18 @@ last x y r e f = let same : x ≡ y = cc in ap (λ (p : Book × Option Part). p.
 
 with-part : (part : Part) (a : Book) → SourcesAreApart a → SourcesAreApart (with_part part a)
 with-part (parts.Source source) a apart = put-apart (λ s. s.name) source a.sources apart
-with-part (parts.Obstacle o) a apart = apart
-with-part (parts.Zone z) a apart = apart
-with-part (parts.Foliage f) a apart = apart
-with-part (parts.Receiver r) a apart = apart
+with-part part a apart = apart
 
-without-part : (name : List ℕ) (found old : Option Part) (a b : Book) → taken name found a ≡ Ok (b, old) → SourcesAreApart a → SourcesAreApart b
-without-part name None old a b e apart = absurd (cc e)
-without-part name (Some (parts.Source source)) old a b e apart =
-    subst SourcesAreApart (last _ (b, old) (taken name (Some (parts.Source source)) a) refl e) (take-apart (λ s. s.name) name a.sources apart)
-without-part name (Some (parts.Obstacle o)) old a b e apart = subst SourcesAreApart (last _ (b, old) (taken name (Some (parts.Obstacle o)) a) refl e) apart
-without-part name (Some (parts.Zone z)) old a b e apart = subst SourcesAreApart (last _ (b, old) (taken name (Some (parts.Zone z)) a) refl e) apart
-without-part name (Some (parts.Foliage f)) old a b e apart = subst SourcesAreApart (last _ (b, old) (taken name (Some (parts.Foliage f)) a) refl e) apart
-without-part name (Some (parts.Receiver r)) old a b e apart = subst SourcesAreApart (last _ (b, old) (taken name (Some (parts.Receiver r)) a) refl e) apart
+without-part : (name : List ℕ) (part : Part) (a : Book) → SourcesAreApart a → SourcesAreApart (without name part a)
+without-part name (parts.Source source) a apart = take-apart (λ s. s.name) name a.sources apart
+without-part name part a apart = apart
 
 pub accepted-apart : (edit : Edit) (a b : Book) (old : Option Part) → apply_of edit a ≡ Ok (b, old) → SourcesAreApart a → SourcesAreApart b
-unfolding apply_of put_of put_where_room remove_of grid_of
+unfolding apply_of grid_of
 accepted-apart (edits.Put part) a b old e apart =
-    subst SourcesAreApart (last _ (b, old) _ refl (after-step (in_limits part (with_part part a)) _ (b, old)
-    (after-step (own_class (name_of part) (class_of part) (holder a (name_of part))) _ (b, old) e))) (with-part part a apart)
-accepted-apart (edits.Remove name) a b old e apart = without-part name (part_named a name) old a b e apart
+    let put = with-put part a b old e in subst SourcesAreApart put.1 (with-part part a apart)
+accepted-apart (edits.Remove name) a b old e apart =
+    let removed = without-removed name a b old e in subst SourcesAreApart removed.2 (without-part name removed.0 a apart)
 accepted-apart (edits.Grid grid) a b old e apart =
     subst SourcesAreApart (last _ (b, old) _ refl (after-step (at_most classes.Receiver most_receivers (length (put_all (λ r. r.name) (receivers_of grid) a.receivers))) _ (b, old)
     (after-step (all_own a (receivers_of grid)) _ (b, old)

@@ -20,11 +20,8 @@ use Rattle.map_board.proofs.Carrying.{some-item, some-within}
 -- ---- edits that name no receiver
 
 not-named : (name : List ℕ) (part : Part) → is_receiver_part part ≡ false → is_receiver name part ≡ false
-not-named name (parts.Source s) other = refl
 not-named name (parts.Receiver r) other = absurd (cc other)
-not-named name (parts.Zone z) other = refl
-not-named name (parts.Obstacle o) other = refl
-not-named name (parts.Foliage f) other = refl
+not-named name part other = refl
 
 neither : (a b : Bool) → (a || b) ≡ false → (a ≡ false) × (b ≡ false)
 neither true b none = absurd (cc none)

@@ -1,54 +1,26 @@
 -- Edits that leave the obstacles of a scene as they are.
-use Rattle.std.proofs.Common.{◌≡◌, ℕ, false, List, [], ◌++◌, Some, None, refl, sym, ap, ◌∙◌}
-use Rattle.std.specs.Prelude.{bytes_eq, Option}
+use Rattle.std.proofs.Common.{◌≡◌, ℕ, false, List, refl, sym, ap, ◌∙◌}
+use Rattle.std.specs.Prelude.{bytes_eq}
 use Rattle.std.specs.List.{list_any}
-use Rattle.std.specs.Option.{option_map, option_or}
-use Rattle.scene_parts.specs.Views.{Source, Obstacle, Zone, Foliage, Receiver, Grid, Setting}
+use Rattle.scene_parts.specs.Views.{Obstacle, Grid, Setting}
 use Rattle.scene_parts.specs.declared.parts.Part.{Part}
 use Rattle.scene_parts.specs.declared.parts.Part.TheVariants as parts
 use Rattle.scene_book.specs.Book.{Book}
-use Rattle.scene_book.specs.Lists.{named}
-use Rattle.scene_book.specs.Laws.{Edited, pieces_of_any}
+use Rattle.scene_book.specs.Applying.{with_part, without}
 use Rattle.scene_book.specs.declared.edits.Edit.TheVariants as edits
 use Rattle.scene_book.proofs.EditLemmas.{accepted-changes}
 use Rattle.map_board.specs.inner.Sources.{LeavesObstacles, is_obstacle}
-use Rattle.map_board.proofs.LeftSources.{none-named}
+use Rattle.map_board.proofs.Receivers.{with-put, without-removed}
+use Rattle.map_board.proofs.LeftSources.{none-taken}
 
--- a list edited by nothing is the same
-same-list : (old new xs ys : List Obstacle) → Edited old new xs ys → old ≡ [] → new ≡ [] → ys ≡ xs
-same-list old new xs ys e none anew =
-    e.is ∙ ((λ i. e.before ++ (anew i ++ e.after)) ∙ sym (e.was ∙ (λ i. e.before ++ (none i ++ e.after))))
-
-none-in : {A : Type 0} (part : A → Part) (found : Option A) → ((x : A) → (pieces_of_any (Some (part x))).obstacles ≡ []) → (pieces_of_any (option_map part found)).obstacles ≡ []
-none-in part None none = refl
-none-in part (Some x) none = none x
-
-put-source : (s : Source) (book : Book) → LeavesObstacles (edits.Put (parts.Source s)) book
-put-source s book after old e =
-    let ch = accepted-changes (edits.Put (parts.Source s)) book after old e in
-    same-list _ _ book.obstacles after.obstacles ch.obstacles (none-in parts.Source (named (λ (x : Source). x.name) s.name book.sources) (λ x. refl)) refl
-
-put-zone : (z : Zone) (book : Book) → LeavesObstacles (edits.Put (parts.Zone z)) book
-put-zone z book after old e =
-    let ch = accepted-changes (edits.Put (parts.Zone z)) book after old e in
-    same-list _ _ book.obstacles after.obstacles ch.obstacles (none-in parts.Zone (named (λ (x : Zone). x.name) z.name book.zones) (λ x. refl)) refl
-
-put-foliage : (f : Foliage) (book : Book) → LeavesObstacles (edits.Put (parts.Foliage f)) book
-put-foliage f book after old e =
-    let ch = accepted-changes (edits.Put (parts.Foliage f)) book after old e in
-    same-list _ _ book.obstacles after.obstacles ch.obstacles (none-in parts.Foliage (named (λ (x : Foliage). x.name) f.name book.foliage) (λ x. refl)) refl
-
-put-receiver : (r : Receiver) (book : Book) → LeavesObstacles (edits.Put (parts.Receiver r)) book
-put-receiver r book after old e =
-    let ch = accepted-changes (edits.Put (parts.Receiver r)) book after old e in
-    same-list _ _ book.obstacles after.obstacles ch.obstacles (none-in parts.Receiver (named (λ (x : Receiver). x.name) r.name book.receivers) (λ x. refl)) refl
+-- a part that is no obstacle is put into another list
+put-beside : (part : Part) (book : Book) → is_obstacle part ≡ false → (with_part part book).obstacles ≡ book.obstacles
+put-beside (parts.Obstacle o) book other = absurd (cc other)
+put-beside part book other = refl
 
 pub put-leaves : (part : Part) (book : Book) → is_obstacle part ≡ false → LeavesObstacles (edits.Put part) book
-put-leaves (parts.Source s) book other = put-source s book
-put-leaves (parts.Obstacle o) book other = absurd (cc other)
-put-leaves (parts.Zone z) book other = put-zone z book
-put-leaves (parts.Foliage f) book other = put-foliage f book
-put-leaves (parts.Receiver r) book other = put-receiver r book
+put-leaves part book other after old e =
+    let put = with-put part book after old e in ap (λ (b : Book). b.obstacles) (sym put.1) ∙ put-beside part book other
 
 pub grid-leaves : (grid : Grid) (book : Book) → LeavesObstacles (edits.Grid grid) book
 grid-leaves grid book after old e =
@@ -58,21 +30,11 @@ pub set-leaves : (setting : Setting) (book : Book) → LeavesObstacles (edits.Se
 set-leaves setting book after old e =
     let ch = accepted-changes (edits.Set setting) book after old e in ap (λ (b : Book). b.obstacles) ch
 
--- a part that is no obstacle
-beside-obstacles : (s : Option Source) (o : Option Obstacle) (z : Option Zone) (f : Option Foliage) (r : Option Receiver) → o ≡ None
-    → (pieces_of_any (option_or (option_map parts.Source s) (option_or (option_map parts.Obstacle o)
-    (option_or (option_map parts.Zone z) (option_or (option_map parts.Foliage f) (option_map parts.Receiver r)))))).obstacles ≡ []
-beside-obstacles (Some s) o z f r none = refl
-beside-obstacles None (Some o) z f r none = absurd (cc none)
-beside-obstacles None None (Some z) f r none = refl
-beside-obstacles None None None (Some f) r none = refl
-beside-obstacles None None None None (Some r) none = refl
-beside-obstacles None None None None None none = refl
+-- a part is taken out of another list, or is no obstacle of this name
+left-beside : (name : List ℕ) (part : Part) (book : Book) → list_any (λ (o : Obstacle). bytes_eq name o.name) book.obstacles ≡ false → (without name part book).obstacles ≡ book.obstacles
+left-beside name (parts.Obstacle obstacle) book none = none-taken (λ (o : Obstacle). o.name) name book.obstacles none
+left-beside name part book none = refl
 
 pub removal-leaves : (name : List ℕ) (book : Book) → list_any (λ (o : Obstacle). bytes_eq name o.name) book.obstacles ≡ false → LeavesObstacles (edits.Remove name) book
 removal-leaves name book none after old e =
-    let ch = accepted-changes (edits.Remove name) book after old e in
-    same-list _ _ book.obstacles after.obstacles ch.obstacles
-    (beside-obstacles (named (λ (x : Source). x.name) name book.sources) (named (λ (x : Obstacle). x.name) name book.obstacles) (named (λ (x : Zone). x.name) name book.zones)
-    (named (λ (x : Foliage). x.name) name book.foliage) (named (λ (x : Receiver). x.name) name book.receivers)
-    (none-named (λ (o : Obstacle). o.name) name book.obstacles none)) refl
+    let removed = without-removed name book after old e in ap (λ (b : Book). b.obstacles) (sym removed.2) ∙ left-beside name removed.0 book none

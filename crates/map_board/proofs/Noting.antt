@@ -3,7 +3,7 @@ use Rattle.std.proofs.Common.{◌≡◌, ℕ, zero, suc, ◌+◌, ◌<◌, ◌�
 use Rattle.std.specs.Prelude.{nat_lt, bytes_eq, Option, find, ◌||◌, ◌&&◌}
 use Rattle.std.specs.List.{list_any}
 use Rattle.std.specs.Option.{option_map, option_map_or, option_and_then, option_to_list}
-use Rattle.scene_parts.specs.Views.{Source, Obstacle, Zone, Foliage, Receiver}
+use Rattle.scene_parts.specs.Views.{Receiver}
 use Rattle.scene_parts.specs.declared.parts.Part.{Part}
 use Rattle.scene_parts.specs.declared.parts.Part.TheVariants as parts
 use Rattle.scene_book.specs.Book.{Book, empty_book}
@@ -27,11 +27,8 @@ abbrev has : List ℕ → Option NamedReceivers → Bool
 has name o = option_map_or (has_name name) o false
 
 part-names : (name : List ℕ) (part : Part) → is_receiver name part ≡ has name (named_part part)
-part-names name (parts.Source s) = refl
-part-names name (parts.Obstacle o) = refl
-part-names name (parts.Zone z) = refl
-part-names name (parts.Foliage f) = refl
 part-names name (parts.Receiver r) = refl
+part-names name part = refl
 
 old-names : (name : List ℕ) (old : Option Part) → list_any (is_receiver name) (option_to_list old) ≡ has name (option_and_then named_part old)
 old-names name None = refl
@@ -44,22 +41,6 @@ or-replaced false b same = or_false b ∙ same
 
 replaced-names : (name : List ℕ) (part : Part) (book : Book)
     → (is_receiver name part || list_any (is_receiver name) (option_to_list (replaced part book))) ≡ is_receiver name part
-replaced-names name (parts.Source s) book = go (named (λ (x : Source). x.name) s.name book.sources) where
-  go : (o : Option Source) → (false || list_any (is_receiver name) (option_to_list (option_map parts.Source o))) ≡ false
-  go None = refl
-  go (Some x) = refl
-replaced-names name (parts.Obstacle s) book = go (named (λ (x : Obstacle). x.name) s.name book.obstacles) where
-  go : (o : Option Obstacle) → (false || list_any (is_receiver name) (option_to_list (option_map parts.Obstacle o))) ≡ false
-  go None = refl
-  go (Some x) = refl
-replaced-names name (parts.Zone s) book = go (named (λ (x : Zone). x.name) s.name book.zones) where
-  go : (o : Option Zone) → (false || list_any (is_receiver name) (option_to_list (option_map parts.Zone o))) ≡ false
-  go None = refl
-  go (Some x) = refl
-replaced-names name (parts.Foliage s) book = go (named (λ (x : Foliage). x.name) s.name book.foliage) where
-  go : (o : Option Foliage) → (false || list_any (is_receiver name) (option_to_list (option_map parts.Foliage o))) ≡ false
-  go None = refl
-  go (Some x) = refl
 replaced-names name (parts.Receiver r) book = go (named (λ (x : Receiver). x.name) r.name book.receivers) refl where
   go : (o : Option Receiver) → named (λ (x : Receiver). x.name) r.name book.receivers ≡ o
       → (bytes_eq r.name name || list_any (is_receiver name) (option_to_list (option_map parts.Receiver o))) ≡ bytes_eq r.name name
@@ -67,6 +48,7 @@ replaced-names name (parts.Receiver r) book = go (named (λ (x : Receiver). x.na
   go (Some x) is =
       let same : r.name ≡ x.name = same-name r.name x.name (named-is (λ (y : Receiver). y.name) r.name book.receivers x is) in
       or-replaced (bytes_eq r.name name) (bytes_eq x.name name) (ap (λ n. bytes_eq n name) (sym same))
+replaced-names name part book = grind arith
 
 -- what is noted of an edit names those receivers that the edit names
 noted-names : (name : List ℕ) (edit : Edit) (book : Book) → names name edit book ≡ has name (naming_of edit (old_part edit book))

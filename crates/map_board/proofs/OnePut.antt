@@ -79,19 +79,9 @@ record Alone (edit : Edit) (old : Option Part) (news : List Receiver) (p : ℕ) 
   at : place_of (λ (x : Receiver). x.name) new.name news ≡ Some p
 
 put-alone : (edit : Edit) (old : Option Part) (news : List Receiver) (p : ℕ) → put_place edit old news ≡ Some p → Alone edit old news p
-put-alone (edits.Put (parts.Source s)) old news p found = absurd (cc found)
-put-alone (edits.Put (parts.Obstacle o)) old news p found = absurd (cc found)
-put-alone (edits.Put (parts.Zone z)) old news p found = absurd (cc found)
-put-alone (edits.Put (parts.Foliage f)) old news p found = absurd (cc found)
 put-alone (edits.Put (parts.Receiver r)) None news p found = record { new = r; is = refl; alone = refl; at = found }
-put-alone (edits.Put (parts.Receiver r)) (Some (parts.Source s)) news p found = absurd (cc found)
-put-alone (edits.Put (parts.Receiver r)) (Some (parts.Obstacle o)) news p found = absurd (cc found)
-put-alone (edits.Put (parts.Receiver r)) (Some (parts.Zone z)) news p found = absurd (cc found)
-put-alone (edits.Put (parts.Receiver r)) (Some (parts.Foliage f)) news p found = absurd (cc found)
 put-alone (edits.Put (parts.Receiver r)) (Some (parts.Receiver y)) news p found = record { new = r; is = refl; alone = refl; at = found }
-put-alone (edits.Remove name) old news p found = absurd (cc found)
-put-alone (edits.Grid grid) old news p found = absurd (cc found)
-put-alone (edits.Set setting) old news p found = absurd (cc found)
+put-alone edit old news p found = absurd (cc found)
 
 -- who is named bears the new receiver's name
 named-new : (new r : Receiver) (receivers : List Receiver) (found : Option Receiver) → named (λ (x : Receiver). x.name) new.name receivers ≡ found

@@ -129,48 +129,46 @@ within limit count e = within-by limit count (nat_lt limit count) refl e
 left : (a b : Book) (old kept : Option Part) (r : Answer) → r ≡ Ok (a, kept) → r ≡ Ok (b, old) → AreFine a.receivers → AreFine b.receivers
 left a b old kept r e f fine = subst (λ (book : Book). AreFine book.receivers) (first (a, kept) (b, old) r e f) fine
 
-put-fine : (part : Part) (a b : Book) (old : Option Part) → put_where_room part a ≡ Ok (b, old) → AreFine a.receivers → AreFine b.receivers
-unfolding put_where_room
-put-fine (parts.Source s) a b old e fine =
-    let part = parts.Source s in let t = through (in_limits part (with_part part a)) (Ok (with_part part a, replaced part a)) (b, old) e in
-    left (with_part part a) b old (replaced part a) _ refl t.1 fine
-put-fine (parts.Obstacle o) a b old e fine =
-    let part = parts.Obstacle o in let t = through (in_limits part (with_part part a)) (Ok (with_part part a, replaced part a)) (b, old) e in
-    left (with_part part a) b old (replaced part a) _ refl t.1 fine
-put-fine (parts.Zone z) a b old e fine =
-    let part = parts.Zone z in let t = through (in_limits part (with_part part a)) (Ok (with_part part a, replaced part a)) (b, old) e in
-    left (with_part part a) b old (replaced part a) _ refl t.1 fine
-put-fine (parts.Foliage f) a b old e fine =
-    let part = parts.Foliage f in let t = through (in_limits part (with_part part a)) (Ok (with_part part a, replaced part a)) (b, old) e in
-    left (with_part part a) b old (replaced part a) _ refl t.1 fine
-put-fine (parts.Receiver r) a b old e fine =
-    let part = parts.Receiver r in let t = through (in_limits part (with_part part a)) (Ok (with_part part a, replaced part a)) (b, old) e in
-    left (with_part part a) b old (replaced part a) _ refl t.1 (record {
-      apart = put-apart (λ (x : Receiver). x.name) r a.receivers fine.apart;
-      few = within most_receivers (length (put_in (λ (x : Receiver). x.name) r a.receivers)) t.0;
-    })
+-- an accepted put of a part leaves the scene with it
+pub with-put : (part : Part) (a b : Book) (old : Option Part) → apply_of (edits.Put part) a ≡ Ok (b, old) → (in_limits part (with_part part a) ≡ Ok tt) × (with_part part a ≡ b)
+unfolding apply_of put_of put_where_room
+with-put part a b old e =
+    let own = through (own_class (name_of part) (class_of part) (holder a (name_of part))) (put_where_room part a) (b, old) e in
+    let room = through (in_limits part (with_part part a)) (Ok (with_part part a, replaced part a)) (b, old) own.1 in
+    (room.0, first (with_part part a, replaced part a) (b, old) _ refl room.1)
+
+-- an accepted removal of a name leaves the scene without the part that bears it, which is the old part
+pub without-removed : (name : List ℕ) (a b : Book) (old : Option Part) → apply_of (edits.Remove name) a ≡ Ok (b, old)
+    → (part : Part) × (old ≡ Some part) × (without name part a ≡ b)
+unfolding apply_of remove_of
+without-removed name a b old e = go (part_named a name) e where
+  go : (found : Option Part) → taken name found a ≡ Ok (b, old) → (part : Part) × (old ≡ Some part) × (without name part a ≡ b)
+  go None e = absurd (cc e)
+  go (Some part) e =
+      let same : (without name part a, Some part) ≡ (b, old) = cc e in
+      (part, ap (λ (p : Book × Option Part). p.1) (sym same), ap (λ (p : Book × Option Part). p.0) same)
+
+put-fine : (part : Part) (a : Book) → in_limits part (with_part part a) ≡ Ok tt → AreFine a.receivers → AreFine (with_part part a).receivers
+put-fine (parts.Receiver r) a room fine = record {
+  apart = put-apart (λ (x : Receiver). x.name) r a.receivers fine.apart;
+  few = within most_receivers (length (put_in (λ (x : Receiver). x.name) r a.receivers)) room;
+}
+put-fine part a room fine = fine
 
 removed-fine : (name : List ℕ) (part : Part) (a : Book) → AreFine a.receivers → AreFine (without name part a).receivers
-removed-fine name (parts.Source s) a fine = fine
-removed-fine name (parts.Obstacle o) a fine = fine
-removed-fine name (parts.Zone z) a fine = fine
-removed-fine name (parts.Foliage f) a fine = fine
 removed-fine name (parts.Receiver r) a fine = record {
   apart = taken-apart (λ (x : Receiver). x.name) name a.receivers fine.apart;
   few = omega (arith, fine.few, taken-length (λ (x : Receiver). x.name) name a.receivers);
 }
-
-taken-fine : (name : List ℕ) (found : Option Part) (a b : Book) (old : Option Part) → taken name found a ≡ Ok (b, old) → AreFine a.receivers → AreFine b.receivers
-taken-fine name None a b old e fine = cc
-taken-fine name (Some part) a b old e fine = left (without name part a) b old (Some part) _ refl e (removed-fine name part a fine)
+removed-fine name part a fine = fine
 
 -- the receivers of a scene after an accepted edit are fine where those before it were
 pub accepted-fine : (edit : Edit) (a b : Book) (old : Option Part) → apply_of edit a ≡ Ok (b, old) → AreFine a.receivers → AreFine b.receivers
-unfolding apply_of put_of remove_of grid_of
+unfolding apply_of grid_of
 accepted-fine (edits.Put part) a b old e fine =
-    let t = through (own_class (name_of part) (class_of part) (holder a (name_of part))) (put_where_room part a) (b, old) e in
-    put-fine part a b old t.1 fine
-accepted-fine (edits.Remove name) a b old e fine = taken-fine name (part_named a name) a b old e fine
+    let put = with-put part a b old e in subst (λ (book : Book). AreFine book.receivers) put.1 (put-fine part a put.0 fine)
+accepted-fine (edits.Remove name) a b old e fine =
+    let removed = without-removed name a b old e in subst (λ (book : Book). AreFine book.receivers) removed.2 (removed-fine name removed.0 a fine)
 accepted-fine (edits.Grid grid) a b old e fine =
     let news = put_all (λ (x : Receiver). x.name) (receivers_of grid) a.receivers in
     let s = through (at_most classes.Receiver most_receivers (grid.columns * grid.rows)) _ (b, old) e in

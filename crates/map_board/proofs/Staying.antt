@@ -11,14 +11,14 @@ use Rattle.scene_book.specs.Book.{Book, globals_with}
 use Rattle.scene_book.specs.Limits.{most_receivers}
 use Rattle.scene_book.specs.Grid.{receivers_of, columns_from, rows_from}
 use Rattle.scene_book.specs.Lists.{place_of, put_in, take_out, put_all}
-use Rattle.scene_book.specs.Applying.{apply_of, put_of, put_where_room, remove_of, grid_of, taken, part_named, in_limits, with_part, without, own_class, name_of, class_of, holder, at_most, all_own, replaced, with_receivers}
+use Rattle.scene_book.specs.Applying.{apply_of, grid_of, with_part, without, at_most, all_own, with_receivers}
 use Rattle.scene_book.specs.declared.edits.Edit.{Edit}
 use Rattle.scene_book.specs.declared.edits.Edit.TheVariants as edits
 use Rattle.touch_test.specs.Touches.{names_receiver}
 use Rattle.map_board.specs.declared.rows.HeldRow.{HeldRow}
 use Rattle.map_board.specs.inner.Changes.{named_place, gone_from, without_place, most_more}
 use Rattle.map_board.proofs.Naming.{itself}
-use Rattle.map_board.proofs.Receivers.{through, first}
+use Rattle.map_board.proofs.Receivers.{through, first, with-put, without-removed}
 
 -- ---- a place skipped
 
@@ -138,45 +138,22 @@ receivers_after (edits.Remove name) (Some (parts.Receiver r)) rs = take_out (λ 
 receivers_after (edits.Grid grid) old rs = put_all (λ r. r.name) (receivers_of grid) rs
 receivers_after edit old rs = rs
 
-put-receivers : (part : Part) (a b : Book) (old : Option Part) → put_where_room part a ≡ Ok (b, old) → b.receivers ≡ receivers_after (edits.Put part) old a.receivers
-unfolding put_where_room
-put-receivers (parts.Source s) a b old e =
-    let part = parts.Source s in let t = through (in_limits part (with_part part a)) (Ok (with_part part a, replaced part a)) (b, old) e in
-    ap (λ (book : Book). book.receivers) (sym (first (with_part part a, replaced part a) (b, old) _ refl t.1))
-put-receivers (parts.Obstacle o) a b old e =
-    let part = parts.Obstacle o in let t = through (in_limits part (with_part part a)) (Ok (with_part part a, replaced part a)) (b, old) e in
-    ap (λ (book : Book). book.receivers) (sym (first (with_part part a, replaced part a) (b, old) _ refl t.1))
-put-receivers (parts.Zone z) a b old e =
-    let part = parts.Zone z in let t = through (in_limits part (with_part part a)) (Ok (with_part part a, replaced part a)) (b, old) e in
-    ap (λ (book : Book). book.receivers) (sym (first (with_part part a, replaced part a) (b, old) _ refl t.1))
-put-receivers (parts.Foliage f) a b old e =
-    let part = parts.Foliage f in let t = through (in_limits part (with_part part a)) (Ok (with_part part a, replaced part a)) (b, old) e in
-    ap (λ (book : Book). book.receivers) (sym (first (with_part part a, replaced part a) (b, old) _ refl t.1))
-put-receivers (parts.Receiver r) a b old e =
-    let part = parts.Receiver r in let t = through (in_limits part (with_part part a)) (Ok (with_part part a, replaced part a)) (b, old) e in
-    ap (λ (book : Book). book.receivers) (sym (first (with_part part a, replaced part a) (b, old) _ refl t.1))
+put-receivers : (part : Part) (old : Option Part) (a : Book) → (with_part part a).receivers ≡ receivers_after (edits.Put part) old a.receivers
+put-receivers (parts.Receiver r) old a = refl
+put-receivers part old a = refl
 
 left-receivers : (name : List ℕ) (part : Part) (a : Book) → (without name part a).receivers ≡ receivers_after (edits.Remove name) (Some part) a.receivers
-left-receivers name (parts.Source s) a = refl
-left-receivers name (parts.Obstacle o) a = refl
-left-receivers name (parts.Zone z) a = refl
-left-receivers name (parts.Foliage f) a = refl
 left-receivers name (parts.Receiver r) a = refl
-
-taken-receivers : (name : List ℕ) (found : Option Part) (a b : Book) (old : Option Part) → taken name found a ≡ Ok (b, old)
-    → b.receivers ≡ receivers_after (edits.Remove name) old a.receivers
-taken-receivers name None a b old e = absurd (cc e)
-taken-receivers name (Some part) a b old e =
-    let same : (without name part a, Some part) ≡ (b, old) = cc e in
-    ap (λ (p : Book × Option Part). p.0.receivers) (sym same)
-    ∙ (left-receivers name part a ∙ ap (λ (p : Book × Option Part). receivers_after (edits.Remove name) p.1 a.receivers) same)
+left-receivers name part a = refl
 
 pub accepted-receivers : (edit : Edit) (a b : Book) (old : Option Part) → apply_of edit a ≡ Ok (b, old) → b.receivers ≡ receivers_after edit old a.receivers
-unfolding apply_of put_of remove_of grid_of
+unfolding apply_of grid_of
 accepted-receivers (edits.Put part) a b old e =
-    let t = through (own_class (name_of part) (class_of part) (holder a (name_of part))) (put_where_room part a) (b, old) e in
-    put-receivers part a b old t.1
-accepted-receivers (edits.Remove name) a b old e = taken-receivers name (part_named a name) a b old e
+    let put = with-put part a b old e in ap (λ (book : Book). book.receivers) (sym put.1) ∙ put-receivers part old a
+accepted-receivers (edits.Remove name) a b old e =
+    let removed = without-removed name a b old e in
+    ap (λ (book : Book). book.receivers) (sym removed.2)
+    ∙ (left-receivers name removed.0 a ∙ ap (λ o. receivers_after (edits.Remove name) o a.receivers) (sym removed.1))
 accepted-receivers (edits.Grid grid) a b old e =
     let news = put_all (λ (x : Receiver). x.name) (receivers_of grid) a.receivers in
     let s = through (at_most _ most_receivers _) _ (b, old) e in
@@ -210,36 +187,20 @@ moved (Some p) olds k r within at = record {
 
 pub stays : (edit : Edit) (old : Option Part) (olds : List Receiver) (k : ℕ) (r : Receiver) → slice_get (receivers_after edit old olds) k ≡ Some r
     → not (names_receiver r.name edit old) ≡ true → Stays (gone_from (named_place edit olds) edit old) olds k r
-stays (edits.Put (parts.Source s)) old olds k r at unnamed = unmoved olds k r at
-stays (edits.Put (parts.Obstacle o)) old olds k r at unnamed = unmoved olds k r at
-stays (edits.Put (parts.Zone z)) old olds k r at unnamed = unmoved olds k r at
-stays (edits.Put (parts.Foliage f)) old olds k r at unnamed = unmoved olds k r at
 stays (edits.Put (parts.Receiver new)) old olds k r at unnamed =
     unmoved olds k r (put-stays (λ (x : Receiver). x.name) new olds k r (one-fails (bytes_eq new.name r.name) _ unnamed) at)
-stays (edits.Remove name) None olds k r at unnamed = unmoved olds k r at
-stays (edits.Remove name) (Some (parts.Source s)) olds k r at unnamed = unmoved olds k r at
-stays (edits.Remove name) (Some (parts.Obstacle o)) olds k r at unnamed = unmoved olds k r at
-stays (edits.Remove name) (Some (parts.Zone z)) olds k r at unnamed = unmoved olds k r at
-stays (edits.Remove name) (Some (parts.Foliage f)) olds k r at unnamed = unmoved olds k r at
 stays (edits.Remove name) (Some (parts.Receiver x)) olds k r at unnamed =
     let out = taken-place (λ (y : Receiver). y.name) name olds in
     moved (place_of (λ (y : Receiver). y.name) name olds) olds k r out.within (ap (λ (rs : List Receiver). slice_get rs k) (sym out.is) ∙ at)
 stays (edits.Grid grid) old olds k r at unnamed =
     unmoved olds k r (all-stays (λ (x : Receiver). x.name) (receivers_of grid) olds k r (one-fails _ _ unnamed) at)
-stays (edits.Set setting) old olds k r at unnamed = unmoved olds k r at
+stays edit old olds k r at unnamed = unmoved olds k r at
 
 -- ---- how many there are
 
 pub gone-within : (edit : Edit) (old : Option Part) (olds : List Receiver) → IfSome (gone_from (named_place edit olds) edit old) (λ p. p < length olds)
-gone-within (edits.Put part) old olds = tt
-gone-within (edits.Remove name) None olds = tt
-gone-within (edits.Remove name) (Some (parts.Source s)) olds = tt
-gone-within (edits.Remove name) (Some (parts.Obstacle o)) olds = tt
-gone-within (edits.Remove name) (Some (parts.Zone z)) olds = tt
-gone-within (edits.Remove name) (Some (parts.Foliage f)) olds = tt
 gone-within (edits.Remove name) (Some (parts.Receiver x)) olds = (taken-place (λ (y : Receiver). y.name) name olds).within
-gone-within (edits.Grid grid) old olds = tt
-gone-within (edits.Set setting) old olds = tt
+gone-within edit old olds = tt
 
 without-length : {A B : Type 0} (place : Option ℕ) (xs : List A) (ys : List B) → length xs ≡ length ys → IfSome place (λ p. p < length xs)
     → length (without_place place xs) ≡ length (without_place place ys)
@@ -248,20 +209,11 @@ without-length (Some p) xs ys count within = omega (arith, count, fewer xs p wit
 
 -- what is left has places among the new ones
 pub left-few : (edit : Edit) (old : Option Part) (olds : List Receiver) → length (without_place (gone_from (named_place edit olds) edit old) olds) ≤ length (receivers_after edit old olds)
-left-few (edits.Put (parts.Source s)) old olds = omega arith
-left-few (edits.Put (parts.Obstacle o)) old olds = omega arith
-left-few (edits.Put (parts.Zone z)) old olds = omega arith
-left-few (edits.Put (parts.Foliage f)) old olds = omega arith
 left-few (edits.Put (parts.Receiver new)) old olds = put-longer (λ (x : Receiver). x.name) new olds
-left-few (edits.Remove name) None olds = omega arith
-left-few (edits.Remove name) (Some (parts.Source s)) olds = omega arith
-left-few (edits.Remove name) (Some (parts.Obstacle o)) olds = omega arith
-left-few (edits.Remove name) (Some (parts.Zone z)) olds = omega arith
-left-few (edits.Remove name) (Some (parts.Foliage f)) olds = omega arith
 left-few (edits.Remove name) (Some (parts.Receiver x)) olds =
     let out = taken-place (λ (y : Receiver). y.name) name olds in omega (arith, ap length out.is)
 left-few (edits.Grid grid) old olds = all-longer (λ (x : Receiver). x.name) (receivers_of grid) olds
-left-few (edits.Set setting) old olds = omega arith
+left-few edit old olds = omega arith
 
 pub rows-left : (edit : Edit) (old : Option Part) (olds : List Receiver) (hs : List HeldRow) → length hs ≡ length olds
     → length (without_place (gone_from (named_place edit olds) edit old) hs) ≤ length (receivers_after edit old olds)
@@ -288,16 +240,7 @@ grid-count grid = rows-count grid 0 grid.rows
 -- an edit adds few
 pub added-few : (edit : Edit) (old : Option Part) (olds : List Receiver) → length (receivers_after edit old olds) ≤ most_receivers → length olds ≤ most_receivers
     → length (receivers_after edit old olds) ≤ length olds + most_more edit (length olds)
-added-few (edits.Put (parts.Source s)) old olds few before = omega arith
-added-few (edits.Put (parts.Obstacle o)) old olds few before = omega arith
-added-few (edits.Put (parts.Zone z)) old olds few before = omega arith
-added-few (edits.Put (parts.Foliage f)) old olds few before = omega arith
 added-few (edits.Put (parts.Receiver new)) old olds few before = let one = put-one-more (λ (x : Receiver). x.name) new olds in omega (arith, one)
-added-few (edits.Remove name) None olds few before = omega arith
-added-few (edits.Remove name) (Some (parts.Source s)) olds few before = omega arith
-added-few (edits.Remove name) (Some (parts.Obstacle o)) olds few before = omega arith
-added-few (edits.Remove name) (Some (parts.Zone z)) olds few before = omega arith
-added-few (edits.Remove name) (Some (parts.Foliage f)) olds few before = omega arith
 added-few (edits.Remove name) (Some (parts.Receiver x)) olds few before =
     let out = taken-place (λ (y : Receiver). y.name) name olds in
     fewer-left (place_of (λ (y : Receiver). y.name) name olds) out.within (ap length out.is) where
@@ -308,4 +251,4 @@ added-few (edits.Remove name) (Some (parts.Receiver x)) olds few before =
 added-few (edits.Grid grid) old olds few before =
     let added = all-few (λ (x : Receiver). x.name) (receivers_of grid) olds in
     omega (arith, few, before, added, grid-count grid)
-added-few (edits.Set setting) old olds few before = omega arith
+added-few edit old olds few before = omega arith

@@ -51,11 +51,8 @@ or-right true b h = absurd (cc)
 
 -- the pieces of parts that aren't the receiver of a name hold none of that name
 piece-other : (name : List ℕ) (part : Part) → is_receiver name part ≡ false → receiver_named name (pieces_of part).receivers ≡ None
-piece-other name (parts.Source s) h = refl
-piece-other name (parts.Obstacle o) h = refl
-piece-other name (parts.Zone z) h = refl
-piece-other name (parts.Foliage f) h = refl
 piece-other name (parts.Receiver r) h = one-other name r h
+piece-other name part h = refl
 
 any-other : (name : List ℕ) (part : Option Part) → list_any (is_receiver name) (option_to_list part) ≡ false
     → receiver_named name (pieces_of_any part).receivers ≡ None

@@ -23,61 +23,27 @@ use Rattle.map_board.proofs.Touched.{beside-is}
 -- ---- what such an edit touches
 
 touches-names : (edit : Edit) (old : Option Part) (path : TracedPath) → changes_receivers_alone edit old ≡ true → edit_touches edit old path ≡ names_receiver path.receiver edit old
-touches-names (edits.Put (parts.Source s)) old path alone = absurd (cc alone)
-touches-names (edits.Put (parts.Obstacle o)) old path alone = absurd (cc alone)
-touches-names (edits.Put (parts.Zone z)) old path alone = absurd (cc alone)
-touches-names (edits.Put (parts.Foliage f)) old path alone = absurd (cc alone)
 touches-names (edits.Put (parts.Receiver r)) None path alone = refl
-touches-names (edits.Put (parts.Receiver r)) (Some (parts.Source s)) path alone = absurd (cc alone)
-touches-names (edits.Put (parts.Receiver r)) (Some (parts.Obstacle o)) path alone = absurd (cc alone)
-touches-names (edits.Put (parts.Receiver r)) (Some (parts.Zone z)) path alone = absurd (cc alone)
-touches-names (edits.Put (parts.Receiver r)) (Some (parts.Foliage f)) path alone = absurd (cc alone)
 touches-names (edits.Put (parts.Receiver r)) (Some (parts.Receiver x)) path alone = refl
 touches-names (edits.Remove name) None path alone = refl
-touches-names (edits.Remove name) (Some (parts.Source s)) path alone = absurd (cc alone)
-touches-names (edits.Remove name) (Some (parts.Obstacle o)) path alone = absurd (cc alone)
-touches-names (edits.Remove name) (Some (parts.Zone z)) path alone = absurd (cc alone)
-touches-names (edits.Remove name) (Some (parts.Foliage f)) path alone = absurd (cc alone)
 touches-names (edits.Remove name) (Some (parts.Receiver x)) path alone = refl
 touches-names (edits.Grid grid) None path alone = refl
-touches-names (edits.Grid grid) (Some (parts.Source s)) path alone = absurd (cc alone)
-touches-names (edits.Grid grid) (Some (parts.Obstacle o)) path alone = absurd (cc alone)
-touches-names (edits.Grid grid) (Some (parts.Zone z)) path alone = absurd (cc alone)
-touches-names (edits.Grid grid) (Some (parts.Foliage f)) path alone = absurd (cc alone)
 touches-names (edits.Grid grid) (Some (parts.Receiver x)) path alone = refl
-touches-names (edits.Set setting) old path alone = absurd (cc alone)
+touches-names edit old path alone = absurd (cc alone)
 
 no-source : (edit : Edit) (old : Option Part) (reach : ℕ) (r : Receiver) → changes_receivers_alone edit old ≡ true
     → list_any (is_source_within reach r) (changed_parts edit old) ≡ false
-no-source (edits.Put (parts.Source s)) old reach r alone = absurd (cc alone)
-no-source (edits.Put (parts.Obstacle o)) old reach r alone = absurd (cc alone)
-no-source (edits.Put (parts.Zone z)) old reach r alone = absurd (cc alone)
-no-source (edits.Put (parts.Foliage f)) old reach r alone = absurd (cc alone)
 no-source (edits.Put (parts.Receiver x)) None reach r alone = refl
-no-source (edits.Put (parts.Receiver x)) (Some (parts.Source s)) reach r alone = absurd (cc alone)
-no-source (edits.Put (parts.Receiver x)) (Some (parts.Obstacle o)) reach r alone = refl
-no-source (edits.Put (parts.Receiver x)) (Some (parts.Zone z)) reach r alone = refl
-no-source (edits.Put (parts.Receiver x)) (Some (parts.Foliage f)) reach r alone = refl
 no-source (edits.Put (parts.Receiver x)) (Some (parts.Receiver y)) reach r alone = refl
 no-source (edits.Remove name) None reach r alone = refl
-no-source (edits.Remove name) (Some (parts.Source s)) reach r alone = absurd (cc alone)
-no-source (edits.Remove name) (Some (parts.Obstacle o)) reach r alone = refl
-no-source (edits.Remove name) (Some (parts.Zone z)) reach r alone = refl
-no-source (edits.Remove name) (Some (parts.Foliage f)) reach r alone = refl
 no-source (edits.Remove name) (Some (parts.Receiver x)) reach r alone = refl
 no-source (edits.Grid grid) None reach r alone = refl
-no-source (edits.Grid grid) (Some (parts.Source s)) reach r alone = absurd (cc alone)
-no-source (edits.Grid grid) (Some (parts.Obstacle o)) reach r alone = refl
-no-source (edits.Grid grid) (Some (parts.Zone z)) reach r alone = refl
-no-source (edits.Grid grid) (Some (parts.Foliage f)) reach r alone = refl
 no-source (edits.Grid grid) (Some (parts.Receiver x)) reach r alone = refl
-no-source (edits.Set setting) old reach r alone = absurd (cc alone)
+no-source edit old reach r alone = absurd (cc alone)
 
 not-set : (edit : Edit) (old : Option Part) → changes_receivers_alone edit old ≡ true → is_set edit ≡ false
-not-set (edits.Put part) old alone = refl
-not-set (edits.Remove name) old alone = refl
-not-set (edits.Grid grid) old alone = refl
 not-set (edits.Set setting) old alone = absurd (cc alone)
+not-set edit old alone = refl
 
 fails : (b : Bool) → not b ≡ true → b ≡ false
 fails true h = absurd (cc h)

@@ -123,11 +123,9 @@ far-part e r bundle (parts.Source source) to holds far = absurd (cc)
 far-part e r bundle (parts.Obstacle o) to holds far =
     let both = neither (not (o.rho == 0)) (not (lies_beyond e o.points)) far in
     far-obstacle e (bundled r bundle).ends bundle.segs o holds.trace (eqb-true o.rho 0 (not-false (o.rho == 0) both.0)) (not-false (lies_beyond e o.points) both.1)
-far-part e r bundle (parts.Zone zone) to holds far =
-    far-outline e (bundled r bundle).ends bundle.segs zone.points holds.trace (subst (λ (at : Pt). HoldsWay e bundle.at (direct bundle.at at) whole) to holds.line) (not-false (lies_beyond e zone.points) far)
-far-part e r bundle (parts.Foliage foliage) to holds far =
-    far-outline e (bundled r bundle).ends bundle.segs foliage.points holds.trace (subst (λ (at : Pt). HoldsWay e bundle.at (direct bundle.at at) whole) to holds.line) (not-false (lies_beyond e foliage.points) far)
 far-part e r bundle (parts.Receiver receiver) to holds far = far
+far-part e r bundle outlined to holds far =
+    far-outline e (bundled r bundle).ends bundle.segs _ holds.trace (subst (λ (at : Pt). HoldsWay e bundle.at (direct bundle.at at) whole) to holds.line) (not-false _ far)
 
 -- ---- edits
 

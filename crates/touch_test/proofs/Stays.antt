@@ -32,7 +32,7 @@ use Rattle.path_calc.specs.declared.bundles.segments.Seg.TheVariants.{Legs}
 use Rattle.path_shape.specs.Outlines.{met}
 use Rattle.term_foliage.specs.Laws.{unnamed as nameless}
 use Rattle.path_calc.specs.GroundZones.{unnamed, zones_on, foliage_on}
-use Rattle.path_calc.specs.LateralPaths.{LateralPath, lateral_path, lateral_paths, lateral_paths_round, screening_corners, leads_in, is_in_the_way}
+use Rattle.path_calc.specs.LateralPaths.{lateral_path, lateral_paths, lateral_paths_round, screening_corners, leads_in, is_in_the_way}
 use Rattle.path_calc.specs.ReflectedPaths.{ReflectedPath, path_along, along_legs, reflected_in, reflected_by}
 use Rattle.path_calc.specs.ScreeningSets.{screens_before, changes_in, is_renewed, renewals}
 use Rattle.path_calc.specs.Surroundings.{Surroundings, path_of, ends_of, edges_on, surroundings_of}
@@ -47,12 +47,7 @@ use Rattle.touch_test.proofs.Quiet.{no-edges, no-screen, not-in-the-way, no-leg-
 same-fields : (x y : Surroundings) → x.zones ≡ y.zones → x.foliage ≡ y.foliage → x.edges ≡ y.edges → x.laterals ≡ y.laterals → x.renewed ≡ y.renewed
     → x.reflected ≡ y.reflected → x ≡ y
 same-fields x y z w e l n f =
-    ap (λ (v : List Zone). record x { zones = v }) z
-    ∙ ap (λ (v : List Foliage). record y { foliage = v; edges = x.edges; laterals = x.laterals; renewed = x.renewed; reflected = x.reflected }) w
-    ∙ ap (λ (v : List (List Edge)). record y { edges = v; laterals = x.laterals; renewed = x.renewed; reflected = x.reflected }) e
-    ∙ ap (λ (v : List (List LateralPath)). record y { laterals = v; renewed = x.renewed; reflected = x.reflected }) l
-    ∙ ap (λ (v : List Bool). record y { renewed = v; reflected = x.reflected }) n
-    ∙ ap (λ (v : List ReflectedPath). record y { reflected = v }) f
+    λ i. record { zones = z i; foliage = w i; edges = e i; laterals = l i; renewed = n i; reflected = f i }
 
 -- an obstacle screens in the same bands or in none
 unchanged : (band : Band) (ends : Ends) (o : Obstacle) → ((band : Band) → cuts.screens_in band ends o ≡ false) → changes_in band ends o ≡ false
@@ -222,10 +217,7 @@ module _ (a b : Book) (s : Source) (r : Receiver)
       ≡ along_legs b (ends_of s r) o side (unfolded side s.at r.at)
   same-along o side stands =
       let before : ReflectedPath = along_legs a (ends_of s r) o side (unfolded side s.at r.at) in
-      let after : ReflectedPath = along_legs b (ends_of s r) o side (unfolded side s.at r.at) in
-      ap (λ (edges : List (List Edge)). record before { edges = edges }) (same_edges side stands)
-      ∙ ap (λ (zones : List Zone). record after { zones = zones; foliage = before.foliage }) (same_zones side stands)
-      ∙ ap (λ (foliage : List Foliage). record after { foliage = foliage }) (same_foliage side stands)
+      λ i. record before { edges = same_edges side stands i; zones = same_zones side stands i; foliage = same_foliage side stands i }
 
   same-reflected : (o : Obstacle) → In o a.obstacles → (side : Side) → In side (sides_of o)
       → reflected_in a (ends_of s r) o side ≡ reflected_in b (ends_of s r) o side
@@ -257,13 +249,13 @@ pub surroundings-stay : UncrossedIsUnblocked → (a b : Book) (s : Source) (r : 
     → AreQuiet (traced a r s) old → AreQuiet (traced a r s) new → surroundings_of a s r ≡ surroundings_of b s r
 surroundings-stay unblocked a b s r old new e h k =
     same-fields (surroundings_of a s r) (surroundings_of b s r)
-    (line-outlines-stay (λ (z : Zone). z.points) unnamed a s r old.zones new.zones a.zones b.zones e.zones h.zones k.zones)
-    (line-outlines-stay (λ (f : Foliage). f.points) nameless a s r old.foliage new.foliage a.foliage b.foliage e.foliage h.foliage k.foliage)
+    (line-outlines-stay (λ (z : Zone). z.points) unnamed a s r _ _ _ _ e.zones h.zones k.zones)
+    (line-outlines-stay (λ (f : Foliage). f.points) nameless a s r _ _ _ _ e.foliage h.foliage k.foliage)
     (edges-stay unblocked a b s r old.obstacles new.obstacles e.obstacles h.obstacles k.obstacles)
     (laterals-stay unblocked a b s r old.obstacles new.obstacles e.obstacles h.obstacles k.obstacles)
     (renewals-stay unblocked a b s r old.obstacles new.obstacles e.obstacles h.obstacles k.obstacles)
     (reflections-agree a b s r
     (leg-edges-stay unblocked a b s r old.obstacles new.obstacles e.obstacles h.obstacles k.obstacles)
-    (leg-outlines-stay (λ (z : Zone). z.points) unnamed a s r old.zones new.zones a.zones b.zones e.zones h.zones k.zones)
-    (leg-outlines-stay (λ (f : Foliage). f.points) nameless a s r old.foliage new.foliage a.foliage b.foliage e.foliage h.foliage k.foliage)
+    (leg-outlines-stay (λ (z : Zone). z.points) unnamed a s r _ _ _ _ e.zones h.zones k.zones)
+    (leg-outlines-stay (λ (f : Foliage). f.points) nameless a s r _ _ _ _ e.foliage h.foliage k.foliage)
     ∙ obstacles-stay unblocked a b s r old.obstacles new.obstacles e.obstacles h.obstacles k.obstacles b)

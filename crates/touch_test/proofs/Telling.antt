@@ -71,9 +71,8 @@ part-wider : (e f : Envelope) (name : List ℕ) (part : Part) → IsWider e f �
 part-wider e f name (parts.Source source) wider far = far
 part-wider e f name (parts.Obstacle o) wider far =
     let both = neither (not (o.rho == 0)) (not (lies_beyond f o.points)) far in rw (both.0, not-near e f o.points wider both.1) refl
-part-wider e f name (parts.Zone zone) wider far = not-near e f zone.points wider far
-part-wider e f name (parts.Foliage foliage) wider far = not-near e f foliage.points wider far
 part-wider e f name (parts.Receiver receiver) wider far = far
+part-wider e f name outlined wider far = not-near e f _ wider far
 
 edit-wider : (e f : Envelope) (r : Receiver) (edit : Edit) (old : Option Part) → IsWider e f → edit_may_touch f r edit old ≡ false → edit_may_touch e r edit old ≡ false
 edit-wider e f r edit old wider far = rw (here, last.0, parts) refl

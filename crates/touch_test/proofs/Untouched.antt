@@ -19,7 +19,7 @@ use Rattle.path_calc.specs.Trace.{trace_along, trace_of}
 use Rattle.path_calc.specs.Bundles.{bundle_over, bundle_of}
 use Rattle.path_calc.specs.Levels.{levels_of}
 use Rattle.path_calc.specs.Show.{sources_within, show_of}
-use Rattle.touch_test.specs.Touches.{TracedPath, traced, part_touches, old_part, changed_parts, is_set, edit_touches, touches_path, is_source_within, names_receiver, touches_receiver}
+use Rattle.touch_test.specs.Touches.{TracedPath, traced, part_touches, obstacle_touches, outline_touches, old_part, changed_parts, is_set, edit_touches, touches_path, is_source_within, names_receiver, touches_receiver}
 use Rattle.touch_test.specs.Laws.{PathStays, UntouchedPathsStay, ReceiverStays, UntouchedReceiversStay, UntouchedPathsStayInTurn, UntouchedReceiversStayInTurn}
 use Rattle.touch_test.proofs.Lists.{In, here, there, neither, fails-at, from-filter, in-filter, in-map, in-stays, filter-stays, map-agrees, contains, found-in}
 use Rattle.touch_test.proofs.Stays.{AreQuiet, surroundings-stay}
@@ -33,35 +33,27 @@ one-element : {A : Type 0} (P : A → Type 0) (y : A) → P y → (x : A) → In
 one-element P y h _ (here _) = h
 one-element P y h x (there _ _ i) = elim i [ ]
 
-abbrev unnamed_as : TracedPath → Source → Type 0
-unnamed_as path x = bytes_eq x.name path.source ≡ false
+-- where no piece of any list touches it
+quiet-lists : (path : TracedPath) (pieces : Pieces) → list_any (λ x. bytes_eq x.name path.source) pieces.sources ≡ false
+    → list_any (obstacle_touches path.ends path.trace) pieces.obstacles ≡ false
+    → list_any (λ z. outline_touches path.ends path.trace z.points) pieces.zones ≡ false
+    → list_any (λ f. outline_touches path.ends path.trace f.points) pieces.foliage ≡ false → AreQuiet path pieces
+quiet-lists path pieces s o z f = record {
+  sources = λ x i. fails-at _ x pieces.sources i s;
+  obstacles = λ x i. fails-at _ x pieces.obstacles i o;
+  zones = λ x i. fails-at _ x pieces.zones i z;
+  foliage = λ x i. fails-at _ x pieces.foliage i f;
+}
+
+only : (test : Bool) → test ≡ false → (test || false) ≡ false
+only test h = rw h refl
 
 quiet-none : (path : TracedPath) → AreQuiet path no_pieces
-quiet-none path = record { sources = λ x i. elim i [ ]; obstacles = λ x i. elim i [ ]; zones = λ x i. elim i [ ]; foliage = λ x i. elim i [ ] }
+quiet-none path = search quiet-lists
 
 quiet-part : (path : TracedPath) (part : Part) → part_touches path part ≡ false → AreQuiet path (pieces_of part)
-quiet-part path (parts.Source source) h =
-    record { sources = one-element (unnamed_as path) source h; obstacles = λ x i. elim i [ ]; zones = λ x i. elim i [ ]; foliage = λ x i. elim i [ ] }
-quiet-part path (parts.Obstacle o) h = record {
-  sources = λ x i. elim i [ ];
-  obstacles = one-element (λ o. part_touches path (parts.Obstacle o) ≡ false) o h;
-  zones = λ x i. elim i [ ];
-  foliage = λ x i. elim i [ ];
-}
-quiet-part path (parts.Zone zone) h = record {
-  sources = λ x i. elim i [ ];
-  obstacles = λ x i. elim i [ ];
-  zones = one-element (λ z. part_touches path (parts.Zone z) ≡ false) zone h;
-  foliage = λ x i. elim i [ ];
-}
-quiet-part path (parts.Foliage foliage) h = record {
-  sources = λ x i. elim i [ ];
-  obstacles = λ x i. elim i [ ];
-  zones = λ x i. elim i [ ];
-  foliage = one-element (λ f. part_touches path (parts.Foliage f) ≡ false) foliage h;
-}
-quiet-part path (parts.Receiver receiver) h =
-    record { sources = λ x i. elim i [ ]; obstacles = λ x i. elim i [ ]; zones = λ x i. elim i [ ]; foliage = λ x i. elim i [ ] }
+quiet-part path (parts.Receiver receiver) h = search quiet-lists
+quiet-part path part h = search (quiet-lists, only)
 
 quiet-old : (path : TracedPath) (old : Option Part) → list_any (part_touches path) (option_to_list old) ≡ false
     → AreQuiet path (pieces_of_any old)
@@ -129,10 +121,7 @@ AreFar r reach pieces = (x : Source) → In x pieces.sources → IsFar r reach x
 
 far-part : (r : Receiver) (reach : ℕ) (part : Part) → is_source_within reach r part ≡ false → AreFar r reach (pieces_of part)
 far-part r reach (parts.Source source) h = one-element (IsFar r reach) source h
-far-part r reach (parts.Obstacle o) h = no-elements (IsFar r reach)
-far-part r reach (parts.Zone zone) h = no-elements (IsFar r reach)
-far-part r reach (parts.Foliage foliage) h = no-elements (IsFar r reach)
-far-part r reach (parts.Receiver receiver) h = no-elements (IsFar r reach)
+far-part r reach part h = no-elements (IsFar r reach)
 
 far-old : (r : Receiver) (reach : ℕ) (old : Option Part) → list_any (is_source_within reach r) (option_to_list old) ≡ false
     → AreFar r reach (pieces_of_any old)

@@ -12,11 +12,8 @@ use Rattle.map_board.proofs.edits.renewing.place_alone.Goals as goal
 as-placed : (new : Receiver) (old : Option Part) (rs : List Receiver) → is_receiver_if_any old ≡ true
     → place_of (λ (r : Receiver). r.name) new.name rs ≡ put_place (edits.Put (parts.Receiver new)) old rs
 as-placed new None rs plain = refl
-as-placed new (Some (parts.Source s)) rs plain = absurd (cc plain)
-as-placed new (Some (parts.Obstacle o)) rs plain = absurd (cc plain)
-as-placed new (Some (parts.Zone z)) rs plain = absurd (cc plain)
-as-placed new (Some (parts.Foliage f)) rs plain = absurd (cc plain)
 as-placed new (Some (parts.Receiver r)) rs plain = refl
+as-placed new old rs plain = absurd (cc plain)
 
 pub returns-in-Receiver : goal.returns-in-Receiver
 returns-in-Receiver c =
