@@ -14,10 +14,10 @@ use Rattle.scene_book.specs.declared.edits.Edit.{Edit}
 use Rattle.scene_book.specs.declared.edits.Edit.TheVariants as edits
 use Rattle.scene_book.specs.declared.edits.EditFault.{EditFault}
 use Rattle.scene_book.specs.declared.edits.EditFault.TheVariants.{Full}
-use Rattle.scene_book.specs.Book.{Book}
+use Rattle.scene_book.specs.Book.{Book, at_most}
 use Rattle.scene_book.specs.Limits.{most_sources}
 use Rattle.scene_book.specs.Lists.{put_in, put_all, NoneNamed, AreApart}
-use Rattle.scene_book.specs.Applying.{applied, apply_of, put_of, put_where_room, own_class, holder, in_limits, with_part, replaced, at_most}
+use Rattle.scene_book.specs.Applying.{applied, apply_of, put_of, put_where_room, own_class, holder, in_limits, with_part, replaced}
 use Rattle.line_sources.specs.Pieces.{is_put, puts, removes, beyond, accepted, all_accepted, edits_with, sources_of, line_edits_of}
 use Rattle.command_lines.specs.Views.{LineSource}
 use Rattle.line_sources.proofs.Numbering.{first-apart}

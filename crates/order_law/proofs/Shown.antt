@@ -48,7 +48,7 @@ levels-alike x y e f = both x.total y.total x.bands y.bands e f where
 
 module _ (a b : Book) (r : Receiver) (alike : SameParts a b) (outside : a.globals.g ≤ 100) (few_zones : AreFew IsZoneWithin a.zones) (few_foliage : AreFew IsFoliageWithin a.foliage) where
   read-alike : AreAlike a b
-  read-alike = record { obstacles = alike.obstacles; zones = alike.zones; foliage = alike.foliage; few_zones = few_zones; few_foliage = few_foliage }
+  read-alike = record { obstacles = alike.lists.obstacles; zones = alike.lists.zones; foliage = alike.lists.foliage; few_zones = few_zones; few_foliage = few_foliage }
 
   long-between : (s : Source) → enc (long_energy_between a s r) ≡ enc (long_energy_between b s r)
   long-between s = rw alike.globals (long-energy-alike a b s r a.globals outside read-alike)
@@ -59,12 +59,12 @@ module _ (a b : Book) (r : Receiver) (alike : SameParts a b) (outside : a.global
   total-alike : enc (total_form a r) ≡ enc (total_form b r)
   unfolding total_form
   total-alike =
-      rw (sources-alike a b r alike.globals alike.sources (λ s. long_energy_between a s r) (λ s. long_energy_between b s r) long-between (λ s. long-energy-positive a s r a.globals))
+      rw (sources-alike a b r alike.globals alike.lists.sources (λ s. long_energy_between a s r) (λ s. long_energy_between b s r) long-between (λ s. long-energy-positive a s r a.globals))
 
   band-alike : (band : Band) → enc (band_form a r band) ≡ enc (band_form b r band)
   unfolding band_form
   band-alike band =
-      rw (sources-alike a b r alike.globals alike.sources (λ s. band_energy_between a s r band) (λ s. band_energy_between b s r band) (band-between band) (λ s. band-energy-positive a s r a.globals band))
+      rw (sources-alike a b r alike.globals alike.lists.sources (λ s. band_energy_between a s r band) (λ s. band_energy_between b s r band) (band-between band) (λ s. band-energy-positive a s r a.globals band))
 
   -- with no more of a scene than that its zones and its foliage are few
   pub show-alike : show_of a r ≡ show_of b r
@@ -83,8 +83,8 @@ each-of P (x ∷ xs) all = (all 0 x (omega arith), each-of P xs (λ k d below. a
 pub scene-alike : (a b : Book) (r : Receiver) → SameParts a b → IsWithin a → All IsZoneWithin a.zones → All IsFoliageWithin a.foliage → AreGlobals a.globals → show_of a r ≡ show_of b r
 scene-alike a b r alike within zones foliage globals =
     show-alike a b r alike globals.ground_factor
-    (record { count = within.zones; each = each-of IsZoneWithin a.zones zones })
-    (record { count = within.foliage; each = each-of IsFoliageWithin a.foliage foliage })
+    (record { count = within.lists.zones; each = each-of IsZoneWithin a.zones zones })
+    (record { count = within.lists.foliage; each = each-of IsFoliageWithin a.foliage foliage })
 
 pub order-law : OrderLaw
 order-law a b r scene alike = scene-alike a b r alike scene.within scene.zones scene.foliage scene.globals
@@ -93,7 +93,7 @@ order-law a b r scene alike = scene-alike a b r alike scene.within scene.zones s
 pub rows-shuffled : {X : Type 0} (row : Receiver → Levels → X) (a b : Book) → IsScene a → SameParts a b
     → Shuffled (map (λ r. row r (show_of a r)) a.receivers) (map (λ r. row r (show_of b r)) b.receivers)
 rows-shuffled row a b scene alike =
-    maps-shuffled (λ r. row r (show_of a r)) (λ r. row r (show_of b r)) (λ r. ap (row r) (order-law a b r scene alike)) alike.receivers
+    maps-shuffled (λ r. row r (show_of a r)) (λ r. row r (show_of b r)) (λ r. ap (row r) (order-law a b r scene alike)) alike.lists.receivers
 
 pub shown-law : ShownLaw
 shown-law = rows-shuffled named where

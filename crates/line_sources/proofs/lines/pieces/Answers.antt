@@ -16,7 +16,7 @@ returns-clause-value c =
     let others : c.in_ok-others.others.items ≡ beyond c.items-name.result.now c.in_ok-news.news.items c.args.scene.now.sources =
     rw (c.deref.ensures.value, c.sources.ensures.value) at c.in_ok-others.ensures in
     subst P
-    (line-edits c.args.line.now c.args.scene.now c.items-name.result.now c.in_ok-news.news.items c.in_ok-others.others.items name c.in_ok-news.ensures others c.sources.ensures.within.sources)
+    (line-edits c.args.line.now c.args.scene.now c.items-name.result.now c.in_ok-news.news.items c.in_ok-others.others.items name c.in_ok-news.ensures others c.sources.ensures.within.lists.sources)
     c.accepted_edits.ensures.value
 
 pub returns-clause-tiled : goal.returns-clause-tiled

@@ -26,7 +26,7 @@ returns-clause-ascend g c =
     ascend-up 0 c.loop-place.origins.list.items c.loop-place.origins.next (length c.args.renewal.now.kept.now) inv.ascend inv.next
 
 pub returns-clause-few : goal.returns-clause-few
-returns-clause-few g c = omega (arith, c.loop-place.invariant.few, c.loop-place.auto.place-end, ap length c.sources-source-items.ensures.value, c.sources-source-items.ensures.within.sources)
+returns-clause-few g c = omega (arith, c.loop-place.invariant.few, c.loop-place.auto.place-end, ap length c.sources-source-items.ensures.value, c.sources-source-items.ensures.within.lists.sources)
 
 pub returns-clause-steps : goal.returns-clause-steps
 returns-clause-steps g c =
