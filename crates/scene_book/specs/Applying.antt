@@ -11,21 +11,11 @@ use Rattle.scene_book.specs.declared.edits.EditFault.TheVariants.{NoMemory, NoSu
 use Rattle.scene_parts.specs.Answers.{◌>>=◌, ◌>>◌, MatchesUnlessMemory}
 use Rattle.scene_book.specs.Limits.{most_receivers}
 use Rattle.scene_book.specs.Lists.{named, put_in, take_out, put_all}
-use Rattle.scene_book.specs.Book.{Book, at_most, by_slot, first_of_slots, globals_with}
+use Rattle.scene_book.specs.Book.{Book, class_number, at_most, by_slot, first_of_slots, globals_with}
 use Rattle.scene_book.specs.Grid.{receivers_of}
 
 abbrev pub class_of : Part → Class
 class_of = by_slot (λ A slot part. slot.class_of part)
-
-abbrev pub class_number : Class → ℕ
-class_number classes.Source = 0
-class_number classes.Barrier = 1
-class_number classes.Building = 2
-class_number classes.Zone = 3
-class_number classes.Foliage = 4
-class_number classes.Receiver = 5
-class_number classes.Obstacle = 6
-class_number classes.Side = 7
 
 -- the part that bears a name
 abbrev pub part_named : Book → List ℕ → Option Part

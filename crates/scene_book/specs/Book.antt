@@ -69,6 +69,17 @@ pub record Slot (A : Type 0) : Type 0 where
 abbrev pub at_most : Class → ℕ → ℕ → Result (Unit {0}) EditFault
 at_most class limit count = if nat_lt limit count then Err (Full class limit) else Ok tt
 
+-- classes in the order of their numbers
+abbrev pub class_number : Class → ℕ
+class_number classes.Source = 0
+class_number classes.Barrier = 1
+class_number classes.Building = 2
+class_number classes.Zone = 3
+class_number classes.Foliage = 4
+class_number classes.Receiver = 5
+class_number classes.Obstacle = 6
+class_number classes.Side = 7
+
 -- a barrier and a building are of different classes
 abbrev pub class_of_shape : Shape → Class
 class_of_shape shapes.Barrier = classes.Barrier

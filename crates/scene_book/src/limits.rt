@@ -1,7 +1,7 @@
 //! How many parts a scene holds, and the classes that count them.
 ghost use Rattle.std.specs.Prelude.{◌≡◌, ◌≤◌, OnOk};
-ghost use Rattle.scene_book.specs.Book.{at_most as at_most_of};
-ghost use Rattle.scene_book.specs.Applying.{same_class as same_class_of, class_number as class_number_of};
+ghost use Rattle.scene_book.specs.Book.{at_most as at_most_of, class_number as class_number_of};
+ghost use Rattle.scene_book.specs.Applying.{same_class as same_class_of};
 
 use super::edits::EditFault;
 use scene_parts::Class;

@@ -131,15 +131,11 @@ scene-same a b h is =
 scene-put : (part : Part) (a : Book) → IsEdit (edits.Put part) → IsScene a → IsWithin (with_part part a) → IsMap (with_part part a)
     → IsScene (with_part part a)
 scene-put (parts.Source s) a is-edit is within map = search (one-to (with_part (parts.Source s) a) map.one)
-scene-put (parts.Obstacle o) a is-edit is within map = search (one-to (with_part (parts.Obstacle o) a) map.one)
-scene-put (parts.Receiver r) a is-edit is within map = search (one-to (with_part (parts.Receiver r) a) map.one)
 scene-put part a is-edit is within map = search (one-to (with_part part a) map.one, all-put)
 
 scene-taken : (gone : List ℕ) (part : Part) (a : Book) → IsScene a → IsWithin (without gone part a) → IsMap (without gone part a)
     → IsScene (without gone part a)
 scene-taken gone (parts.Source s) a is within map = search (one-to (without gone (parts.Source s) a) map.one)
-scene-taken gone (parts.Obstacle o) a is within map = search (one-to (without gone (parts.Obstacle o) a) map.one)
-scene-taken gone (parts.Receiver r) a is within map = search (one-to (without gone (parts.Receiver r) a) map.one)
 scene-taken gone part a is within map = search (one-to (without gone part a) map.one, all-take)
 
 pub scene-kept : SceneIsKept

@@ -12,8 +12,8 @@ use Rattle.scene_parts.specs.declared.kinds.Class.{Class}
 use Rattle.scene_parts.specs.declared.kinds.Class.TheVariants as classes
 use Rattle.scene_book.specs.declared.edits.EditFault.{EditFault}
 use Rattle.scene_book.specs.Lists.{named, AreApart}
-use Rattle.scene_book.specs.Book.{Book, NamesAreApart, class_of_shape}
-use Rattle.scene_book.specs.Applying.{class_of, class_number, same_class, own_class, part_named, name_of, with_part, without}
+use Rattle.scene_book.specs.Book.{Book, NamesAreApart, class_number, class_of_shape}
+use Rattle.scene_book.specs.Applying.{class_of, same_class, own_class, part_named, name_of, with_part, without}
 use Rattle.scene_book.specs.Orders.{Shuffled, SameParts}
 use Rattle.scene_undo.specs.Scenes.{HasOneNameSpace}
 use Rattle.scene_undo.proofs.Maps.{one_name, named-put, named-take, apart-put, apart-take, shuffled-alike, alike-shuffled}

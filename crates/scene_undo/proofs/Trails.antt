@@ -17,7 +17,7 @@ use Rattle.scene_undo.specs.Scenes.{IsScene, IsEdit}
 use Rattle.scene_undo.specs.Laws.{LeadTo, InverseIsOfEdits, Entry, IsTrail, inverses_of, TrailLaw}
 use Rattle.scene_undo.proofs.Maps.{turned}
 use Rattle.scene_undo.proofs.Kept.{all-found, scene-kept}
-use Rattle.scene_undo.proofs.Undoing.{either-is, of-kind, undo}
+use Rattle.scene_undo.proofs.Undoing.{of_found, undo}
 
 -- ---- the same parts
 
@@ -93,7 +93,7 @@ put_back-edit : (a : Book) → IsScene a → (name : List ℕ) → IsEdit (put_b
 put_back-edit a is name = by (part_named a name) in-range
   where
     in-range : IfSome (part_named a name) (λ part. IsEdit (edits.Put part))
-    in-range = search (either-is, of-kind, found-in-range, rangeless) depth 9
+    in-range = of_found (λ part. IsEdit (edits.Put part)) a name (search (found-in-range, rangeless))
 
     by : (found : Option Part) → IfSome found (λ part. IsEdit (edits.Put part)) → IsEdit (put_back name found)
     by None is = tt

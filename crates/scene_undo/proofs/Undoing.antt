@@ -1,7 +1,6 @@
 -- What undoes an edit.
 use Rattle.std.proofs.Common.{◌≡◌, ℕ, ◌≤◌, refl, sym, ap, subst, ◌∙◌, arith, Bool, true, false, cond, List, [], ◌∷◌, length}
-use Rattle.std.specs.Prelude.{bytes_eq, Option, Some, None, option_map, IfSome, map}
-use Rattle.std.specs.Option.{option_or}
+use Rattle.std.specs.Prelude.{bytes_eq, Option, Some, None, IfSome, map}
 use Rattle.scene_parts.specs.Views.{Receiver, Grid}
 use Rattle.scene_parts.specs.declared.parts.Part.{Part}
 use Rattle.scene_parts.specs.declared.parts.Part.TheVariants as parts
@@ -10,12 +9,13 @@ use Rattle.scene_book.specs.declared.edits.Edit.{Edit}
 use Rattle.scene_book.specs.declared.edits.Edit.TheVariants as edits
 use Rattle.scene_book.specs.Limits.{most_receivers}
 use Rattle.scene_book.specs.Lists.{named, put_in, NoneNamed, AreApart}
-use Rattle.scene_book.specs.Book.{Book, IsWithin, with_setting}
+use Rattle.scene_book.specs.Book.{Book, Slot, OfEachSlot, IsWithin, with_setting}
 use Rattle.scene_book.specs.Grid.{receivers_of}
 use Rattle.scene_book.specs.Applying.{apply_of, part_named, name_of, with_part, without, replaced, in_limits}
 use Rattle.scene_book.specs.Orders.{SameParts}
 use Rattle.scene_book.proofs.ListLemmas.{length-put_in-there, length-take_out}
 use Rattle.scene_book.proofs.GridLemmas.{rows-apart}
+use Rattle.scene_book.proofs.SlotLemmas.{each_to, of_named}
 use Rattle.scene_undo.specs.Inverse.{put_back, setting_of}
 use Rattle.scene_undo.specs.Scenes.{IsGridWithin}
 use Rattle.scene_undo.specs.Laws.{LeadTo, UndoLaw}
@@ -25,8 +25,19 @@ use Rattle.scene_undo.proofs.Accepting.{left, put-accepted, put-accepts, remove-
 use Rattle.scene_undo.proofs.Grids.{AllKin, AtReceiver, AllThere, all-kin, grid-map, grid-other, grid-there}
 use Rattle.scene_undo.proofs.Kept.{put-globals, take-globals, same-within, scene-map}
 
--- ---- the part that a name finds bears it
+-- ---- the part that a name finds
 
+-- what holds of what each list has under a name holds of the part that bears it
+pub of_found : (P : Part → Type 0) (a : Book) (name : List ℕ)
+    → OfEachSlot (λ A slot. IfSome (named slot.name_of name (slot.list_of a)) (λ x. P (slot.part_of x)))
+    → IfSome (part_named a name) P
+of_found P a name each = of_named (λ found. IfSome found P) a name (each_to there each) tt
+  where
+    there : (A : Type 0) (slot : Slot A) → IfSome (named slot.name_of name (slot.list_of a)) (λ x. P (slot.part_of x))
+        → (x : A) → named slot.name_of name (slot.list_of a) ≡ Some x → P (slot.part_of x)
+    there A slot is x e = subst (λ found. IfSome found (λ x. P (slot.part_of x))) e is
+
+-- it bears the name
 found-bears : {A : Type 0} (name_of : A → List ℕ) (name : List ℕ) (xs : List A) → IfSome (named name_of name xs) (λ x. name ≡ name_of x)
 found-bears {A = A} name_of name xs = by (named name_of name xs) refl
   where
@@ -34,20 +45,9 @@ found-bears {A = A} name_of name xs = by (named name_of name xs) refl
     by None e = tt
     by (Some x) e = found-name name_of name x xs e
 
-module _ (P : Part → Type 0) where
-  pub either-is : (one other : Option Part) → IfSome one P → IfSome other P → IfSome (option_or one other) P
-  either-is None other is too = too
-  either-is (Some part) other is too = is
-
-  pub of-kind : {A : Type 0} (kind : A → Part) (found : Option A) → IfSome found (λ x. P (kind x)) → IfSome (option_map kind found) P
-  of-kind kind None is = tt
-  of-kind kind (Some x) is = is
-
-pub part-name : (name : List ℕ) (part : Part) (a : Book) → One a → part_named a name ≡ Some part → name ≡ name_of part
-part-name name part a one is = subst (λ found. IfSome found (λ p. name ≡ name_of p)) is bears
-  where
-    bears : IfSome (part_named a name) (λ p. name ≡ name_of p)
-    bears = search (either-is, of-kind, found-bears) depth 9
+part-name : (name : List ℕ) (part : Part) (a : Book) → part_named a name ≡ Some part → name ≡ name_of part
+part-name name part a is =
+    subst (λ found. IfSome found (λ p. name ≡ name_of p)) is (of_found (λ p. name ≡ name_of p) a name (search found-bears))
 
 -- ---- one edit, and the rest
 
@@ -125,7 +125,7 @@ given-back name a b within map other globals others can = by (part_named a name)
         lead-on a (edits.Remove name) [] b next given.old given.accepted
         (next, refl, one-left name a next map given.names (given.globals ∙ globals) given.here (λ n e. given.others n e ∙ others n e))
     by (Some part) is can =
-        let bears : name ≡ name_of part = part-name name part a map.one is in
+        let bears : name ≡ name_of part = part-name name part a is in
         let owns : Kin part (part_named b (name_of part)) = subst (λ n. Kin part (part_named b n)) bears can in
         let next = with_part part b in
         let found = put-each name part b other bears owns in
@@ -150,7 +150,7 @@ Step name edit a b = (next : Book) × IsGivenBack name edit a b next × (length 
 put-step : (name : List ℕ) (q : Receiver) (a b : Book) → IsMap a → IsMap b → part_named a name ≡ Some (parts.Receiver q)
     → AtReceiver (part_named b name) → length b.receivers ≤ most_receivers → Step name (edits.Put (parts.Receiver q)) a b
 put-step name q a b map other is there room =
-    let bears : name ≡ q.name = part-name name (parts.Receiver q) a map.one is in
+    let bears : name ≡ q.name = part-name name (parts.Receiver q) a is in
     let found : part_named b q.name ≡ Some (parts.Receiver there.0) = ap (part_named b) (sym bears) ∙ there.1 in
     let owns : Kin (parts.Receiver q) (part_named b q.name) = subst (Kin (parts.Receiver q)) (sym found) refl in
     let as_long : length (put_in (λ r. r.name) q b.receivers) ≡ length b.receivers =
