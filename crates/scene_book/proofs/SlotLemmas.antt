@@ -9,17 +9,7 @@ use Rattle.scene_book.specs.Lists.{named}
 use Rattle.scene_book.specs.Book.{Book, Slot, OfEachSlot, source_slot, obstacle_slot, zone_slot, foliage_slot, receiver_slot}
 use Rattle.scene_book.specs.Applying.{part_named}
 
--- what is shown of any slot holds of each
-pub of_each : {Holds : (A : Type 0) → Slot A → Type 0}
-    → ((A : Type 0) (slot : Slot A) → Holds A slot) → OfEachSlot Holds
-of_each any = record {
-  sources = any Source source_slot;
-  obstacles = any Obstacle obstacle_slot;
-  zones = any Zone zone_slot;
-  foliage = any Foliage foliage_slot;
-  receivers = any Receiver receiver_slot;
-}
-
+-- what follows of any slot follows of each
 pub each_to : {Holds Follows : (A : Type 0) → Slot A → Type 0}
     → ((A : Type 0) (slot : Slot A) → Holds A slot → Follows A slot)
     → OfEachSlot Holds → OfEachSlot Follows

@@ -54,8 +54,8 @@ with_setting setting book = record book { globals = globals_with setting book.gl
 
 -- ---- slots: one for each list of a scene
 
--- which list it is, how one is put in its place, what a part there is called, of which class it is and which part it is,
--- how many there may be, and whether a scene keeps that limit
+-- which list it is, how one is put in its place, what a part there is called, of which class it is and which part it
+-- is, how many there may be, and whether a scene keeps that limit
 pub record Slot (A : Type 0) : Type 0 where
   pub list_of : Book → List A
   pub with_list : List A → Book → Book
