@@ -19,7 +19,8 @@ use Rattle.path_calc.specs.Bundles.{Bundle}
 use Rattle.path_calc.specs.declared.bundles.segments.Seg.{Seg}
 use Rattle.path_calc.specs.declared.bundles.segments.Seg.TheVariants.{Straight, Legs}
 use Rattle.touch_test.specs.declared.envelopes.Envelope.{Envelope}
-use Rattle.touch_test.specs.Touches.{bundled, changed_parts, edit_touches, is_receiver, is_set, outline_of, puts_by_grid}
+use Rattle.touch_test.specs.Touches.{bundled, changed_parts, edit_touches, is_set, puts_by_grid}
+use Rattle.touch_test.specs.Touches.{is_receiver, outline_of}
 
 -- ---- what a box holds
 
