@@ -8,11 +8,11 @@ use Rattle.scene_parts.specs.Views.{Receiver}
 use Rattle.scene_parts.specs.declared.parts.Part.{Part}
 use Rattle.scene_parts.specs.declared.parts.Part.TheVariants as parts
 use Rattle.scene_parts.specs.declared.kinds.Class.TheVariants as classes
-use Rattle.scene_book.specs.Book.{Book, globals_with}
+use Rattle.scene_book.specs.Book.{Book, globals_with, at_most}
 use Rattle.scene_book.specs.Limits.{most_receivers}
 use Rattle.scene_book.specs.Grid.{receivers_of}
 use Rattle.scene_book.specs.Lists.{named, put_in, take_out, put_all, NoneNamed, AreApart}
-use Rattle.scene_book.specs.Applying.{apply_of, put_of, put_where_room, remove_of, grid_of, taken, part_named, in_limits, with_part, without, own_class, name_of, class_of, holder, at_most, all_own, replaced, with_receivers}
+use Rattle.scene_book.specs.Applying.{apply_of, put_of, put_where_room, remove_of, grid_of, taken, part_named, in_limits, with_part, without, own_class, name_of, class_of, holder, all_own, replaced, with_receivers}
 use Rattle.scene_book.specs.declared.edits.Edit.{Edit}
 use Rattle.scene_book.specs.declared.edits.Edit.TheVariants as edits
 use Rattle.scene_book.specs.declared.edits.EditFault.{EditFault}
