@@ -32,14 +32,14 @@ pub put-leaves-names : (part : Part) (old : Option Part) → map name_of (pieces
 put-leaves-names part old same book after accepted =
     let ch = accepted-changes (edits.Put part) book after old accepted in
     let is = answers-old (edits.Put part) book after old accepted in
-    same-names _ _ book.sources after.sources ch.sources (same ∙ ap (λ (o : Option Part). map name_of (pieces_of_any o).sources) (sym is))
+    same-names _ _ book.sources after.sources ch.lists.sources (same ∙ ap (λ (o : Option Part). map name_of (pieces_of_any o).sources) (sym is))
 
 -- a removal of no source
 pub removal-leaves-names : (name : List ℕ) (old : Option Part) → [] ≡ map name_of (pieces_of_any old).sources → LeavesSourceNames (edits.Remove name) old
 removal-leaves-names name old none book after accepted =
     let ch = accepted-changes (edits.Remove name) book after old accepted in
     let is = answers-old (edits.Remove name) book after old accepted in
-    same-names _ _ book.sources after.sources ch.sources (none ∙ ap (λ (o : Option Part). map name_of (pieces_of_any o).sources) (sym is))
+    same-names _ _ book.sources after.sources ch.lists.sources (none ∙ ap (λ (o : Option Part). map name_of (pieces_of_any o).sources) (sym is))
 
 pub grid-leaves-names : (grid : Grid) (old : Option Part) → LeavesSourceNames (edits.Grid grid) old
 grid-leaves-names grid old book after accepted =

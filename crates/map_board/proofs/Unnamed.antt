@@ -84,10 +84,10 @@ changed-beside : (name : List ℕ) (edit : Edit) (a b : Book) → Changes edit a
 changed-beside name (edits.Put part) a b ch h =
     let other = or-left (is_receiver name part) (list_any (is_receiver name) (option_to_list (replaced part a))) h in
     let old = or-right (is_receiver name part) (list_any (is_receiver name) (option_to_list (replaced part a))) h in
-    found-beside name (pieces_of_any (replaced part a)).receivers (pieces_of part).receivers a.receivers b.receivers ch.receivers
+    found-beside name (pieces_of_any (replaced part a)).receivers (pieces_of part).receivers a.receivers b.receivers ch.lists.receivers
     (any-other name (replaced part a) old) (piece-other name part other)
 changed-beside name (edits.Remove gone) a b ch h =
-    found-beside name (pieces_of_any (part_named a gone)).receivers [] a.receivers b.receivers ch.receivers
+    found-beside name (pieces_of_any (part_named a gone)).receivers [] a.receivers b.receivers ch.lists.receivers
     (any-other name (part_named a gone) h) refl
 changed-beside name (edits.Grid grid) a b ch h =
     puts-beside name (receivers_of grid) a.receivers b.receivers ch.1

@@ -7,12 +7,12 @@ use Rattle.scene_parts.specs.declared.parts.Part.{Part}
 use Rattle.scene_book.specs.declared.edits.Edit.{Edit}
 use Rattle.scene_book.specs.declared.edits.Edit.TheVariants as edits
 use Rattle.scene_book.specs.declared.edits.EditFault.{EditFault}
-use Rattle.scene_book.specs.Book.{Book}
+use Rattle.scene_book.specs.Book.{Book, at_most}
 use Rattle.scene_parts.specs.declared.kinds.Class.TheVariants as classes
 use Rattle.scene_book.specs.Limits.{most_receivers}
 use Rattle.scene_book.specs.Lists.{put_all}
 use Rattle.scene_book.specs.Grid.{receivers_of}
-use Rattle.scene_book.specs.Applying.{apply_of, put_of, put_where_room, remove_of, grid_of, taken, part_named, in_limits, with_part, own_class, name_of, class_of, holder, at_most, all_own}
+use Rattle.scene_book.specs.Applying.{apply_of, put_of, put_where_room, remove_of, grid_of, taken, part_named, in_limits, with_part, own_class, name_of, class_of, holder, all_own}
 use Rattle.path_calc.specs.Bundles.{Bundle, bundle_of}
 use Rattle.path_calc.specs.Show.{sources_within, bundles_of}
 use Rattle.touch_test.specs.Touches.{TracedPath, traced, bundled, old_part, edit_touches_any, touches_receiver}

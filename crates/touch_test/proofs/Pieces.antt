@@ -2,13 +2,15 @@
 use Rattle.std.proofs.Common.{◌≡◌, refl, sym, ap, ◌∙◌, Bool, true, false, ◌||◌, List}
 use Rattle.std.specs.List.{list_any}
 use Rattle.scene_geom.specs.declared.plan.Side.{Side}
-use Rattle.scene_parts.specs.Views.{Obstacle}
+use Rattle.scene_parts.specs.Views.{Source, Receiver, Obstacle}
 use Rattle.scene_parts.specs.Sides.{sides_of}
+use Rattle.scene_parts.specs.declared.parts.Part.{Part}
+use Rattle.scene_parts.specs.declared.parts.Part.TheVariants as parts
 use Rattle.scene_parts.specs.declared.screening.ends.Ends.{Ends}
 use Rattle.image_source.specs.Mirrors.{has_mirror}
 use Rattle.path_calc.specs.declared.bundles.segments.Seg.{Seg}
 use Rattle.touch_test.specs.Crossings.{crosses_segment}
-use Rattle.touch_test.specs.Touches.{obstacle_touches}
+use Rattle.touch_test.specs.Touches.{TracedPath, obstacle_touches, outline_of, outline_touches, part_touches}
 use Rattle.touch_test.proofs.Lists.{none-passes, any-or, exchanged}
 
 -- ---- one test or another
@@ -36,3 +38,14 @@ by-segments ends trace o =
     ap (λ (b : Bool). b || list_any (λ (side : Side). has_mirror o side ends) (sides_of o))
     (exchanged (λ (segment : Seg) (side : Side). crosses_segment side segment) trace (sides_of o))
     ∙ sym (any-or (λ (side : Side). list_any (crosses_segment side) trace) (λ (side : Side). has_mirror o side ends) (sides_of o))
+
+-- ---- all others
+
+-- a part that is neither a source nor an obstacle nor a receiver touches by its outline
+pub by-outline : (path : TracedPath) (part : Part) → ((s : Source) → part ≡ parts.Source s → ⊥)
+    → ((o : Obstacle) → part ≡ parts.Obstacle o → ⊥) → ((r : Receiver) → part ≡ parts.Receiver r → ⊥)
+    → outline_touches path.ends path.trace (outline_of part) ≡ part_touches path part
+by-outline path (parts.Source s) no-source no-obstacle no-receiver = absurd (no-source s refl)
+by-outline path (parts.Obstacle o) no-source no-obstacle no-receiver = absurd (no-obstacle o refl)
+by-outline path (parts.Receiver r) no-source no-obstacle no-receiver = absurd (no-receiver r refl)
+by-outline path part no-source no-obstacle no-receiver = refl

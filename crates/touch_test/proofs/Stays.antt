@@ -15,7 +15,7 @@ use Rattle.scene_geom.specs.Laws.{UncrossedIsUnblocked}
 use Rattle.scene_parts.specs.Views.{Source, Receiver, Obstacle, Zone, Foliage}
 use Rattle.scene_parts.specs.Sides.{sides_of}
 use Rattle.scene_book.specs.Book.{Book}
-use Rattle.scene_book.specs.Laws.{Edited, Pieces, ListsEdited}
+use Rattle.scene_book.specs.Laws.{Edited, ListsEdited}
 use Rattle.scene_parts.specs.declared.screening.edge.Edge.{Edge}
 use Rattle.scene_parts.specs.declared.screening.ends.Ends.{Ends}
 use Rattle.scene_parts.specs.Crossings.{counts_in}
@@ -239,23 +239,23 @@ module _ (a b : Book) (s : Source) (r : Receiver)
       (λ side j. same-reflected o i side j))
 
 -- the pieces of an edit touch no path
-pub record AreQuiet (path : TracedPath) (pieces : Pieces) : Type 0 where
+pub record AreQuiet (path : TracedPath) (pieces : Book) : Type 0 where
   pub sources : (x : Source) → In x pieces.sources → bytes_eq x.name path.source ≡ false
   pub obstacles : (o : Obstacle) → In o pieces.obstacles → obstacle_touches path.ends path.trace o ≡ false
   pub zones : (z : Zone) → In z pieces.zones → outline_touches path.ends path.trace z.points ≡ false
   pub foliage : (f : Foliage) → In f pieces.foliage → outline_touches path.ends path.trace f.points ≡ false
 
-pub surroundings-stay : UncrossedIsUnblocked → (a b : Book) (s : Source) (r : Receiver) (old new : Pieces) → ListsEdited old new a b
+pub surroundings-stay : UncrossedIsUnblocked → (a b : Book) (s : Source) (r : Receiver) (old new : Book) → ListsEdited old new a b
     → AreQuiet (traced a r s) old → AreQuiet (traced a r s) new → surroundings_of a s r ≡ surroundings_of b s r
 surroundings-stay unblocked a b s r old new e h k =
     same-fields (surroundings_of a s r) (surroundings_of b s r)
-    (line-outlines-stay (λ (z : Zone). z.points) unnamed a s r _ _ _ _ e.zones h.zones k.zones)
-    (line-outlines-stay (λ (f : Foliage). f.points) nameless a s r _ _ _ _ e.foliage h.foliage k.foliage)
-    (edges-stay unblocked a b s r old.obstacles new.obstacles e.obstacles h.obstacles k.obstacles)
-    (laterals-stay unblocked a b s r old.obstacles new.obstacles e.obstacles h.obstacles k.obstacles)
-    (renewals-stay unblocked a b s r old.obstacles new.obstacles e.obstacles h.obstacles k.obstacles)
+    (line-outlines-stay (λ (z : Zone). z.points) unnamed a s r _ _ _ _ e.lists.zones h.zones k.zones)
+    (line-outlines-stay (λ (f : Foliage). f.points) nameless a s r _ _ _ _ e.lists.foliage h.foliage k.foliage)
+    (edges-stay unblocked a b s r old.obstacles new.obstacles e.lists.obstacles h.obstacles k.obstacles)
+    (laterals-stay unblocked a b s r old.obstacles new.obstacles e.lists.obstacles h.obstacles k.obstacles)
+    (renewals-stay unblocked a b s r old.obstacles new.obstacles e.lists.obstacles h.obstacles k.obstacles)
     (reflections-agree a b s r
-    (leg-edges-stay unblocked a b s r old.obstacles new.obstacles e.obstacles h.obstacles k.obstacles)
-    (leg-outlines-stay (λ (z : Zone). z.points) unnamed a s r _ _ _ _ e.zones h.zones k.zones)
-    (leg-outlines-stay (λ (f : Foliage). f.points) nameless a s r _ _ _ _ e.foliage h.foliage k.foliage)
-    ∙ obstacles-stay unblocked a b s r old.obstacles new.obstacles e.obstacles h.obstacles k.obstacles b)
+    (leg-edges-stay unblocked a b s r old.obstacles new.obstacles e.lists.obstacles h.obstacles k.obstacles)
+    (leg-outlines-stay (λ (z : Zone). z.points) unnamed a s r _ _ _ _ e.lists.zones h.zones k.zones)
+    (leg-outlines-stay (λ (f : Foliage). f.points) nameless a s r _ _ _ _ e.lists.foliage h.foliage k.foliage)
+    ∙ obstacles-stay unblocked a b s r old.obstacles new.obstacles e.lists.obstacles h.obstacles k.obstacles b)

@@ -1,5 +1,5 @@
 -- Edits that touch no path of a source and a receiver, and edits that don't touch a receiver.
-use Rattle.std.proofs.Common.{◌≡◌, ℕ, refl, sym, ap, subst, ◌∙◌, Bool, true, false, ◌||◌, [], ◌∷◌, map}
+use Rattle.std.proofs.Common.{◌≡◌, ℕ, refl, sym, ap, subst, ◌∙◌, Bool, true, false, ◌||◌, List, [], ◌∷◌, map}
 use Rattle.std.specs.Prelude.{Option, Some, None, filter, bytes_eq, Contains}
 use Rattle.std.specs.List.{list_any}
 use Rattle.std.specs.Option.{option_to_list}
@@ -10,7 +10,7 @@ use Rattle.scene_parts.specs.declared.parts.Part.{Part}
 use Rattle.scene_parts.specs.declared.parts.Part.TheVariants as parts
 use Rattle.scene_book.specs.Book.{Book}
 use Rattle.scene_book.specs.Applying.{replaced, part_named, with_receivers}
-use Rattle.scene_book.specs.Laws.{Pieces, no_pieces, pieces_of, pieces_of_any, ListsEdited, Changes, AcceptedChanges}
+use Rattle.scene_book.specs.Laws.{no_pieces, pieces_of, pieces_of_any, ListsEdited, Changes, AcceptedChanges}
 use Rattle.scene_book.specs.declared.edits.Edit.{Edit}
 use Rattle.scene_book.specs.declared.edits.Edit.TheVariants as edits
 use Rattle.path_calc.specs.Lengths.{is_within}
@@ -33,27 +33,33 @@ one-element : {A : Type 0} (P : A → Type 0) (y : A) → P y → (x : A) → In
 one-element P y h _ (here _) = h
 one-element P y h x (there _ _ i) = elim i [ ]
 
--- where no piece of any list touches it
-quiet-lists : (path : TracedPath) (pieces : Pieces) → list_any (λ x. bytes_eq x.name path.source) pieces.sources ≡ false
-    → list_any (obstacle_touches path.ends path.trace) pieces.obstacles ≡ false
-    → list_any (λ z. outline_touches path.ends path.trace z.points) pieces.zones ≡ false
-    → list_any (λ f. outline_touches path.ends path.trace f.points) pieces.foliage ≡ false → AreQuiet path pieces
-quiet-lists path pieces s o z f = record {
-  sources = λ x i. fails-at _ x pieces.sources i s;
-  obstacles = λ x i. fails-at _ x pieces.obstacles i o;
-  zones = λ x i. fails-at _ x pieces.zones i z;
-  foliage = λ x i. fails-at _ x pieces.foliage i f;
-}
+-- no element passes a test: of no elements this says nothing
+abbrev NonePass : {A : Type 0} → (A → Bool) → List A → Type 0
+NonePass test [] = Unit {0}
+NonePass test (x ∷ xs) = (test x ≡ false) × NonePass test xs
 
-only : (test : Bool) → test ≡ false → (test || false) ≡ false
-only test h = rw h refl
+fails-each : {A : Type 0} (test : A → Bool) (x : A) (xs : List A) → NonePass test xs → In x xs → test x ≡ false
+fails-each test x _ none (here _) = none.0
+fails-each test x _ none (there _ xs i) = fails-each test x xs none.1 i
+
+-- where no piece of any list touches it
+quiet-lists : (path : TracedPath) (pieces : Book) → NonePass (λ x. bytes_eq x.name path.source) pieces.sources
+    → NonePass (obstacle_touches path.ends path.trace) pieces.obstacles
+    → NonePass (λ z. outline_touches path.ends path.trace z.points) pieces.zones
+    → NonePass (λ f. outline_touches path.ends path.trace f.points) pieces.foliage → AreQuiet path pieces
+quiet-lists path pieces s o z f = record {
+  sources = λ x. fails-each _ x pieces.sources s;
+  obstacles = λ x. fails-each _ x pieces.obstacles o;
+  zones = λ x. fails-each _ x pieces.zones z;
+  foliage = λ x. fails-each _ x pieces.foliage f;
+}
 
 quiet-none : (path : TracedPath) → AreQuiet path no_pieces
 quiet-none path = search quiet-lists
 
 quiet-part : (path : TracedPath) (part : Part) → part_touches path part ≡ false → AreQuiet path (pieces_of part)
-quiet-part path (parts.Receiver receiver) h = search quiet-lists
-quiet-part path part h = search (quiet-lists, only)
+quiet-part path (parts.Source source) h = search quiet-lists
+quiet-part path part h = search quiet-lists
 
 quiet-old : (path : TracedPath) (old : Option Part) → list_any (part_touches path) (option_to_list old) ≡ false
     → AreQuiet path (pieces_of_any old)
@@ -73,17 +79,17 @@ module _ (a b : Book) (s : Source) (r : Receiver) where
   }
 
   -- a source that no piece is stays within reach
-  source-stays : (old new : Pieces) → ListsEdited old new a b → AreQuiet (traced a r s) old → In s (sources_within a r)
+  source-stays : (old new : Book) → ListsEdited old new a b → AreQuiet (traced a r s) old → In s (sources_within a r)
       → In s (sources_within b r)
   source-stays old new e quiet i =
       let kept = from-filter (λ (x : Source). is_within a.globals.reach x.at r.at) s a.sources i in
       in-filter (λ (x : Source). is_within b.globals.reach x.at r.at) s b.sources
-      (in-stays old.sources new.sources a.sources b.sources e.sources s
+      (in-stays old.sources new.sources a.sources b.sources e.lists.sources s
       (λ j. let no : bytes_eq s.name s.name ≡ false = quiet.sources s j in
       let yes : bytes_eq s.name s.name ≡ true = (bytes_eq-Decides s.name s.name).1 refl in cc) kept.0)
       (ap (λ (g : Globals). is_within g.reach s.at r.at) e.globals ∙ kept.1)
 
-  lists-stay : UncrossedIsUnblocked → (old new : Pieces) → ListsEdited old new a b → AreQuiet (traced a r s) old
+  lists-stay : UncrossedIsUnblocked → (old new : Book) → ListsEdited old new a b → AreQuiet (traced a r s) old
       → AreQuiet (traced a r s) new → In s (sources_within a r) → PathStays a b s r
   lists-stay unblocked old new e h k i =
       stays-by (source-stays old new e h i) (sym e.globals) (surroundings-stay unblocked a b s r old new e h k)
@@ -116,7 +122,7 @@ untouched-paths-stay unblocked changes edit a b old s r accepted within h =
 abbrev IsFar : Receiver → ℕ → Source → Type 0
 IsFar r reach x = is_within reach x.at r.at ≡ false
 
-abbrev AreFar : Receiver → ℕ → Pieces → Type 0
+abbrev AreFar : Receiver → ℕ → Book → Type 0
 AreFar r reach pieces = (x : Source) → In x pieces.sources → IsFar r reach x
 
 far-part : (r : Receiver) (reach : ℕ) (part : Part) → is_source_within reach r part ≡ false → AreFar r reach (pieces_of part)
@@ -129,10 +135,10 @@ far-old r reach None h = no-elements (IsFar r reach)
 far-old r reach (Some part) h = far-part r reach part (neither (is_source_within reach r part) false h).0
 
 module _ (a b : Book) (r : Receiver) where
-  lists-within : (old new : Pieces) → ListsEdited old new a b → AreFar r a.globals.reach old → AreFar r a.globals.reach new
+  lists-within : (old new : Book) → ListsEdited old new a b → AreFar r a.globals.reach old → AreFar r a.globals.reach new
       → sources_within a r ≡ sources_within b r
   lists-within old new e h k =
-      filter-stays old.sources new.sources a.sources b.sources e.sources (λ (x : Source). is_within a.globals.reach x.at r.at) h k
+      filter-stays old.sources new.sources a.sources b.sources e.lists.sources (λ (x : Source). is_within a.globals.reach x.at r.at) h k
       ∙ ap (λ (g : Globals). filter (λ (x : Source). is_within g.reach x.at r.at) b.sources) (sym e.globals)
 
 sources-stay : (edit : Edit) (a b : Book) (r : Receiver) → Changes edit a b → is_set edit ≡ false

@@ -19,7 +19,8 @@ use Rattle.path_calc.specs.Bundles.{Bundle}
 use Rattle.path_calc.specs.declared.bundles.segments.Seg.{Seg}
 use Rattle.path_calc.specs.declared.bundles.segments.Seg.TheVariants.{Straight, Legs}
 use Rattle.touch_test.specs.declared.envelopes.Envelope.{Envelope}
-use Rattle.touch_test.specs.Touches.{bundled, changed_parts, edit_touches, is_receiver, is_set, puts_by_grid}
+use Rattle.touch_test.specs.Touches.{bundled, changed_parts, edit_touches, is_set, puts_by_grid}
+use Rattle.touch_test.specs.Touches.{is_receiver, outline_of}
 
 -- ---- what a box holds
 
@@ -67,13 +68,12 @@ lies_beyond e corners = lies_aside e corners || lies_ahead e corners
 -- ---- edits
 
 -- A part may touch a path in the box: a source, the receiver itself, an obstacle that reflects or isn't beyond an edge,
--- a zone or a foliage that isn't
+-- a part whose outline isn't
 abbrev pub part_may_touch : Envelope → List ℕ → Part → Bool
 part_may_touch e name (parts.Source source) = true
 part_may_touch e name (parts.Obstacle o) = not (o.rho == 0) || not (lies_beyond e o.points)
-part_may_touch e name (parts.Zone zone) = not (lies_beyond e zone.points)
-part_may_touch e name (parts.Foliage foliage) = not (lies_beyond e foliage.points)
 part_may_touch e name (parts.Receiver receiver) = is_receiver name (parts.Receiver receiver)
+part_may_touch e name part = not (lies_beyond e (outline_of part))
 
 -- an edit with its old part may touch a path in the box to the receiver of a name
 abbrev pub edit_may_reach : Envelope → List ℕ → Edit → Option Part → Bool

@@ -1,5 +1,5 @@
 -- When an edit touches the path from a source to a receiver, and when it touches a receiver.
-use Rattle.std.specs.Prelude.{ℕ, Bool, true, false, ◌||◌, bytes_eq, List, ◌++◌, map, Option, Some, None}
+use Rattle.std.specs.Prelude.{ℕ, Bool, true, false, ◌||◌, bytes_eq, List, [], ◌++◌, map, Option, Some, None}
 use Rattle.std.specs.List.{list_any}
 use Rattle.std.specs.Option.{option_to_list}
 use Rattle.scene_geom.specs.declared.plan.Pt.{Pt}
@@ -53,19 +53,24 @@ side_touches ends trace o side = list_any (crosses_segment side) trace || has_mi
 abbrev pub obstacle_touches : Ends → List Seg → Obstacle → Bool
 obstacle_touches ends trace o = list_any (side_touches ends trace o) (sides_of o)
 
--- the outline of a zone or of a foliage meets the direct line or a leg of a trace
+-- an outline meets the direct line or a leg of a trace
 abbrev pub outline_touches : Ends → List Seg → List Pt → Bool
 outline_touches ends trace outline = meets_line outline ends.s ends.r || list_any (meets_leg outline) trace
 
+-- the outline of a part that touches by its outline alone
+abbrev pub outline_of : Part → List Pt
+outline_of (parts.Zone zone) = zone.points
+outline_of (parts.Foliage foliage) = foliage.points
+outline_of part = []
+
 -- To put or remove a part touches a path where the part is the path's source or receiver, an obstacle that crosses a
--- segment of its trace or mirrors its source to its receiver, or a zone or a foliage over which its direct line or a
--- leg leads
+-- segment of its trace or mirrors its source to its receiver, or where its direct line or a leg leads over the outline
+-- of the part
 abbrev pub part_touches : TracedPath → Part → Bool
 part_touches path (parts.Source source) = bytes_eq source.name path.source
 part_touches path (parts.Obstacle o) = obstacle_touches path.ends path.trace o
-part_touches path (parts.Zone zone) = outline_touches path.ends path.trace zone.points
-part_touches path (parts.Foliage foliage) = outline_touches path.ends path.trace foliage.points
 part_touches path (parts.Receiver receiver) = bytes_eq receiver.name path.receiver
+part_touches path part = outline_touches path.ends path.trace (outline_of part)
 
 -- ---- edits
 

@@ -28,17 +28,12 @@ pub(crate) fn part_touches(part: &Part, bundle: &Bundle, receiver: &Receiver) ->
                 bundle.segs.items(),
             )
         }
-        Part::Zone(zone) => outline_touches(
-            zone.points.items(),
-            ends_between(bundle, receiver),
-            bundle.segs.items(),
-        ),
-        Part::Foliage(foliage) => outline_touches(
-            foliage.points.items(),
-            ends_between(bundle, receiver),
-            bundle.segs.items(),
-        ),
         Part::Receiver(other) => other.name.items() == receiver.name.items(),
+        _ => outline_touches(
+            outline_of(part),
+            ends_between(bundle, receiver),
+            bundle.segs.items(),
+        ),
     }
 }
 
@@ -51,9 +46,19 @@ pub(crate) fn part_may_touch(part: &Part, envelope: &Envelope, name: &[u8]) -> b
         Part::Obstacle(obstacle) => {
             obstacle.rho != 0 || !envelope.is_passed_by(obstacle.points.items())
         }
-        Part::Zone(zone) => !envelope.is_passed_by(zone.points.items()),
-        Part::Foliage(foliage) => !envelope.is_passed_by(foliage.points.items()),
         Part::Receiver(other) => other.name.items() == name,
+        _ => !envelope.is_passed_by(outline_of(part)),
+    }
+}
+
+/// The outline of a part that touches by its outline alone, no corners for any other part.
+fn outline_of(part: &Part) -> &[Pt]
+    ensures { result.now ≡ form.outline_of part.now }
+{
+    match part {
+        Part::Zone(zone) => zone.points.items(),
+        Part::Foliage(foliage) => foliage.points.items(),
+        _ => &[],
     }
 }
 
@@ -92,7 +97,7 @@ fn mirrors(obstacle: &Obstacle, ends: Ends) -> bool
     false
 }
 
-/// Whether the outline of a zone or of a foliage meets the direct line or a leg of a trace.
+/// Whether an outline meets the direct line or a leg of a trace.
 fn outline_touches(outline: &[Pt], ends: Ends, trace: &[Seg]) -> bool
     requires { All FitsSegment trace.now }
     ensures { result ≡ form.outline_touches ends trace.now outline.now }
