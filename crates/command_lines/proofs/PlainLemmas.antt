@@ -1,5 +1,5 @@
 -- No line is said to lack memory by the fault of its part.
-use Rattle.std.proofs.Common.{ℕ, List, Bool, true, false, Option, Some, None, if◌then◌else◌}
+use Rattle.std.proofs.Common.{ℕ, List, [], ◌∷◌, Bool, true, false, Option, Some, None, if◌then◌else◌}
 use Rattle.std.specs.Prelude.{Result, Ok, Err, IfErr, codes, bytes_eq, is_some}
 use Rattle.serde_json.specs.Data.{Data}
 use Rattle.serde_json.specs.Find.{as_object}
@@ -10,24 +10,19 @@ use Rattle.scene_parts.specs.declared.faults.PartFault.{PartFault}
 use Rattle.scene_parts.specs.declared.faults.PartFault.TheVariants as part
 use Rattle.scene_parts.specs.Checking.{check_of}
 use Rattle.command_lines.specs.declared.faults.LineFault.{LineFault}
-use Rattle.command_lines.specs.declared.faults.LineFault.TheVariants.{NoMemory, NotJson, NotObject, UnknownDo, Missing, WrongType, Part}
+use Rattle.command_lines.specs.declared.faults.LineFault.TheVariants.{NotJson, Part}
 use Rattle.command_lines.specs.Fields.{Entry, made_unless, with_fields, is_missing, is_wrong, first}
 use Rattle.scene_parts.specs.Answers.{◌>>=◌, MatchesUnlessMemory}
 use Rattle.command_lines.specs.Answers.{lacks_memory, IsPlain, line_fault_of, of_part, found_or}
-use Rattle.command_lines.specs.Words.{source_of, barrier_of, building_of, zone_of, foliage_of, receiver_of, grid_of, set_of, part_of, removal_of, checked_edit, raw_contour_of, contour_of, raw_line_source_of, line_source_of, unline_of, raw_version_of, undo_of, asked}
+use Rattle.command_lines.specs.Words.{PartWord, part_words, given, given_among, part_of, removal_of, checked_edit, raw_contour_of, contour_of, raw_line_source_of, line_source_of, unline_of, raw_version_of, undo_of, asked}
 use Rattle.command_lines.specs.Checking.{checked_contour, checked_line_source, version_of}
 use Rattle.command_lines.specs.Lines.{word_of, command_from, json_of, command_in}
 
 pub plain-matches : {A : Type 0} (answer expected : Result A LineFault) → MatchesUnlessMemory lacks_memory answer expected
     → IfErr expected IsPlain → IfErr answer IsPlain
 plain-matches (Ok x) expected matches plain = tt
-plain-matches (Err NoMemory) expected matches plain = tt
-plain-matches (Err NotJson) expected matches plain = tt
-plain-matches (Err NotObject) expected matches plain = tt
-plain-matches (Err (UnknownDo word)) expected matches plain = tt
-plain-matches (Err (Missing field)) expected matches plain = tt
-plain-matches (Err (WrongType field)) expected matches plain = tt
 plain-matches (Err (Part fault)) expected matches plain = rw matches at plain
+plain-matches (Err fault) expected matches plain = tt
 
 -- one after another, and one or another
 
@@ -52,14 +47,7 @@ plain-with_fields entries line made = plain-made_unless (first (is_missing line)
 
 plain-line_fault : (fault : PartFault) → IsPlain (line_fault_of fault)
 plain-line_fault part.NoMemory = tt
-plain-line_fault (part.OutOfRange field value) = tt
-plain-line_fault (part.OutsideMethod kind) = tt
-plain-line_fault (part.UnknownKind kind) = tt
-plain-line_fault (part.TooLight density) = tt
-plain-line_fault (part.FewCorners count) = tt
-plain-line_fault part.FlatShape = tt
-plain-line_fault (part.SideTooLong side mm) = tt
-plain-line_fault (part.WeakMirror rho) = tt
+plain-line_fault fault = tt
 
 plain-of_part : {A : Type 0} (r : Result A PartFault) → IfErr (of_part r) IsPlain
 plain-of_part (Ok x) = tt
@@ -69,17 +57,17 @@ plain-checked_edit : (raw : RawPart) → IfErr (checked_edit raw) IsPlain
 unfolding checked_edit
 plain-checked_edit raw = plain-bind (of_part (check_of raw)) _ (plain-of_part (check_of raw)) (λ checked. tt)
 
+plain-given : (word : PartWord) (line : Data) → IfErr (given word line) IsPlain
+unfolding given
+plain-given word line = plain-with_fields word.fields line (word.part line)
+
+plain-given_among : (words : List PartWord) (word : List ℕ) (line : Data) → IfErr (given_among words word line) IsPlain
+plain-given_among [] word line = tt
+plain-given_among (known ∷ others) word line = plain-if (bytes_eq word known.word) _ _ (plain-given known line) (plain-given_among others word line)
+
 plain-part_of : (word : List ℕ) (line : Data) → IfErr (part_of word line) IsPlain
-unfolding part_of source_of barrier_of building_of zone_of foliage_of receiver_of grid_of set_of
-plain-part_of word line =
-    plain-if (bytes_eq word (codes "source")) _ _ (plain-with_fields _ line _)
-    (plain-if (bytes_eq word (codes "barrier")) _ _ (plain-with_fields _ line _)
-    (plain-if (bytes_eq word (codes "building")) _ _ (plain-with_fields _ line _)
-    (plain-if (bytes_eq word (codes "zone")) _ _ (plain-with_fields _ line _)
-    (plain-if (bytes_eq word (codes "foliage")) _ _ (plain-with_fields _ line _)
-    (plain-if (bytes_eq word (codes "receiver")) _ _ (plain-with_fields _ line _)
-    (plain-if (bytes_eq word (codes "grid")) _ _ (plain-with_fields _ line _)
-    (plain-if (bytes_eq word (codes "set")) _ _ (plain-with_fields _ line _) tt)))))))
+unfolding part_of
+plain-part_of word line = plain-given_among part_words word line
 
 plain-contour_of : (line : Data) → IfErr (contour_of line) IsPlain
 unfolding contour_of raw_contour_of

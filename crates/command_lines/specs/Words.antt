@@ -18,37 +18,111 @@ use Rattle.scene_parts.specs.Answers.{◌>>=◌}
 use Rattle.command_lines.specs.Answers.{of_part}
 use Rattle.command_lines.specs.Checking.{checked_contour, checked_line_source, version_of}
 
--- The fields of each word
+-- The words that put parts and set globals. A directivity correction and a reflection are 0 where they are absent, and
+-- an absent setting keeps its value
 
-abbrev pub source_fields : List Entry
-source_fields =
-    needed Name name ∷ needed Kind text ∷ needed X whole ∷ needed Y whole ∷ needed H whole ∷ needed Lw powers
-    ∷ optional Dc whole ∷ []
+-- a word, its fields in their order, and what a line gives with them
+pub record PartWord : Type 0 where
+  pub word : List ℕ
+  pub fields : List Entry
+  pub part : Data → RawPart
 
-abbrev pub barrier_fields : List Entry
-barrier_fields =
-    needed Name name ∷ needed Points points ∷ needed H whole ∷ needed Density whole ∷ optional Rho whole ∷ []
+abbrev pub source_word : PartWord
+source_word =
+    record {
+      word = codes "source";
+      fields =
+          needed Name name ∷ needed Kind text ∷ needed X whole ∷ needed Y whole ∷ needed H whole ∷ needed Lw powers
+          ∷ optional Dc whole ∷ [];
+      part = λ line.
+          raw.Source (name_at Name line) (text_at Kind line) (whole_at X line) (whole_at Y line) (whole_at H line)
+          (powers_at Lw line) (whole_at Dc line);
+    }
 
-abbrev pub building_fields : List Entry
-building_fields = needed Name name ∷ needed Points points ∷ needed H whole ∷ optional Rho whole ∷ []
+abbrev pub barrier_word : PartWord
+barrier_word =
+    record {
+      word = codes "barrier";
+      fields =
+          needed Name name ∷ needed Points points ∷ needed H whole ∷ needed Density whole ∷ optional Rho whole ∷ [];
+      part = λ line.
+          raw.Barrier (name_at Name line) (points_at Points line) (whole_at H line) (whole_at Density line)
+          (whole_at Rho line);
+    }
 
-abbrev pub zone_fields : List Entry
-zone_fields = needed Name name ∷ needed Points points ∷ needed G whole ∷ []
+abbrev pub building_word : PartWord
+building_word =
+    record {
+      word = codes "building";
+      fields = needed Name name ∷ needed Points points ∷ needed H whole ∷ optional Rho whole ∷ [];
+      part = λ line. raw.Building (name_at Name line) (points_at Points line) (whole_at H line) (whole_at Rho line);
+    }
 
-abbrev pub foliage_fields : List Entry
-foliage_fields = needed Name name ∷ needed Points points ∷ needed H whole ∷ []
+abbrev pub zone_word : PartWord
+zone_word =
+    record {
+      word = codes "zone";
+      fields = needed Name name ∷ needed Points points ∷ needed G whole ∷ [];
+      part = λ line. raw.Zone (name_at Name line) (points_at Points line) (whole_at G line);
+    }
 
-abbrev pub receiver_fields : List Entry
-receiver_fields = needed Name name ∷ needed X whole ∷ needed Y whole ∷ needed H whole ∷ []
+abbrev pub foliage_word : PartWord
+foliage_word =
+    record {
+      word = codes "foliage";
+      fields = needed Name name ∷ needed Points points ∷ needed H whole ∷ [];
+      part = λ line. raw.Foliage (name_at Name line) (points_at Points line) (whole_at H line);
+    }
 
-abbrev pub grid_fields : List Entry
-grid_fields =
-    needed Name name ∷ needed X whole ∷ needed Y whole ∷ needed Step whole ∷ needed Columns whole ∷ needed Rows whole
-    ∷ needed H whole ∷ []
+abbrev pub receiver_word : PartWord
+receiver_word =
+    record {
+      word = codes "receiver";
+      fields = needed Name name ∷ needed X whole ∷ needed Y whole ∷ needed H whole ∷ [];
+      part = λ line. raw.Receiver (name_at Name line) (whole_at X line) (whole_at Y line) (whole_at H line);
+    }
 
-abbrev pub set_fields : List Entry
-set_fields =
-    optional Reach whole ∷ optional G whole ∷ optional Air text ∷ optional C0 whole ∷ optional Ground text ∷ []
+abbrev pub grid_word : PartWord
+grid_word =
+    record {
+      word = codes "grid";
+      fields =
+          needed Name name ∷ needed X whole ∷ needed Y whole ∷ needed Step whole ∷ needed Columns whole
+          ∷ needed Rows whole ∷ needed H whole ∷ [];
+      part = λ line.
+          raw.Grid (name_at Name line) (whole_at X line) (whole_at Y line) (whole_at Step line) (whole_at Columns line)
+          (whole_at Rows line) (whole_at H line);
+    }
+
+abbrev pub set_word : PartWord
+set_word =
+    record {
+      word = codes "set";
+      fields =
+          optional Reach whole ∷ optional G whole ∷ optional Air text ∷ optional C0 whole ∷ optional Ground text ∷ [];
+      part = λ line.
+          raw.Set (optional_whole_at Reach line) (optional_whole_at G line) (optional_text_at Air line)
+          (optional_whole_at C0 line) (optional_text_at Ground line);
+    }
+
+abbrev pub part_words : List PartWord
+part_words =
+    source_word ∷ barrier_word ∷ building_word ∷ zone_word ∷ foliage_word ∷ receiver_word ∷ grid_word ∷ set_word ∷ []
+
+-- what a line gives for its word: Missing, then WrongType, else the part with its fields
+unfoldable pub given : PartWord → Data → Result RawPart LineFault
+given word line = with_fields word.fields line (word.part line)
+
+-- what it gives for the first of some words that is its own
+abbrev pub given_among : List PartWord → List ℕ → Data → Result RawPart LineFault
+given_among [] word line = Err (UnknownDo word)
+given_among (known ∷ others) word line =
+    if bytes_eq word known.word then given known line else given_among others word line
+
+unfoldable pub part_of : List ℕ → Data → Result RawPart LineFault
+part_of word line = given_among part_words word line
+
+-- The fields of the other words
 
 abbrev pub remove_fields : List Entry
 remove_fields = needed Name any_name ∷ []
@@ -67,40 +141,7 @@ unline_fields = needed Name name ∷ []
 abbrev pub undo_fields : List Entry
 undo_fields = needed To whole ∷ []
 
--- What a line gives with the fields of its word: a directivity correction and a reflection are 0 where they are absent,
--- and an absent setting keeps its value
-
-abbrev pub source_in : Data → RawPart
-source_in line =
-    raw.Source (name_at Name line) (text_at Kind line) (whole_at X line) (whole_at Y line) (whole_at H line)
-    (powers_at Lw line) (whole_at Dc line)
-
-abbrev pub barrier_in : Data → RawPart
-barrier_in line =
-    raw.Barrier (name_at Name line) (points_at Points line) (whole_at H line) (whole_at Density line)
-    (whole_at Rho line)
-
-abbrev pub building_in : Data → RawPart
-building_in line = raw.Building (name_at Name line) (points_at Points line) (whole_at H line) (whole_at Rho line)
-
-abbrev pub zone_in : Data → RawPart
-zone_in line = raw.Zone (name_at Name line) (points_at Points line) (whole_at G line)
-
-abbrev pub foliage_in : Data → RawPart
-foliage_in line = raw.Foliage (name_at Name line) (points_at Points line) (whole_at H line)
-
-abbrev pub receiver_in : Data → RawPart
-receiver_in line = raw.Receiver (name_at Name line) (whole_at X line) (whole_at Y line) (whole_at H line)
-
-abbrev pub grid_in : Data → RawPart
-grid_in line =
-    raw.Grid (name_at Name line) (whole_at X line) (whole_at Y line) (whole_at Step line) (whole_at Columns line)
-    (whole_at Rows line) (whole_at H line)
-
-abbrev pub set_in : Data → RawPart
-set_in line =
-    raw.Set (optional_whole_at Reach line) (optional_whole_at G line) (optional_text_at Air line)
-    (optional_whole_at C0 line) (optional_text_at Ground line)
+-- What a line gives with those fields: a directivity correction is 0 where it is absent
 
 abbrev pub contour_in : Data → RawContour
 contour_in line =
@@ -122,44 +163,6 @@ line_source_in line =
       dc = whole_at Dc line;
       piece = whole_at Piece line;
     }
-
--- What a line gives for its word: Missing, then WrongType, else the part with its fields
-
-unfoldable pub source_of : Data → Result RawPart LineFault
-source_of line = with_fields source_fields line (source_in line)
-
-unfoldable pub barrier_of : Data → Result RawPart LineFault
-barrier_of line = with_fields barrier_fields line (barrier_in line)
-
-unfoldable pub building_of : Data → Result RawPart LineFault
-building_of line = with_fields building_fields line (building_in line)
-
-unfoldable pub zone_of : Data → Result RawPart LineFault
-zone_of line = with_fields zone_fields line (zone_in line)
-
-unfoldable pub foliage_of : Data → Result RawPart LineFault
-foliage_of line = with_fields foliage_fields line (foliage_in line)
-
-unfoldable pub receiver_of : Data → Result RawPart LineFault
-receiver_of line = with_fields receiver_fields line (receiver_in line)
-
-unfoldable pub grid_of : Data → Result RawPart LineFault
-grid_of line = with_fields grid_fields line (grid_in line)
-
-unfoldable pub set_of : Data → Result RawPart LineFault
-set_of line = with_fields set_fields line (set_in line)
-
-unfoldable pub part_of : List ℕ → Data → Result RawPart LineFault
-part_of word line =
-    if bytes_eq word (codes "source") then source_of line
-    else (if bytes_eq word (codes "barrier") then barrier_of line
-    else (if bytes_eq word (codes "building") then building_of line
-    else (if bytes_eq word (codes "zone") then zone_of line
-    else (if bytes_eq word (codes "foliage") then foliage_of line
-    else (if bytes_eq word (codes "receiver") then receiver_of line
-    else (if bytes_eq word (codes "grid") then grid_of line
-    else (if bytes_eq word (codes "set") then set_of line
-    else Err (UnknownDo word))))))))
 
 -- The command
 

@@ -1,9 +1,8 @@
 //! What each word of `do` asks for.
-ghost use Rattle.std.specs.Prelude.{Err};
 ghost use Rattle.serde_json.specs.View.{view};
 ghost use Rattle.scene_parts.specs.Answers.{MatchesUnlessMemory};
 ghost use Rattle.command_lines.specs.Answers.{lacks_memory};
-ghost use Rattle.command_lines.specs.Words.{source_of, barrier_of, building_of, zone_of, foliage_of, receiver_of, grid_of, set_of, removal_of, unline_of, undo_of, raw_version_of, part_of, checked_edit, asked as asked_of};
+ghost use Rattle.command_lines.specs.Words.{removal_of, unline_of, undo_of, raw_version_of, checked_edit, asked as asked_of};
 
 pub(crate) mod contour_words;
 pub(crate) mod line_words;
@@ -12,12 +11,12 @@ pub(crate) mod part_words;
 use crate::commands::Command;
 use crate::commands::checking::version;
 use crate::faults::LineFault;
-use crate::values::fields::{bytes_of, needed, part_name, plain_name, whole};
+use crate::values::fields::{needed, part_name, plain_name, whole};
 use crate::words::contour_words::contour;
 use crate::words::line_words::line_source;
-use crate::words::part_words::{barrier, building, foliage, grid, receiver, setting, source, zone};
+use crate::words::part_words::part;
 use scene_book::Edit;
-use scene_parts::{Field, RawPart, Word, check};
+use scene_parts::{Field, RawPart, check};
 use serde_json::Value;
 use std::alloc::Global;
 
@@ -36,33 +35,6 @@ pub fn asked(alloc: Global, word: &str, line: &Value) -> Result<Command, LineFau
         "undo" => undo(line),
         other => checked(alloc, part(alloc, other, line)?),
     }
-}
-
-/// What a line gives for its word.
-#[tactic(auto, unfolding(crate::specs::Words::part_of))]
-fn part(alloc: Global, word: &str, line: &Value) -> Result<RawPart, LineFault>
-    ensures { MatchesUnlessMemory lacks_memory result (part_of word.now (view line.now)) }
-{
-    match word {
-        "source" => source(alloc, line),
-        "barrier" => barrier(alloc, line),
-        "building" => building(alloc, line),
-        "zone" => zone(alloc, line),
-        "foliage" => foliage(alloc, line),
-        "receiver" => receiver(alloc, line),
-        "grid" => grid(alloc, line),
-        "set" => setting(alloc, line),
-        other => unknown(alloc, other),
-    }
-}
-
-/// That there is no such word.
-fn unknown(alloc: Global, word: &str) -> Result<RawPart, LineFault>
-    ensures { MatchesUnlessMemory lacks_memory result (Err (LineFault.UnknownDo word.now)) }
-{
-    Err(LineFault::UnknownDo {
-        word: Word::from_vec(bytes_of(alloc, word)?),
-    })
 }
 
 /// The edit of what a line gives, where it is in its ranges.

@@ -1,17 +1,45 @@
 //! The words that put parts and set globals: what a line gives for each, before it is checked.
+ghost use Rattle.std.specs.Prelude.{Err};
 ghost use Rattle.serde_json.specs.View.{view};
 ghost use Rattle.scene_parts.specs.Answers.{MatchesUnlessMemory};
 ghost use Rattle.command_lines.specs.Answers.{lacks_memory};
-ghost use Rattle.command_lines.specs.Words.{source_of, barrier_of, building_of, zone_of, foliage_of, receiver_of, grid_of, set_of};
+ghost use Rattle.command_lines.specs.Words.{source_word, barrier_word, building_word, zone_word, foliage_word, receiver_word, grid_word, set_word, given, part_of};
 
 use crate::faults::LineFault;
 use crate::values::fields::{
-    first_missing, needed_name, needed_points, needed_powers, needed_whole, needed_word,
+    bytes_of, first_missing, needed_name, needed_points, needed_powers, needed_whole, needed_word,
     optional_whole, optional_word,
 };
-use scene_parts::{Field, RawPart};
+use scene_parts::{Field, RawPart, Word};
 use serde_json::Value;
 use std::alloc::Global;
+
+/// What a line gives for its word.
+#[tactic(auto, unfolding(crate::specs::Words::part_of))]
+pub fn part(alloc: Global, word: &str, line: &Value) -> Result<RawPart, LineFault>
+    ensures { MatchesUnlessMemory lacks_memory result (part_of word.now (view line.now)) }
+{
+    match word {
+        "source" => source(alloc, line),
+        "barrier" => barrier(alloc, line),
+        "building" => building(alloc, line),
+        "zone" => zone(alloc, line),
+        "foliage" => foliage(alloc, line),
+        "receiver" => receiver(alloc, line),
+        "grid" => grid(alloc, line),
+        "set" => setting(alloc, line),
+        other => unknown(alloc, other),
+    }
+}
+
+/// That there is no such word.
+fn unknown(alloc: Global, word: &str) -> Result<RawPart, LineFault>
+    ensures { MatchesUnlessMemory lacks_memory result (Err (LineFault.UnknownDo word.now)) }
+{
+    Err(LineFault::UnknownDo {
+        word: Word::from_vec(bytes_of(alloc, word)?),
+    })
+}
 
 /// The fields that a source needs, in the order in which one is found missing.
 const SOURCE_FIELDS: [Field; 6] = [
@@ -24,9 +52,9 @@ const SOURCE_FIELDS: [Field; 6] = [
 ];
 
 /// A source that a line gives.
-#[tactic(auto, unfolding(crate::specs::Fields::with_fields, crate::specs::Words::source_of))]
-pub fn source(alloc: Global, line: &Value) -> Result<RawPart, LineFault>
-    ensures { MatchesUnlessMemory lacks_memory result (source_of (view line.now)) }
+#[tactic(auto, unfolding(crate::specs::Fields::with_fields, crate::specs::Words::given))]
+fn source(alloc: Global, line: &Value) -> Result<RawPart, LineFault>
+    ensures { MatchesUnlessMemory lacks_memory result (given source_word (view line.now)) }
 {
     if let Some(field) = first_missing(line, &SOURCE_FIELDS) {
         return Err(LineFault::Missing { field });
@@ -46,9 +74,9 @@ pub fn source(alloc: Global, line: &Value) -> Result<RawPart, LineFault>
 const BARRIER_FIELDS: [Field; 4] = [Field::Name, Field::Points, Field::H, Field::Density];
 
 /// A barrier that a line gives.
-#[tactic(auto, unfolding(crate::specs::Fields::with_fields, crate::specs::Words::barrier_of))]
-pub fn barrier(alloc: Global, line: &Value) -> Result<RawPart, LineFault>
-    ensures { MatchesUnlessMemory lacks_memory result (barrier_of (view line.now)) }
+#[tactic(auto, unfolding(crate::specs::Fields::with_fields, crate::specs::Words::given))]
+fn barrier(alloc: Global, line: &Value) -> Result<RawPart, LineFault>
+    ensures { MatchesUnlessMemory lacks_memory result (given barrier_word (view line.now)) }
 {
     if let Some(field) = first_missing(line, &BARRIER_FIELDS) {
         return Err(LineFault::Missing { field });
@@ -66,9 +94,9 @@ pub fn barrier(alloc: Global, line: &Value) -> Result<RawPart, LineFault>
 const BUILDING_FIELDS: [Field; 3] = [Field::Name, Field::Points, Field::H];
 
 /// A building that a line gives.
-#[tactic(auto, unfolding(crate::specs::Fields::with_fields, crate::specs::Words::building_of))]
-pub fn building(alloc: Global, line: &Value) -> Result<RawPart, LineFault>
-    ensures { MatchesUnlessMemory lacks_memory result (building_of (view line.now)) }
+#[tactic(auto, unfolding(crate::specs::Fields::with_fields, crate::specs::Words::given))]
+fn building(alloc: Global, line: &Value) -> Result<RawPart, LineFault>
+    ensures { MatchesUnlessMemory lacks_memory result (given building_word (view line.now)) }
 {
     if let Some(field) = first_missing(line, &BUILDING_FIELDS) {
         return Err(LineFault::Missing { field });
@@ -85,9 +113,9 @@ pub fn building(alloc: Global, line: &Value) -> Result<RawPart, LineFault>
 const ZONE_FIELDS: [Field; 3] = [Field::Name, Field::Points, Field::G];
 
 /// A zone that a line gives.
-#[tactic(auto, unfolding(crate::specs::Fields::with_fields, crate::specs::Words::zone_of))]
-pub fn zone(alloc: Global, line: &Value) -> Result<RawPart, LineFault>
-    ensures { MatchesUnlessMemory lacks_memory result (zone_of (view line.now)) }
+#[tactic(auto, unfolding(crate::specs::Fields::with_fields, crate::specs::Words::given))]
+fn zone(alloc: Global, line: &Value) -> Result<RawPart, LineFault>
+    ensures { MatchesUnlessMemory lacks_memory result (given zone_word (view line.now)) }
 {
     if let Some(field) = first_missing(line, &ZONE_FIELDS) {
         return Err(LineFault::Missing { field });
@@ -103,9 +131,9 @@ pub fn zone(alloc: Global, line: &Value) -> Result<RawPart, LineFault>
 const FOLIAGE_FIELDS: [Field; 3] = [Field::Name, Field::Points, Field::H];
 
 /// A foliage that a line gives.
-#[tactic(auto, unfolding(crate::specs::Fields::with_fields, crate::specs::Words::foliage_of))]
-pub fn foliage(alloc: Global, line: &Value) -> Result<RawPart, LineFault>
-    ensures { MatchesUnlessMemory lacks_memory result (foliage_of (view line.now)) }
+#[tactic(auto, unfolding(crate::specs::Fields::with_fields, crate::specs::Words::given))]
+fn foliage(alloc: Global, line: &Value) -> Result<RawPart, LineFault>
+    ensures { MatchesUnlessMemory lacks_memory result (given foliage_word (view line.now)) }
 {
     if let Some(field) = first_missing(line, &FOLIAGE_FIELDS) {
         return Err(LineFault::Missing { field });
@@ -121,9 +149,9 @@ pub fn foliage(alloc: Global, line: &Value) -> Result<RawPart, LineFault>
 const RECEIVER_FIELDS: [Field; 4] = [Field::Name, Field::X, Field::Y, Field::H];
 
 /// A receiver that a line gives.
-#[tactic(auto, unfolding(crate::specs::Fields::with_fields, crate::specs::Words::receiver_of))]
-pub fn receiver(alloc: Global, line: &Value) -> Result<RawPart, LineFault>
-    ensures { MatchesUnlessMemory lacks_memory result (receiver_of (view line.now)) }
+#[tactic(auto, unfolding(crate::specs::Fields::with_fields, crate::specs::Words::given))]
+fn receiver(alloc: Global, line: &Value) -> Result<RawPart, LineFault>
+    ensures { MatchesUnlessMemory lacks_memory result (given receiver_word (view line.now)) }
 {
     if let Some(field) = first_missing(line, &RECEIVER_FIELDS) {
         return Err(LineFault::Missing { field });
@@ -148,9 +176,9 @@ const GRID_FIELDS: [Field; 7] = [
 ];
 
 /// A grid that a line gives.
-#[tactic(auto, unfolding(crate::specs::Fields::with_fields, crate::specs::Words::grid_of))]
-pub fn grid(alloc: Global, line: &Value) -> Result<RawPart, LineFault>
-    ensures { MatchesUnlessMemory lacks_memory result (grid_of (view line.now)) }
+#[tactic(auto, unfolding(crate::specs::Fields::with_fields, crate::specs::Words::given))]
+fn grid(alloc: Global, line: &Value) -> Result<RawPart, LineFault>
+    ensures { MatchesUnlessMemory lacks_memory result (given grid_word (view line.now)) }
 {
     if let Some(field) = first_missing(line, &GRID_FIELDS) {
         return Err(LineFault::Missing { field });
@@ -167,9 +195,9 @@ pub fn grid(alloc: Global, line: &Value) -> Result<RawPart, LineFault>
 }
 
 /// A setting that a line gives.
-#[tactic(auto, unfolding(crate::specs::Fields::with_fields, crate::specs::Words::set_of))]
-pub fn setting(alloc: Global, line: &Value) -> Result<RawPart, LineFault>
-    ensures { MatchesUnlessMemory lacks_memory result (set_of (view line.now)) }
+#[tactic(auto, unfolding(crate::specs::Fields::with_fields, crate::specs::Words::given))]
+fn setting(alloc: Global, line: &Value) -> Result<RawPart, LineFault>
+    ensures { MatchesUnlessMemory lacks_memory result (given set_word (view line.now)) }
 {
     Ok(RawPart::Set {
         reach: optional_whole(line, Field::Reach)?,
