@@ -1,6 +1,6 @@
 -- The answer to a job that a board has just handed out may land on it.
 use Rattle.std.proofs.Common.{ℕ, sym, ap, ◌∙◌, subst, arith, refl, Some, inr}
-use Rattle.scene_parts.specs.Views.{Receiver}
+use Rattle.scene_parts.specs.Parts.{Receiver}
 use Rattle.path_cache.proofs.Rightness.{refreshed-is}
 use Rattle.map_board.specs.Views.{Job, Answer}
 use Rattle.map_board.specs.Journal.{scene_at}

@@ -1,6 +1,6 @@
 //! Bundles, with steps that nobody counts.
 ghost use Rattle.std.specs.Prelude.{◌≡◌, ◌<◌, map};
-ghost use Rattle.scene_parts.specs.Sides.{sides_of};
+ghost use Rattle.scene_parts.specs.Parts.{sides_of};
 ghost use Rattle.part_grid.specs.Numbered.{numbered};
 
 use path_calc::{Bundle, Grid, NoMemory, Steps, bundle, bundle_near};

@@ -5,7 +5,7 @@ use Rattle.serde_json.specs.Data.{Data}
 use Rattle.serde_json.specs.Find.{as_object}
 use Rattle.serde_json.specs.Read.{read}
 use Rattle.scene_parts.specs.declared.kinds.Field.{Field}
-use Rattle.scene_parts.specs.declared.checks.raw.RawPart.{RawPart}
+use Rattle.scene_parts.specs.declared.checks.checking.RawPart.{RawPart}
 use Rattle.scene_parts.specs.declared.faults.PartFault.{PartFault}
 use Rattle.scene_parts.specs.declared.faults.PartFault.TheVariants as part
 use Rattle.scene_parts.specs.Checking.{check_of}

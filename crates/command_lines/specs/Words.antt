@@ -2,8 +2,8 @@
 use Rattle.std.specs.Prelude.{ℕ, ℤ, List, [], ◌∷◌, Result, Ok, Err, if◌then◌else◌, codes, bytes_eq}
 use Rattle.serde_json.specs.Data.{Data}
 use Rattle.scene_parts.specs.declared.kinds.Field.TheVariants.{Name, Kind, X, Y, H, Lw, Dc, Points, Density, Rho, G, Step, Columns, Rows, Reach, Air, C0, Ground, Level, Piece, To}
-use Rattle.scene_parts.specs.declared.checks.raw.RawPart.{RawPart}
-use Rattle.scene_parts.specs.declared.checks.raw.RawPart.TheVariants as raw
+use Rattle.scene_parts.specs.declared.checks.checking.RawPart.{RawPart}
+use Rattle.scene_parts.specs.declared.checks.checking.RawPart.TheVariants as raw
 use Rattle.scene_parts.specs.Checking.{check_of}
 use Rattle.scene_book.specs.declared.edits.Edit.TheVariants as edits
 use Rattle.scene_book.specs.Edits.{edit_of}

@@ -21,8 +21,7 @@ use Rattle.scene_geom.specs.Outline.{area2_of}
 use Rattle.scene_geom.specs.Reflection.{are_on_one_side, have_one_sign, squared_length, specular, off_wall}
 use Rattle.scene_geom.proofs.Whole.{mul_sub, mul_add}
 use Rattle.scene_geom.proofs.Walls.{over-n, over-d}
-use Rattle.scene_parts.specs.Views.{Obstacle}
-use Rattle.scene_parts.specs.Sides.{sides_of}
+use Rattle.scene_parts.specs.Parts.{Obstacle, sides_of}
 use Rattle.scene_parts.specs.declared.kinds.Shape.{Shape}
 use Rattle.scene_parts.specs.declared.kinds.Shape.TheVariants.{Barrier, Building}
 use Rattle.scene_parts.specs.declared.screening.ends.Ends.{Ends}

@@ -12,10 +12,9 @@ use Rattle.scene_geom.specs.declared.directions.direction.Dir.{Dir}
 use Rattle.scene_geom.specs.declared.reflection.Reflection.{Reflection}
 use Rattle.scene_geom.specs.Fraction.{is_inside, rest_of}
 use Rattle.scene_geom.specs.Crossing.{hits_of}
-use Rattle.scene_parts.specs.Views.{Obstacle}
+use Rattle.scene_parts.specs.Parts.{Obstacle, sides_of}
 use Rattle.scene_parts.specs.declared.screening.ends.Ends.{Ends}
 use Rattle.scene_parts.specs.declared.screening.crossing.Crossing.{Crossing}
-use Rattle.scene_parts.specs.Sides.{sides_of}
 use Rattle.part_grid.specs.declared.owned.Owned.{Owned}
 use Rattle.part_grid.specs.Ways.{cells_meet_way}
 use Rattle.part_grid.specs.Numbered.{numbered}

@@ -9,7 +9,7 @@ use Rattle.scene_geom.specs.Point.{orient_of}
 use Rattle.scene_geom.specs.Reflection.{are_on_one_side, squared_length, specular, off_wall}
 use Rattle.scene_geom.proofs.Whole.{mul_sub}
 use Rattle.scene_geom.proofs.Walls.{over-n, over-d}
-use Rattle.scene_parts.specs.Views.{Obstacle}
+use Rattle.scene_parts.specs.Parts.{Obstacle}
 use Rattle.scene_parts.specs.declared.screening.ends.Ends.{Ends}
 use Rattle.fix_interval.proofs.Multiplying.{times-mono, times-mono_right}
 use Rattle.image_source.specs.Mirrors.{at_place, ahead, strikes, stays_below, faces, has_mirror}

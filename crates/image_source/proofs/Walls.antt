@@ -12,9 +12,8 @@ use Rattle.scene_geom.specs.Fraction.{over, FitsCrossing}
 use Rattle.scene_geom.specs.Positive.{suc-positive}
 use Rattle.scene_geom.specs.Reflection.{are_on_one_side, have_one_sign, squared_length, CanReflect, specular, unfolded, off_wall}
 use Rattle.scene_geom.proofs.Walls.{off, unfolded-fits, over-n, over-d}
-use Rattle.scene_parts.specs.Views.{Obstacle}
-use Rattle.scene_parts.specs.Ranges.{IsObstacle}
-use Rattle.scene_parts.specs.Sides.{sides_of, is_short}
+use Rattle.scene_parts.specs.Parts.{Obstacle, IsObstacle, sides_of}
+use Rattle.scene_parts.specs.Sides.{is_short}
 use Rattle.scene_parts.specs.declared.screening.ends.Ends.{Ends}
 use Rattle.image_source.specs.Mirrors.{IsMirror, strikes, stays_below, faces, has_mirror}
 

@@ -10,7 +10,7 @@ use Rattle.scene_geom.specs.Vector.{Vector, cross, dot, scaled, minus}
 use Rattle.scene_geom.specs.Point.{from_to, along}
 use Rattle.scene_geom.specs.Direction.{way, FitsDirection}
 use Rattle.scene_geom.specs.Reflection.{CanReflect, squared_length, to_image, specular}
-use Rattle.scene_parts.specs.Views.{Obstacle}
+use Rattle.scene_parts.specs.Parts.{Obstacle}
 use Rattle.scene_parts.specs.declared.screening.edge.Edge.{Edge}
 use Rattle.scene_parts.specs.declared.screening.ends.Ends.{Ends}
 use Rattle.image_source.specs.declared.leg.Leg.{Leg}

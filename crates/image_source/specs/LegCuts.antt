@@ -14,9 +14,8 @@ use Rattle.scene_geom.specs.declared.reflection.Reflection.{Reflection}
 use Rattle.scene_geom.specs.Bands.{all_bands}
 use Rattle.scene_geom.specs.Fraction.{is_inside, rest_of}
 use Rattle.scene_geom.specs.Crossing.{hits_of}
-use Rattle.scene_parts.specs.Views.{Obstacle}
+use Rattle.scene_parts.specs.Parts.{Obstacle, sides_of}
 use Rattle.scene_parts.specs.declared.screening.cuts.Cut.{Cut}
-use Rattle.scene_parts.specs.Sides.{sides_of}
 use Rattle.scene_parts.specs.declared.screening.edge.Edge.{Edge}
 use Rattle.scene_parts.specs.declared.screening.ends.Ends.{Ends}
 use Rattle.scene_parts.specs.declared.screening.crossing.Crossing.{Crossing}

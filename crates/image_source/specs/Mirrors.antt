@@ -13,7 +13,7 @@ use Rattle.scene_geom.specs.Outline.{area2_of}
 use Rattle.scene_geom.specs.Reflection.{are_on_one_side, squared_length, specular, unfolded, FitsReflection}
 use Rattle.scene_parts.specs.declared.kinds.Shape.{Shape}
 use Rattle.scene_parts.specs.declared.kinds.Shape.TheVariants.{Barrier, Building}
-use Rattle.scene_parts.specs.Views.{Obstacle}
+use Rattle.scene_parts.specs.Parts.{Obstacle}
 use Rattle.scene_parts.specs.declared.screening.ends.Ends.{Ends}
 
 -- what changes evenly along the path, from x at the source to y at the receiver, at a place t, times the divisor of t

@@ -5,7 +5,7 @@ ghost use Rattle.fix_interval.specs.Values.{less_of};
 ghost use Rattle.scene_geom.specs.Bands.{all_bands, frequency_of};
 ghost use Rattle.scene_geom.specs.Fraction.{FitsEnd, rest_of};
 ghost use Rattle.scene_geom.specs.Reflection as wall;
-ghost use Rattle.scene_parts.specs.Sides.{sides_of};
+ghost use Rattle.scene_parts.specs.Parts.{sides_of};
 ghost use Rattle.image_source.specs.Dimensions as form;
 
 use crate::image::Mirror;

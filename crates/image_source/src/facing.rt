@@ -1,8 +1,7 @@
 //! The sides that may reflect to a place, with what is known of the place there: a list that is made once, and asked for
 //! each source.
 ghost use Rattle.std.specs.Prelude.{◌≡◌, ◌≤◌, ◌<◌, ◌^◌, ◌++◌, ◌*ℤ◌, pos, length, IfOk, OnOk, unsigned_abs};
-ghost use Rattle.scene_parts.specs.Sides.{sides_of};
-ghost use Rattle.scene_parts.specs.Ranges.{IsObstacle};
+ghost use Rattle.scene_parts.specs.Parts.{sides_of, IsObstacle};
 ghost use Rattle.scene_geom.specs.Point.{orient_of};
 ghost use Rattle.scene_geom.specs.Reflection.{have_one_sign, squared_length};
 ghost use Rattle.image_source.specs.Facing.{facing_of, facing_sides};

@@ -1,6 +1,6 @@
 //! The search for sides that cross the legs of a reflection among those near each leg.
 ghost use Rattle.std.specs.Prelude.{◌≡◌, ◌++◌, map, filter, IfOk, OnOk};
-ghost use Rattle.scene_parts.specs.Sides.{sides_of};
+ghost use Rattle.scene_parts.specs.Parts.{sides_of};
 ghost use Rattle.part_grid.specs.Numbered.{numbered};
 ghost use Rattle.image_source.specs.LegCuts.{crossings_from, leg_crossings_of, leg_cuts_of};
 ghost use Rattle.image_source.specs.inner.Near.{is_near};

@@ -1,7 +1,6 @@
 //! Where a side of an obstacle reflects.
 ghost use Rattle.std.specs.Prelude.{◌≡◌, ◌≤◌, ◌<◌, ◌≤ℤ◌, length, pos, slice_get, true, false, unsigned_abs, IfSome};
-ghost use Rattle.scene_parts.specs.Ranges.{IsObstacle};
-ghost use Rattle.scene_parts.specs.Sides.{sides_of};
+ghost use Rattle.scene_parts.specs.Parts.{IsObstacle, sides_of};
 ghost use Rattle.scene_geom.specs.Crossing.{are_opposite};
 ghost use Rattle.scene_geom.specs.Fraction.{FitsCrossing};
 ghost use Rattle.scene_geom.specs.declared.fractions.fraction.Frac.{Frac};

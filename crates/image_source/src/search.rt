@@ -2,7 +2,7 @@
 ghost use Rattle.std.specs.Prelude.{◌≡◌, ◌<◌, ◌≤◌, ◌*◌, ◌^◌, ◌++◌, [], length, map, filter, unsigned_abs, IfOk, IfSome, OnOk};
 ghost use Rattle.scene_geom.specs.Direction.{FitsDirection};
 ghost use Rattle.scene_geom.specs.Fraction.{FitsPlace, FitsEnd, rest_of};
-ghost use Rattle.scene_parts.specs.Sides.{sides_of};
+ghost use Rattle.scene_parts.specs.Parts.{sides_of};
 ghost use Rattle.image_source.specs.LegCuts.{edge_on, crossing_on, before_all, crossings_along, crossings_from, leg_crossings_of, leg_cuts_of};
 ghost use Rattle.image_source.specs.LegCuts.{is_leg_crossing_in, leg_cut_of};
 ghost use Rattle.image_source.specs.LegCuts as form;

@@ -4,7 +4,7 @@ use Rattle.std.specs.Prelude.{Option, Some, None, find, is_some}
 use Rattle.std.specs.Option.{option_or}
 use Rattle.std.proofs.lemmas.List.{map-append}
 use Rattle.std.proofs.lemmas.Bool.{false≢true}
-use Rattle.scene_parts.specs.Views.{Grid, Receiver}
+use Rattle.scene_parts.specs.Parts.{Grid, Receiver}
 use Rattle.scene_book.specs.Grid.{name_in, columns_from, rows_from, receivers_of}
 use Rattle.command_lines.specs.Views.{Contour}
 use Rattle.level_contours.specs.GridNames.{names_along, names_from, names_of, NamesAreOfGrid}

@@ -1,6 +1,6 @@
 -- The names of the receivers of a grid, in the order in which a grid puts them: row by row, and in each by column.
 use Rattle.std.specs.Prelude.{◌≡◌, ℕ, zero, suc, List, [], ◌∷◌, ◌++◌, not, is_some, Option, find, map}
-use Rattle.scene_parts.specs.Views.{Grid}
+use Rattle.scene_parts.specs.Parts.{Grid}
 use Rattle.scene_book.specs.Book.{Book}
 use Rattle.scene_book.specs.Grid.{name_in, receivers_of}
 use Rattle.scene_book.specs.Lists.{named}

@@ -4,18 +4,17 @@ use Rattle.std.specs.Prelude.{Result, Ok, Err, IsOk, Option, bytes_eq, ◌||◌,
 use Rattle.std.proofs.lemmas.Bool.{cases_lt}
 use Rattle.std.proofs.lemmas.Slice.Eq.{bytes_eq-Decides}
 use Rattle.std.proofs.lemmas.List.{take_all, length-take, length-take-le, take-append-drop, map-append}
-use Rattle.scene_parts.specs.Views.{Source}
+use Rattle.scene_parts.specs.Parts.{Source}
 use Rattle.scene_parts.specs.Answers.{◌>>=◌, ◌>>◌, Unless}
 use Rattle.scene_parts.specs.declared.parts.Part.{Part}
 use Rattle.scene_parts.specs.declared.parts.Part.TheVariants as parts
-use Rattle.scene_parts.specs.declared.kinds.Class.{Class}
-use Rattle.scene_parts.specs.declared.kinds.Class.TheVariants as classes
+use Rattle.scene_parts.specs.declared.parts.Class.{Class}
+use Rattle.scene_parts.specs.declared.parts.Class.TheVariants as classes
 use Rattle.scene_book.specs.declared.edits.Edit.{Edit}
 use Rattle.scene_book.specs.declared.edits.Edit.TheVariants as edits
 use Rattle.scene_book.specs.declared.edits.EditFault.{EditFault}
 use Rattle.scene_book.specs.declared.edits.EditFault.TheVariants.{Full}
-use Rattle.scene_book.specs.Book.{Book, at_most}
-use Rattle.scene_book.specs.Limits.{most_sources}
+use Rattle.scene_book.specs.Book.{Book, at_most, most_sources}
 use Rattle.scene_book.specs.Lists.{put_in, put_all, NoneNamed, AreApart}
 use Rattle.scene_book.specs.Applying.{applied, apply_of, put_of, put_where_room, own_class, holder, in_limits, with_part, replaced}
 use Rattle.line_sources.specs.Pieces.{is_put, puts, removes, beyond, accepted, all_accepted, edits_with, sources_of, line_edits_of}

@@ -3,7 +3,7 @@ use Rattle.std.proofs.Common.{◌≡◌, ℕ, zero, suc, ◌+◌, ◌≤◌, ◌
 use Rattle.std.specs.Prelude.{map, bytes_eq}
 use Rattle.std.specs.List.{range_with_len}
 use Rattle.scene_geom.specs.declared.plan.Side.{Side}
-use Rattle.scene_parts.specs.Views.{Source}
+use Rattle.scene_parts.specs.Parts.{Source}
 use Rattle.scene_book.specs.Lists.{NoneNamed, AreApart}
 use Rattle.command_lines.specs.Views.{LineSource}
 use Rattle.line_sources.specs.Legs.{legs_of}

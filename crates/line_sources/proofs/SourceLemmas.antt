@@ -9,7 +9,7 @@ use Rattle.std.proofs.Math.Seq.{take-append-add}
 use Rattle.scene_geom.specs.declared.plan.Pt.{Pt}
 use Rattle.scene_geom.specs.declared.plan.Side.{Side}
 use Rattle.scene_geom.specs.Outline.{sides_along}
-use Rattle.scene_parts.specs.Views.{Source}
+use Rattle.scene_parts.specs.Parts.{Source}
 use Rattle.command_lines.specs.Views.{LineSource}
 use Rattle.line_sources.specs.Legs.{is_leg, legs_of}
 use Rattle.line_sources.specs.Pieces.{CutLeg, cut_of, source_at, sources_on, sources_along}

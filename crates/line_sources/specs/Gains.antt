@@ -3,7 +3,7 @@ use Rattle.std.specs.Prelude.{ℕ, ◌*◌, ℤ, pos, ◌*ℤ◌, Bool, Option, 
 use Rattle.fix_interval.specs.Units.{unit}
 use Rattle.fix_interval.specs.Round.{floor_of}
 use Rattle.fix_interval.specs.Tree.{Tree, Const, Root, Lg, enc}
-use Rattle.scene_parts.specs.Ranges.{is_power_within}
+use Rattle.scene_parts.specs.Parts.{is_power_within}
 use Rattle.command_lines.specs.Limits.{least_line_power, greatest_line_power}
 
 -- the sound power level of a metre of a line source, where there is power

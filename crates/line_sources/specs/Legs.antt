@@ -6,7 +6,7 @@ use Rattle.scene_geom.specs.declared.plan.Pt.{Pt}
 use Rattle.scene_geom.specs.declared.plan.Side.{Side}
 use Rattle.scene_geom.specs.Point.{point_at}
 use Rattle.scene_geom.specs.Outline.{sides_along}
-use Rattle.scene_parts.specs.Ranges.{is_same}
+use Rattle.scene_parts.specs.Parts.{is_same}
 
 -- a side between two points that differ
 abbrev pub is_leg : Side → Bool

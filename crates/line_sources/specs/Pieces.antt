@@ -4,8 +4,7 @@ use Rattle.std.specs.Fmt.{decimal}
 use Rattle.std.specs.List.{list_all, list_any, range_with_len}
 use Rattle.std.specs.Char.{is_ascii_digit}
 use Rattle.scene_geom.specs.declared.plan.Side.{Side}
-use Rattle.scene_parts.specs.Views.{Source, point_source}
-use Rattle.scene_parts.specs.Ranges.{is_power}
+use Rattle.scene_parts.specs.Parts.{Source, point_source, is_power}
 use Rattle.scene_parts.specs.Sides.{squared_length}
 use Rattle.scene_parts.specs.Answers.{◌>>◌}
 use Rattle.scene_parts.specs.declared.parts.Part.TheVariants as parts

@@ -1,7 +1,7 @@
 //! The legs of a line, and the power of their pieces.
 ghost use Rattle.std.specs.Prelude.{◌≡◌, ◌∷◌, [], pos, neg_ℤ, ◌≤ℤ◌, IsTrue};
 ghost use Rattle.std.specs.List.{list_all};
-ghost use Rattle.scene_parts.specs.Ranges.{is_power};
+ghost use Rattle.scene_parts.specs.Parts.{is_power};
 ghost use Rattle.line_sources.specs.Legs.{is_leg as is_leg_of};
 ghost use Rattle.line_sources.specs.Gains.{is_line_power};
 ghost use Rattle.line_sources.specs.Pieces.{cut_of, powers_with, power_with};

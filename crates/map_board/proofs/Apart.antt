@@ -2,14 +2,13 @@
 use Rattle.std.proofs.Common.{◌≡◌, ℕ, ◌*◌, length, Bool, true, false, cond, List, [], ◌∷◌, map, Some, refl, sym, ap, ◌∙◌, subst}
 use Rattle.std.specs.Prelude.{bytes_eq, Option, Result, Ok, Err, filter, is_some}
 use Rattle.scene_parts.specs.Answers.{◌>>◌}
-use Rattle.scene_parts.specs.Views.{Source, Receiver}
+use Rattle.scene_parts.specs.Parts.{Source, Receiver}
 use Rattle.scene_parts.specs.declared.parts.Part.{Part}
 use Rattle.scene_parts.specs.declared.parts.Part.TheVariants as parts
-use Rattle.scene_parts.specs.declared.kinds.Class.TheVariants as classes
+use Rattle.scene_parts.specs.declared.parts.Class.TheVariants as classes
 use Rattle.scene_book.specs.Lists.{named, put_in, take_out, put_all, NoneNamed, AreApart}
-use Rattle.scene_book.specs.Book.{Book, empty_book, at_most}
+use Rattle.scene_book.specs.Book.{Book, empty_book, at_most, most_receivers}
 use Rattle.scene_book.specs.Grid.{receivers_of}
-use Rattle.scene_book.specs.Limits.{most_receivers}
 use Rattle.scene_book.specs.Applying.{apply_of, grid_of, with_part, without, all_own}
 use Rattle.scene_book.specs.declared.edits.Edit.{Edit}
 use Rattle.scene_book.specs.declared.edits.Edit.TheVariants as edits

@@ -2,10 +2,9 @@
 use Rattle.std.proofs.Common.{◌≡◌, ℕ, suc, ◌+◌, ◌-◌, ◌≤◌, Bool, true, false, cond, List, [], ◌∷◌, ◌++◌, length, get_or, drop, Some, None, refl, sym, ap, ◌∙◌, subst, arith, length-append, length-drop}
 use Rattle.std.specs.Prelude.{Option, Ok, All, IfSome, unwrap_or}
 use Rattle.std.proofs.lemmas.List.Elements.{All-nil, All-cons, All-head, All-tail, All-map}
-use Rattle.scene_parts.specs.Views.{Receiver, Globals}
+use Rattle.scene_parts.specs.Parts.{Receiver, Globals}
 use Rattle.scene_parts.specs.declared.parts.Part.{Part}
-use Rattle.scene_book.specs.Book.{Book, empty_book}
-use Rattle.scene_book.specs.Limits.{most_receivers}
+use Rattle.scene_book.specs.Book.{Book, empty_book, most_receivers}
 use Rattle.scene_book.specs.Lists.{AreApart}
 use Rattle.scene_book.specs.Applying.{apply_of}
 use Rattle.scene_book.specs.declared.edits.Edit.{Edit}

@@ -4,7 +4,7 @@ use Rattle.std.specs.Prelude.{Option, Result, Ok, Err, Contains, is_some, is_non
 use Rattle.std.specs.List.{list_any}
 use Rattle.std.specs.Option.{option_map_or}
 use Rattle.scene_geom.proofs.Blocking.{uncrossed_is_unblocked}
-use Rattle.scene_parts.specs.Views.{Source, Receiver}
+use Rattle.scene_parts.specs.Parts.{Source, Receiver}
 use Rattle.scene_parts.specs.declared.parts.Part.{Part}
 use Rattle.scene_book.specs.Book.{Book}
 use Rattle.scene_book.specs.Applying.{apply_of}

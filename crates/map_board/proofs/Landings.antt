@@ -5,7 +5,7 @@ use Rattle.std.specs.Option.{option_map, option_and_then}
 use Rattle.std.proofs.lemmas.List.{length-take-le}
 use Rattle.std.proofs.lemmas.List.Elements.{All-head, All-tail}
 use Rattle.std.proofs.lemmas.Option.{slice_get_within}
-use Rattle.scene_parts.specs.Views.{Receiver}
+use Rattle.scene_parts.specs.Parts.{Receiver}
 use Rattle.scene_book.specs.Book.{Book, empty_book}
 use Rattle.scene_book.specs.Lists.{named, AreApart}
 use Rattle.scene_book.specs.declared.edits.Edit.{Edit}

@@ -2,7 +2,7 @@
 use Rattle.std.proofs.Common.{◌≡◌, ℕ, List, [], ◌++◌, map, sym, ap, ◌∙◌}
 use Rattle.std.specs.Prelude.{Option}
 use Rattle.std.proofs.lemmas.List.{map-append}
-use Rattle.scene_parts.specs.Views.{Source, Grid, Setting}
+use Rattle.scene_parts.specs.Parts.{Source, Grid, Setting}
 use Rattle.scene_parts.specs.declared.parts.Part.{Part}
 use Rattle.scene_book.specs.Book.{Book}
 use Rattle.scene_book.specs.Laws.{Edited, pieces_of, pieces_of_any}

@@ -1,7 +1,7 @@
 -- How many bundles have to be calculated for a row.
 use Rattle.std.specs.Prelude.{ℕ, Bool, true, false, ◌||◌, is_some, is_none, List, count_by, Option, Some, None}
 use Rattle.std.specs.Option.{option_map_or}
-use Rattle.scene_parts.specs.Views.{Source, Receiver}
+use Rattle.scene_parts.specs.Parts.{Source, Receiver}
 use Rattle.scene_book.specs.Book.{Book}
 use Rattle.scene_book.specs.Lists.{named}
 use Rattle.scene_book.specs.declared.edits.Edit.{Edit}

@@ -1,6 +1,6 @@
 -- When an answer or a job may come back, and what it is then.
 use Rattle.std.specs.Prelude.{◌≡◌, ℕ, ◌≤◌, ◌⊎◌, List, length, take, Contains, Some, IsSome}
-use Rattle.scene_parts.specs.Views.{Source, Receiver}
+use Rattle.scene_parts.specs.Parts.{Source, Receiver}
 use Rattle.scene_book.specs.declared.edits.Edit.{Edit}
 use Rattle.path_calc.specs.Levels.{levels_of}
 use Rattle.path_calc.specs.Show.{sources_within, bundles_of}

@@ -1,9 +1,8 @@
 -- What looks at a board show, after a run of seats: the headline's facts.
 use Rattle.std.specs.Prelude.{◌≡◌, ◌≤◌, false, List, [], ◌∷◌, map, length, flat_map, Some, Ok}
 use Rattle.std.specs.List.{list_any}
-use Rattle.scene_parts.specs.Views.{Receiver}
-use Rattle.scene_book.specs.Book.{Book}
-use Rattle.scene_book.specs.Limits.{most_receivers}
+use Rattle.scene_parts.specs.Parts.{Receiver}
+use Rattle.scene_book.specs.Book.{Book, most_receivers}
 use Rattle.scene_book.specs.declared.edits.Edit.{Edit}
 use Rattle.path_calc.specs.Show.{show_of}
 use Rattle.turn_lock.specs.History.{IsRun, entries_of}

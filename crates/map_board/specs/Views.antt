@@ -1,6 +1,6 @@
 -- Jobs and answers as contracts see them.
 use Rattle.std.specs.Prelude.{ℕ, Bool, List}
-use Rattle.scene_parts.specs.Views.{Receiver}
+use Rattle.scene_parts.specs.Parts.{Receiver}
 use Rattle.scene_book.specs.Book.{Book}
 use Rattle.path_calc.specs.Bundles.{Bundle}
 use Rattle.path_calc.specs.Levels.{Levels}

@@ -8,7 +8,7 @@ ghost use Rattle.path_calc.specs.Prepared.{prepared_of};
 ghost use Rattle.path_cache.specs.Frames.{Holds};
 ghost use Rattle.scene_parts.specs.Answers.{Unless};
 ghost use Rattle.scene_book.specs.Applying.{apply_of, lacks_memory};
-ghost use Rattle.scene_parts.specs.Sides.{sides_of};
+ghost use Rattle.scene_parts.specs.Parts.{sides_of};
 ghost use Rattle.part_grid.specs.Numbered.{numbered};
 ghost use Rattle.map_board.specs.inner.Sources.{LeavesSources, LeavesObstacles, puts_any_receiver};
 ghost use Rattle.map_board.specs.inner.Sources.{is_source as is_source_part, is_obstacle as is_obstacle_part};

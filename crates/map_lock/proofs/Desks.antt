@@ -17,7 +17,7 @@ use Rattle.map_board.specs.declared.calls.BoardReply.TheVariants as replies
 use Rattle.map_board.specs.Jobs.{Answers}
 use Rattle.map_board.specs.Views.{Job, Answer}
 use Rattle.map_board.specs.Seats.{Entries, May, is_of, without_job, owed}
-use Rattle.scene_parts.specs.Views.{Receiver}
+use Rattle.scene_parts.specs.Parts.{Receiver}
 use Rattle.map_lock.specs.Seats.{BoardSeat, BoardEntry, IsSeat}
 use Rattle.map_lock.specs.Turns.{HasTurned}
 use Rattle.map_lock.specs.Working.{Follows, is_work, taken_of, last_call}

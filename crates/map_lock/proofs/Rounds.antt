@@ -86,7 +86,7 @@ off-one version name job is = ap (λ b. cond (not b) (job ∷ []) []) is
 answered-of : (job : Job) (answer : Answer) → Answers job answer → is_of answer.version answer.receiver.name job ≡ true
 answered-of job answer answers =
     ap (λ v. is_of v answer.receiver.name job) answers.version
-    ∙ (ap (λ (r : Rattle.scene_parts.specs.Views.Receiver). is_of job.version r.name job) answers.receiver ∙ of-itself job)
+    ∙ (ap (λ (r : Rattle.scene_parts.specs.Parts.Receiver). is_of job.version r.name job) answers.receiver ∙ of-itself job)
 
 -- an offer of the only job
 pub quiet-offer : (before after : BoardSeat) (job : Job) (answer : Answer) (landed : Landed) → owed before.mine ≡ job ∷ []

@@ -71,13 +71,13 @@ not-both : false ≡ true → ⊥
 not-both h = cc
 
 -- no job is out for a receiver
-none-out : (journal : List Edit) (rows : List Row) (version : ℕ) (r : Rattle.scene_parts.specs.Views.Receiver)
+none-out : (journal : List Edit) (rows : List Row) (version : ℕ) (r : Rattle.scene_parts.specs.Parts.Receiver)
     → list_any (is_unsettled journal) rows ≡ false → IsOutFor rows version r → ⊥
 none-out journal rows version r settled is =
     not-both (sym (settled-row journal rows r.name is.row is.found settled).1 ∙ ap is_some is.out)
 
 -- so what may return was named since
-named-since : (state : State) (version : ℕ) (r : Rattle.scene_parts.specs.Views.Receiver) → IsSettled state
+named-since : (state : State) (version : ℕ) (r : Rattle.scene_parts.specs.Parts.Receiver) → IsSettled state
     → MayReturn state.journal state.rows version r → is_some (first_naming state.journal version r.name) ≡ true
 named-since state version r settled may = go may.awaited where
   go : IsSome (first_naming state.journal version r.name) ⊎ IsOutFor state.rows version r

@@ -5,7 +5,8 @@ use Rattle.scene_parts.specs.declared.faults.PartFault.{PartFault}
 use Rattle.scene_parts.specs.declared.faults.PartFault.TheVariants as parts
 use Rattle.scene_book.specs.declared.edits.EditFault.{EditFault}
 use Rattle.scene_book.specs.declared.edits.EditFault.TheVariants as edits
-use Rattle.scene_parts.specs.Words.{field_word, class_word}
+use Rattle.scene_parts.specs.Words.{field_word}
+use Rattle.scene_parts.specs.Parts.{class_word}
 use Rattle.command_lines.specs.declared.faults.LineFault.{LineFault}
 use Rattle.command_lines.specs.declared.faults.LineFault.TheVariants as lines
 use Rattle.scene_parts.specs.Answers.{lacks_memory as part_lacks_memory}

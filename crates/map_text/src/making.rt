@@ -1,6 +1,6 @@
 //! What the lines of a generated site come to.
 ghost use Rattle.std.specs.Prelude.{◌≡◌, ◌+◌, ◌-◌, ◌<◌, ◌≤◌, ◌^◌, IfOk, IfSome, length};
-ghost use Rattle.scene_book.specs.Limits.{most_receivers};
+ghost use Rattle.scene_book.specs.Book.{most_receivers};
 ghost use Rattle.path_calc.specs.Levels.{IsLevel};
 ghost use Rattle.map_text.specs.Making.{nothing_told, widened, span_of_rows, row_of_making};
 

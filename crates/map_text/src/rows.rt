@@ -1,6 +1,6 @@
 //! Rows on their way to a sink.
 ghost use Rattle.std.specs.Prelude.{◌≡◌, [], ◌∷◌, ◌++◌, ◌≤◌, flat_map, length, slice_index};
-ghost use Rattle.scene_book.specs.Limits.{most_receivers};
+ghost use Rattle.scene_book.specs.Book.{most_receivers};
 ghost use Rattle.map_text.specs.Rows.{refused_row, counts_row};
 ghost use Rattle.map_text.specs.Looks.{receiver_rows, look_rows, counts_rows};
 ghost use Rattle.map_text.specs.Taking.{Takes, CausedByWriteFault, IsSameSink};

@@ -5,12 +5,11 @@ use Rattle.std.proofs.lemmas.List.{append-nil}
 use Rattle.std.proofs.lemmas.List.Elements.{All-nil, All-append, All-cons, All-head, All-tail}
 use Rattle.scene_parts.specs.declared.parts.Part.{Part}
 use Rattle.scene_parts.specs.declared.memory.NoMemory.{NoMemory}
-use Rattle.scene_book.specs.Book.{Book}
+use Rattle.scene_book.specs.Book.{Book, most_receivers}
 use Rattle.scene_book.specs.Applying.{apply_of, lacks_memory}
 use Rattle.scene_book.specs.declared.edits.Edit.{Edit}
 use Rattle.scene_book.specs.declared.edits.EditFault.{EditFault}
 use Rattle.scene_book.specs.declared.edits.EditFault.TheVariants as faults
-use Rattle.scene_book.specs.Limits.{most_receivers}
 use Rattle.command_lines.specs.Views.{Contour}
 use Rattle.map_text.specs.declared.refusals.Refusal.{Refusal}
 use Rattle.map_text.specs.declared.refusals.Refusal.TheVariants.{Edit as OfEdit, Line as OfLine, LongLine}

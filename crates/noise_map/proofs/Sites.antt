@@ -11,7 +11,7 @@ use Rattle.map_io.proofs.Scanning.{plain_before_feed, split_at_feed, plain_witho
 use Rattle.noise_map.specs.inner.FirstLine.{IsFirstLine}
 use Rattle.noise_map.specs.declared.lines.answer.Answer.{Answer}
 use Rattle.noise_map.specs.declared.run.editor.Editor.{Editor}
-use Rattle.scene_parts.specs.Views.{Receiver}
+use Rattle.scene_parts.specs.Parts.{Receiver}
 use Rattle.scene_book.specs.Book.{Book}
 use Rattle.scene_book.specs.declared.edits.Edit.{Edit}
 use Rattle.map_board.specs.declared.looks.LookAll.{LookAll}

@@ -3,13 +3,13 @@ use Rattle.std.proofs.Common.{◌≡◌, ℕ, List, [], ◌∷◌, Bool, true, f
 use Rattle.std.specs.Prelude.{Option, Some, None, Result, Ok, Err, IfOk, All, codes, bytes_eq}
 use Rattle.std.specs.Str.{is_utf8}
 use Rattle.std.proofs.lemmas.List.Elements.{All-nil, All-cons, All-append}
-use Rattle.scene_parts.specs.declared.checks.raw.RawPart.{RawPart}
+use Rattle.scene_parts.specs.declared.checks.checking.RawPart.{RawPart}
 use Rattle.scene_parts.specs.declared.faults.PartFault.{PartFault}
 use Rattle.scene_parts.specs.declared.kinds.Field.{Field}
 use Rattle.scene_parts.specs.declared.parts.Part.TheVariants as parts
 use Rattle.scene_parts.specs.Answers.{◌>>=◌, ◌>>◌}
 use Rattle.scene_parts.specs.Checking.{check_of}
-use Rattle.scene_parts.specs.Views.{Source}
+use Rattle.scene_parts.specs.Parts.{Source}
 use Rattle.scene_book.specs.declared.edits.Edit.{Edit}
 use Rattle.scene_book.specs.declared.edits.Edit.TheVariants as edits
 use Rattle.scene_book.specs.declared.edits.EditFault.{EditFault}

@@ -3,7 +3,7 @@ use Rattle.std.proofs.Common.{◌≡◌, ℕ, List, [], ◌∷◌, ◌++◌, Boo
 use Rattle.std.specs.Prelude.{Option, Some, None, Result, Ok, Err, IfOk, All, fold, filter, nat_lt, nat_le, length}
 use Rattle.std.proofs.lemmas.List.Elements.{All-nil, All-cons}
 use Rattle.std.proofs.lemmas.List.Sums.{fold-append}
-use Rattle.scene_parts.specs.Views.{Receiver}
+use Rattle.scene_parts.specs.Parts.{Receiver}
 use Rattle.scene_book.specs.Book.{Book}
 use Rattle.scene_book.specs.Orders.{Shuffled, SameParts}
 use Rattle.scene_book.specs.declared.edits.Edit.{Edit}

@@ -2,7 +2,7 @@
 use Rattle.std.specs.Prelude.{◌≡◌, ℕ, ◌+◌, ◌<◌, ◌≤◌, List, [], ◌∷◌, map, take, fold, length, Option, None, unwrap_or}
 use Rattle.std.specs.Io.KnownBytes.{Appends}
 use Rattle.fix_interval.specs.Interval.{Interval}
-use Rattle.scene_parts.specs.Views.{Receiver}
+use Rattle.scene_parts.specs.Parts.{Receiver}
 use Rattle.scene_book.specs.Book.{Book}
 use Rattle.path_calc.specs.Show.{show_of}
 use Rattle.map_io.specs.Lines.{lines}

@@ -5,7 +5,7 @@ use Rattle.fix_interval.specs.Tree.{Tree, Const, enc}
 use Rattle.energy_sum.specs.Energies.{energy_form}
 use Rattle.scene_geom.specs.declared.band.Band.{Band}
 use Rattle.scene_geom.specs.Bands.{all_bands}
-use Rattle.scene_parts.specs.Views.{Source, Receiver, Globals}
+use Rattle.scene_parts.specs.Parts.{Source, Receiver, Globals}
 use Rattle.scene_book.specs.Book.{Book}
 use Rattle.path_calc.specs.Contributions.{Counting, Always, WhereGreater, Contribution, contributions, emission_in}
 use Rattle.path_calc.specs.Energies.{sum_form, where_counting, long_term, correction_of, energy_of, long_energy_of, band_energy, long_energy_in, long_energy}

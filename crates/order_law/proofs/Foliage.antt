@@ -18,7 +18,7 @@ use Rattle.fix_interval.proofs.Ceilings.{quotient_up-le}
 use Rattle.scene_geom.specs.declared.plan.Pt.{Pt}
 use Rattle.scene_geom.specs.declared.fractions.fraction.Frac.{Frac}
 use Rattle.scene_geom.specs.declared.band.Band.{Band}
-use Rattle.scene_parts.specs.Views.{Foliage}
+use Rattle.scene_parts.specs.Parts.{Foliage}
 use Rattle.scene_book.specs.Orders.{Shuffled}
 use Rattle.scene_undo.specs.Scenes.{IsFoliageWithin}
 use Rattle.path_shape.specs.Shape.{squared}

@@ -3,7 +3,7 @@ use Rattle.std.proofs.Common.{◌≡◌, Bool, refl, ap, ◌∙◌, List, [], �
 use Rattle.std.specs.Prelude.{not, if◌then◌else◌}
 use Rattle.scene_geom.specs.declared.plan.Pt.{Pt}
 use Rattle.scene_geom.specs.declared.band.Band.{Band}
-use Rattle.scene_parts.specs.Views.{Obstacle}
+use Rattle.scene_parts.specs.Parts.{Obstacle}
 use Rattle.scene_parts.specs.declared.screening.ends.Ends.{Ends}
 use Rattle.scene_book.specs.Orders.{Shuffled}
 use Rattle.sight_cut.specs.Cuts.{screens_in}

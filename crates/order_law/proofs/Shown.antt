@@ -5,8 +5,7 @@ use Rattle.fix_interval.specs.Interval.{Interval}
 use Rattle.fix_interval.specs.Tree.{Tree, enc}
 use Rattle.scene_geom.specs.declared.band.Band.{Band}
 use Rattle.scene_geom.specs.Bands.{all_bands}
-use Rattle.scene_parts.specs.Views.{Source, Receiver}
-use Rattle.scene_parts.specs.Ranges.{AreGlobals}
+use Rattle.scene_parts.specs.Parts.{Source, Receiver, AreGlobals}
 use Rattle.scene_book.specs.Orders.{Shuffled, SameParts}
 use Rattle.scene_book.specs.Book.{Book, IsWithin}
 use Rattle.scene_undo.specs.Scenes.{IsScene, IsZoneWithin, IsFoliageWithin}

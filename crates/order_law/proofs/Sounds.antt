@@ -12,11 +12,10 @@ use Rattle.scene_geom.specs.declared.band.Band.{Band}
 use Rattle.scene_geom.specs.declared.plan.Side.{Side}
 use Rattle.scene_geom.specs.declared.reflection.Reflection.{Reflection}
 use Rattle.scene_geom.specs.Bands.{place_of}
-use Rattle.scene_parts.specs.Views.{Source, Receiver, Obstacle, Zone, Foliage, Globals}
+use Rattle.scene_parts.specs.Parts.{Source, Receiver, Obstacle, Zone, Foliage, Globals, sides_of}
 use Rattle.scene_parts.specs.declared.kinds.Ground.{Ground}
 use Rattle.scene_parts.specs.declared.kinds.Ground.TheVariants.{General, Simple}
 use Rattle.scene_parts.specs.Crossings.{counts_in}
-use Rattle.scene_parts.specs.Sides.{sides_of}
 use Rattle.scene_parts.specs.declared.screening.edge.Edge.{Edge}
 use Rattle.scene_book.specs.Orders.{Shuffled, same, under}
 use Rattle.scene_undo.specs.Scenes.{IsZoneWithin, IsFoliageWithin}

@@ -11,7 +11,7 @@ use Rattle.fix_interval.specs.Values.{end_of, sum_of_ends, add_of, neg_of, sub_o
 use Rattle.fix_interval.specs.Tree.{Tree, Sub, Div, enc}
 use Rattle.fix_interval.proofs.Ends.{on_ends-second}
 use Rattle.fix_interval.proofs.Multiplying.{end_of-large}
-use Rattle.scene_parts.specs.Views.{Zone}
+use Rattle.scene_parts.specs.Parts.{Zone}
 use Rattle.path_shape.specs.declared.path.Path.{Path}
 use Rattle.term_ground.specs.declared.legs.region.Region.{Region}
 use Rattle.term_ground.specs.declared.legs.region.Region.TheVariants.{Source, Middle, Receiver}

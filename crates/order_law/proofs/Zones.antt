@@ -1,7 +1,7 @@
 -- That the attenuation by the ground doesn't depend on the order of the zones.
 use Rattle.std.proofs.Common.{◌≡◌, ℕ, ◌≤◌, arith, List, [], ◌∷◌, length, map}
 use Rattle.fix_interval.specs.Tree.{Tree, enc}
-use Rattle.scene_parts.specs.Views.{Zone}
+use Rattle.scene_parts.specs.Parts.{Zone}
 use Rattle.scene_book.specs.Orders.{Shuffled}
 use Rattle.scene_undo.specs.Scenes.{IsZoneWithin}
 use Rattle.path_shape.specs.declared.path.Path.{Path}

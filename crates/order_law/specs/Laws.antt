@@ -1,6 +1,6 @@
 -- That levels don't depend on the order in which the parts of a scene stand.
 use Rattle.std.specs.Prelude.{◌≡◌, ℕ, List, map}
-use Rattle.scene_parts.specs.Views.{Receiver}
+use Rattle.scene_parts.specs.Parts.{Receiver}
 use Rattle.scene_book.specs.Book.{Book}
 use Rattle.scene_book.specs.Orders.{Shuffled, SameParts}
 use Rattle.scene_undo.specs.Scenes.{IsScene}

@@ -1,7 +1,7 @@
 //! The law of orders for two scenes at hand. That its zones, its foliage and its globals keep their limits is known by
 //! their types.
 ghost use Rattle.std.specs.Prelude.{◌≡◌, All};
-ghost use Rattle.scene_parts.specs.Ranges.{AreGlobals};
+ghost use Rattle.scene_parts.specs.Parts.{AreGlobals};
 ghost use Rattle.scene_book.specs.Orders.{SameParts};
 ghost use Rattle.scene_undo.specs.Scenes.{IsZoneWithin, IsFoliageWithin};
 ghost use Rattle.path_calc.specs.Show.{show_of};

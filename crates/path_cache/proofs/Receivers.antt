@@ -1,6 +1,6 @@
 -- A refresh doesn't look at the receivers of a scene, only at the one that it is asked for.
 use Rattle.std.proofs.Common.{◌≡◌, Bool, List, refl}
-use Rattle.scene_parts.specs.Views.{Source, Receiver}
+use Rattle.scene_parts.specs.Parts.{Source, Receiver}
 use Rattle.scene_book.specs.Book.{Book}
 use Rattle.path_calc.specs.Bundles.{Bundle, bundle_of}
 use Rattle.path_calc.specs.Show.{sources_within, bundles_of}

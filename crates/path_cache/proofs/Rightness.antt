@@ -1,7 +1,7 @@
 -- A refresh of bundles that still stand gives the scene's bundles.
 use Rattle.std.proofs.Common.{◌≡◌, suc, List, [], ◌∷◌, map, Some, None, refl, arith}
 use Rattle.std.specs.Prelude.{Bool, Option, Contains, unwrap_or}
-use Rattle.scene_parts.specs.Views.{Receiver}
+use Rattle.scene_parts.specs.Parts.{Receiver}
 use Rattle.scene_book.specs.Book.{Book}
 use Rattle.path_calc.specs.Bundles.{Bundle, bundle_of}
 use Rattle.path_calc.specs.Show.{sources_within, bundles_of}

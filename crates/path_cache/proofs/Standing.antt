@@ -6,7 +6,7 @@ use Rattle.std.proofs.lemmas.List.{length-map, get_or-map, take_more, take_all, 
 use Rattle.std.proofs.Math.ListN.{drop_of_length-le}
 use Rattle.std.proofs.lemmas.List.Sums.{count_by_more_yes, count_by_more_no, sum_by_more_le}
 use Rattle.std.proofs.lemmas.List.Elements.{All-head, All-tail, All-cons, All-nil}
-use Rattle.scene_parts.specs.Views.{Source, Receiver}
+use Rattle.scene_parts.specs.Parts.{Source, Receiver}
 use Rattle.scene_book.specs.Book.{Book}
 use Rattle.scene_book.specs.Lists.{NoneNamed, AreApart}
 use Rattle.path_calc.specs.Lengths.{is_within}

@@ -1,7 +1,7 @@
 -- Boxes in plan round the places of sources.
 use Rattle.std.specs.Prelude.{◌≡◌, ◌≤ℤ◌, pos, List, All}
 use Rattle.scene_geom.specs.declared.plan.Pt.{Pt}
-use Rattle.scene_parts.specs.Views.{Source}
+use Rattle.scene_parts.specs.Parts.{Source}
 use Rattle.path_cache.specs.declared.frames.Frame.{Frame}
 
 -- a place is in a box

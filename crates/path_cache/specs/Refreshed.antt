@@ -2,7 +2,7 @@
 use Rattle.std.specs.Prelude.{◌≡◌, ℕ, ◌≤◌, Bool, ◌&&◌, not, is_none, bytes_eq, List, length, map, count_by, find, Contains, Option, Some, unwrap_or}
 use Rattle.std.specs.List.{zip}
 use Rattle.std.specs.Option.{option_map}
-use Rattle.scene_parts.specs.Views.{Source, Receiver}
+use Rattle.scene_parts.specs.Parts.{Source, Receiver}
 use Rattle.scene_book.specs.Book.{Book}
 use Rattle.scene_book.specs.Lists.{AreApart}
 use Rattle.path_calc.specs.Bundles.{Bundle, bundle_of}

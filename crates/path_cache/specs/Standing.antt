@@ -1,6 +1,6 @@
 -- Kept bundles that stand exactly as the sources of a scene do.
 use Rattle.std.specs.Prelude.{◌≡◌, true, Bool, List, length, map, All}
-use Rattle.scene_parts.specs.Views.{Source, Receiver}
+use Rattle.scene_parts.specs.Parts.{Source, Receiver}
 use Rattle.scene_book.specs.Book.{Book}
 use Rattle.path_calc.specs.Lengths.{is_within}
 use Rattle.path_calc.specs.Bundles.{Bundle}

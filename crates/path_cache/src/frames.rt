@@ -18,7 +18,7 @@ pub struct Frame {
 impl Frame {
     ghost use Rattle.std.specs.Prelude.{◌≡◌, ◌<◌, true, List, All, length};
     ghost use Rattle.scene_geom.specs.declared.plan.Pt.{Pt as PtSeen};
-    ghost use Rattle.scene_parts.specs.Views.{Source};
+    ghost use Rattle.scene_parts.specs.Parts.{Source};
     ghost use Rattle.path_calc.specs.Lengths as lengths;
     ghost use Rattle.path_cache.specs.declared.frames.Frame.{Frame as FrameSeen};
     ghost use Rattle.path_cache.specs.Frames.{IsIn, Holds, LiesIn, IsTheOrigin};

@@ -9,7 +9,7 @@ use Rattle.scene_geom.specs.declared.fractions.fraction.Frac.{Frac}
 use Rattle.scene_geom.specs.declared.band.Band.{Band}
 use Rattle.image_source.specs.Dimensions.{incidence, dimension_squared, legs_product, needed_squared}
 use Rattle.energy_sum.specs.Weather.{correction}
-use Rattle.scene_parts.specs.Views.{Source, Receiver, Globals}
+use Rattle.scene_parts.specs.Parts.{Source, Receiver, Globals}
 use Rattle.path_calc.specs.Energies.{sum_form, where_counting, correction_of}
 use Rattle.path_calc.specs.Contributions.{Contribution}
 

@@ -9,8 +9,8 @@ use Rattle.scene_geom.specs.declared.plan.Side.{Side}
 use Rattle.scene_geom.specs.declared.band.Band.{Band}
 use Rattle.scene_geom.specs.Crossing.{blocks_of}
 use Rattle.scene_parts.specs.declared.screening.size_test.Breadth.{Breadth}
-use Rattle.scene_parts.specs.Views.{Obstacle}
-use Rattle.scene_parts.specs.Sides.{sides_of, squared_length}
+use Rattle.scene_parts.specs.Parts.{Obstacle, sides_of}
+use Rattle.scene_parts.specs.Sides.{squared_length}
 use Rattle.scene_parts.specs.InBand.{exceeds_wavelength}
 use Rattle.scene_geom.specs.Outline.{extent_of}
 use Rattle.scene_parts.specs.declared.screening.ends.Ends.{Ends}

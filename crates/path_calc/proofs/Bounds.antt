@@ -31,7 +31,7 @@ use Rattle.fix_interval.proofs.Spans.{units-is}
 use Rattle.scene_geom.specs.declared.fractions.fraction.Frac.{Frac}
 use Rattle.fix_interval.proofs.Dividing.{units-mono}
 use Rattle.fix_interval.proofs.RangedFormulas.{between, part-between}
-use Rattle.scene_parts.specs.Ranges.{is_power}
+use Rattle.scene_parts.specs.Parts.{is_power}
 use Rattle.term_div_atm.specs.Terms.{divergence, absorption}
 use Rattle.term_div_atm.proofs.Ends.{divergence-between, absorption-between}
 use Rattle.term_barrier.specs.Limits.{IsDistance, IsGroundEffect, IsScreening}

@@ -17,7 +17,7 @@ use Rattle.scene_geom.specs.declared.plan.Side.{Side}
 use Rattle.scene_geom.specs.declared.reflection.Reflection.{Reflection}
 use Rattle.scene_geom.specs.declared.band.Band.{Band}
 use Rattle.scene_geom.specs.Bands.{all_bands, place_of}
-use Rattle.scene_parts.specs.Views.{Source, Receiver, Zone, Foliage, Globals}
+use Rattle.scene_parts.specs.Parts.{Source, Receiver, Zone, Foliage, Globals}
 use Rattle.scene_parts.specs.declared.kinds.Air.{Air}
 use Rattle.scene_book.specs.Book.{Book}
 use Rattle.path_shape.specs.declared.path.Path.{Path}

@@ -8,7 +8,7 @@ use Rattle.fix_interval.specs.Values.{sub_of}
 use Rattle.fix_interval.specs.Tree.{Known, Const, enc}
 use Rattle.scene_geom.specs.declared.band.Band.{Band}
 use Rattle.scene_geom.specs.Bands.{place_of}
-use Rattle.scene_parts.specs.Views.{Foliage}
+use Rattle.scene_parts.specs.Parts.{Foliage}
 use Rattle.path_shape.specs.declared.path.Path.{Path}
 use Rattle.term_barrier.specs.Limits.{IsDistance}
 use Rattle.term_foliage.specs.Foliage.{foliage_in, attenuations_over}

@@ -11,8 +11,7 @@ use Rattle.scene_geom.specs.declared.band.Band.TheVariants.{Hz63, Hz125, Hz250, 
 use Rattle.scene_geom.specs.Bands.{all_bands}
 use Rattle.fix_interval.specs.Interval.{Interval}
 use Rattle.scene_parts.specs.declared.screening.size_test.Breadth.{Breadth}
-use Rattle.scene_parts.specs.Views.{Obstacle}
-use Rattle.scene_parts.specs.Sides.{sides_of}
+use Rattle.scene_parts.specs.Parts.{Obstacle, sides_of}
 use Rattle.scene_parts.specs.declared.screening.ends.Ends.{Ends}
 use Rattle.scene_parts.specs.Crossings.{counts_in}
 use Rattle.edge_chain.specs.Chain.{blocks_chain}

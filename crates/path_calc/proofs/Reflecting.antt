@@ -18,9 +18,7 @@ use Rattle.scene_geom.specs.declared.plan.Side.{Side}
 use Rattle.scene_geom.specs.Reflection.{off_wall, along_wall, squared_length, unfolded}
 use Rattle.scene_geom.proofs.Walls.{over-n}
 use Rattle.scene_geom.specs.declared.reflection.Reflection.{Reflection}
-use Rattle.scene_parts.specs.Views.{Obstacle, Globals}
-use Rattle.scene_parts.specs.Sides.{sides_of}
-use Rattle.scene_parts.specs.Ranges.{is_mirror}
+use Rattle.scene_parts.specs.Parts.{Obstacle, Globals, sides_of, is_mirror}
 use Rattle.scene_book.specs.Book.{Book, side_total}
 use Rattle.scene_parts.specs.declared.screening.edge.Edge.{Edge}
 use Rattle.scene_parts.specs.declared.screening.ends.Ends.{Ends}

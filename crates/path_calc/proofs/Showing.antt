@@ -3,7 +3,7 @@ use Rattle.std.proofs.Common.{◌≡◌, pos, List, [], ◌∷◌, map, refl, ap
 use Rattle.fix_interval.specs.Interval.{Interval}
 use Rattle.fix_interval.specs.Tree.{Tree, Known, Const, enc}
 use Rattle.energy_sum.specs.Energies.{level_form}
-use Rattle.scene_parts.specs.Views.{Source, Receiver}
+use Rattle.scene_parts.specs.Parts.{Source, Receiver}
 use Rattle.scene_book.specs.Book.{Book}
 use Rattle.scene_geom.specs.declared.band.Band.{Band}
 use Rattle.scene_geom.specs.Bands.{all_bands}

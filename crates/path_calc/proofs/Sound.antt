@@ -6,7 +6,7 @@ use Rattle.std.specs.Option.{option_map}
 use Rattle.fix_interval.specs.Tree.{Tree, Const, Add, IsSound}
 use Rattle.energy_sum.specs.Energies.{energy_form}
 use Rattle.energy_sum.specs.Weather.{correction}
-use Rattle.scene_parts.specs.Views.{Source, Receiver, Zone, Globals}
+use Rattle.scene_parts.specs.Parts.{Source, Receiver, Zone, Globals, Foliage}
 use Rattle.scene_book.specs.Book.{Book}
 use Rattle.scene_geom.specs.declared.fractions.fraction.Frac.{Frac}
 use Rattle.path_shape.specs.Shape.{plan_length, length_of}
@@ -20,7 +20,6 @@ use Rattle.term_ground.specs.Alternative.{simple_ground}
 use Rattle.term_ground.proofs.SimpleMethod.{simple-sound, angle-sound}
 use Rattle.term_foliage.specs.Foliage.{foliage_attenuation, attenuations}
 use Rattle.term_foliage.proofs.Lawful.{foliage-sound}
-use Rattle.scene_parts.specs.Views.{Foliage}
 use Rattle.std.proofs.lemmas.List.Elements.{All-get_or, All-map}
 use Rattle.term_barrier.specs.Laws.{ScreeningIsSound, SideAttenuationIsSound}
 use Rattle.scene_geom.specs.declared.band.Band.{Band}

@@ -10,7 +10,7 @@ use Rattle.scene_geom.specs.declared.band.Band.TheVariants.{Hz63, Hz125, Hz250, 
 use Rattle.scene_geom.specs.Bands.{all_bands}
 use Rattle.scene_geom.specs.Crossing.{differ}
 use Rattle.scene_geom.specs.Outline.{sides_along}
-use Rattle.scene_parts.specs.Views.{Obstacle, Globals}
+use Rattle.scene_parts.specs.Parts.{Obstacle, Globals}
 use Rattle.scene_parts.specs.declared.screening.ends.Ends.{Ends}
 use Rattle.sight_cut.specs.Cuts.{screens_in, crossings_of}
 use Rattle.edge_chain.specs.declared.hand.Hand.{Hand}

@@ -9,7 +9,7 @@ use Rattle.fix_interval.specs.Values.{ratio_of}
 use Rattle.fix_interval.specs.Tree.{enc}
 use Rattle.scene_geom.specs.declared.band.Band.{Band}
 use Rattle.scene_geom.specs.Bands.{all_bands}
-use Rattle.scene_parts.specs.Views.{Obstacle}
+use Rattle.scene_parts.specs.Parts.{Obstacle}
 use Rattle.path_shape.specs.declared.path.Path.{Path}
 use Rattle.scene_parts.specs.declared.screening.edge.Edge.{Edge}
 use Rattle.scene_parts.specs.declared.screening.ends.Ends.{Ends}

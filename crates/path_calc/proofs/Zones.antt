@@ -4,7 +4,7 @@ use Rattle.scene_parts.specs.declared.kinds.Ground.{Ground}
 use Rattle.scene_parts.specs.declared.kinds.Ground.TheVariants as methods
 use Rattle.std.specs.Prelude.{cond}
 use Rattle.fix_interval.specs.Tree.{Tree, Known, enc}
-use Rattle.scene_parts.specs.Views.{Zone, Foliage}
+use Rattle.scene_parts.specs.Parts.{Zone, Foliage}
 use Rattle.fix_interval.specs.Interval.{Interval}
 use Rattle.scene_geom.specs.declared.band.Band.{Band}
 use Rattle.scene_geom.specs.Bands.{place_of}

@@ -1,7 +1,7 @@
 -- Bundles: all that a receiver has from one source.
 use Rattle.std.specs.Prelude.{◌≡◌, ℕ, ◌<◌, ◌≤◌, ◌^◌, ◌⊎◌, pos, ◌≤ℤ◌, ◌<ℤ◌, List, length, map, sum_by, All, IsSomeAnd, slice_index_or}
 use Rattle.scene_geom.specs.declared.plan.Pt.{Pt}
-use Rattle.scene_parts.specs.Views.{Source, Receiver, Globals}
+use Rattle.scene_parts.specs.Parts.{Source, Receiver, Globals}
 use Rattle.scene_book.specs.Book.{Book}
 use Rattle.fix_interval.specs.Interval.{Interval}
 use Rattle.fix_interval.specs.Tree.{enc}

@@ -2,7 +2,7 @@
 use Rattle.std.specs.Prelude.{ℕ, ℤ, pos, List, [], ◌∷◌, ◌++◌, map, filter, Option, Some, None, slice_index_or}
 use Rattle.std.specs.Option.{option_map}
 use Rattle.fix_interval.specs.Tree.{Tree, Const, Add, Sub, Mul, Lg}
-use Rattle.scene_parts.specs.Views.{Source, Receiver, Zone, Foliage, Globals}
+use Rattle.scene_parts.specs.Parts.{Source, Receiver, Zone, Foliage, Globals}
 use Rattle.scene_parts.specs.declared.kinds.Ground.{Ground}
 use Rattle.scene_parts.specs.declared.kinds.Ground.TheVariants.{General, Simple}
 use Rattle.path_shape.specs.declared.path.Path.{Path}

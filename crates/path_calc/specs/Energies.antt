@@ -1,7 +1,7 @@
 -- The energies that come from a source to a receiver (ISO 9613-2, equation 5).
 use Rattle.std.specs.Prelude.{pos, List, map, fold}
 use Rattle.fix_interval.specs.Tree.{Tree, Const, Add, Sub, Pick}
-use Rattle.scene_parts.specs.Views.{Source, Receiver, Globals}
+use Rattle.scene_parts.specs.Parts.{Source, Receiver, Globals}
 use Rattle.scene_book.specs.Book.{Book}
 use Rattle.energy_sum.specs.Energies.{energy_form}
 use Rattle.energy_sum.specs.Weather.{correction}

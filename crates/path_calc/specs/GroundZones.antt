@@ -1,6 +1,6 @@
 -- The zones of ground and the foliage that a path meets, as they are read.
 use Rattle.std.specs.Prelude.{List, [], map}
-use Rattle.scene_parts.specs.Views.{Zone, Foliage}
+use Rattle.scene_parts.specs.Parts.{Zone, Foliage}
 use Rattle.path_shape.specs.declared.path.Path.{Path}
 use Rattle.term_ground.specs.Zones.{met_zones}
 use Rattle.term_foliage.specs.Foliage.{met_foliage}

@@ -3,7 +3,7 @@ use Rattle.std.specs.Prelude.{◌≡◌, List, [], map, slice_index_or}
 use Rattle.std.specs.List.{list_any}
 use Rattle.fix_interval.specs.Encloses.{Encloses}
 use Rattle.fix_interval.specs.Tree.{enc}
-use Rattle.scene_parts.specs.Views.{Source, Receiver, Obstacle, Globals}
+use Rattle.scene_parts.specs.Parts.{Source, Receiver, Obstacle, Globals}
 use Rattle.scene_book.specs.Book.{Book}
 use Rattle.scene_geom.specs.declared.band.Band.{Band}
 use Rattle.scene_geom.specs.declared.plan.Side.{Side}

@@ -7,8 +7,7 @@ use Rattle.fix_interval.specs.Tree.{enc}
 use Rattle.scene_geom.specs.declared.plan.Side.{Side}
 use Rattle.scene_geom.specs.declared.reflection.Reflection.{Reflection}
 use Rattle.scene_geom.specs.Bands.{all_bands}
-use Rattle.scene_parts.specs.Views.{Obstacle, Zone, Foliage}
-use Rattle.scene_parts.specs.Sides.{sides_of}
+use Rattle.scene_parts.specs.Parts.{Obstacle, Zone, Foliage, sides_of}
 use Rattle.scene_book.specs.Book.{Book}
 use Rattle.path_shape.specs.Shape.{length_of}
 use Rattle.scene_parts.specs.declared.screening.edge.Edge.{Edge}

@@ -1,7 +1,7 @@
 -- What the map shows of a receiver.
 use Rattle.std.specs.Prelude.{List, map, filter}
 use Rattle.fix_interval.specs.Tree.{Tree}
-use Rattle.scene_parts.specs.Views.{Source, Receiver}
+use Rattle.scene_parts.specs.Parts.{Source, Receiver}
 use Rattle.scene_book.specs.Book.{Book}
 use Rattle.energy_sum.specs.Energies.{level_form}
 use Rattle.scene_geom.specs.declared.band.Band.{Band}

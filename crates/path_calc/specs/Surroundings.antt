@@ -3,7 +3,7 @@
 use Rattle.std.specs.Prelude.{Bool, false, List, [], map, slice_index_or}
 use Rattle.scene_geom.specs.declared.band.Band.{Band}
 use Rattle.scene_geom.specs.Bands.{all_bands, place_of}
-use Rattle.scene_parts.specs.Views.{Source, Receiver, Obstacle, Zone, Foliage}
+use Rattle.scene_parts.specs.Parts.{Source, Receiver, Obstacle, Zone, Foliage}
 use Rattle.scene_book.specs.Book.{Book}
 use Rattle.path_shape.specs.Shape.{direct_path}
 use Rattle.path_shape.specs.declared.path.Path.{Path}

@@ -8,7 +8,7 @@ ghost use Rattle.path_calc.specs.Prepared.{prepared_of};
 ghost use Rattle.path_calc.specs.inner.Ranges.{AreInRange, IsSumOf, most_sounds};
 ghost use Rattle.path_calc.specs.inner.Hearing.{ArePaths, energy_after, long_energy_after};
 ghost use Rattle.scene_book.specs.Book.{Book};
-ghost use Rattle.scene_parts.specs.Views.{Source, Receiver};
+ghost use Rattle.scene_parts.specs.Parts.{Source, Receiver};
 
 pub(crate) mod hearing;
 pub(crate) mod paths;

@@ -1,7 +1,7 @@
 //! A scene with an index of the sides of its obstacles, or without one, and with a list of those that may reflect to a place,
 //! or without it.
 ghost use Rattle.std.specs.Prelude.{◌≡◌, map, IfOk, OnOk, IfSome};
-ghost use Rattle.scene_parts.specs.Sides.{sides_of};
+ghost use Rattle.scene_parts.specs.Parts.{sides_of};
 ghost use Rattle.scene_book.specs.Book.{IsWithin, NamesAreApart};
 ghost use Rattle.part_grid.specs.Numbered.{numbered};
 ghost use Rattle.sight_cut.specs.Cuts.{crossings_of};
@@ -40,7 +40,7 @@ pub struct IndexedScene<'a> {
 impl<'a> Model for IndexedScene<'a> {
     ghost use Rattle.std.specs.Prelude.{◌≡◌, map, IfSome};
     ghost use Rattle.scene_book.specs.Book.{Book};
-    ghost use Rattle.scene_parts.specs.Sides.{sides_of};
+    ghost use Rattle.scene_parts.specs.Parts.{sides_of};
     ghost use Rattle.part_grid.specs.Numbered.{numbered};
     ghost use Rattle.image_source.specs.Facing.{facing_sides};
 

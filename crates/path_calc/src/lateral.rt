@@ -1,6 +1,6 @@
 //! By how much sound is screened that goes round the sides of what screens (ISO 9613-2, 7.4, equation 13).
 ghost use Rattle.std.specs.Prelude.{◌≡◌, ◌++◌, flat_map, All, IfOk, OnOk};
-ghost use Rattle.scene_parts.specs.Ranges.{IsHeight};
+ghost use Rattle.scene_parts.specs.Parts.{IsHeight};
 ghost use Rattle.sight_cut.specs.Cuts.{crossings_of};
 ghost use Rattle.path_calc.specs.inner.Ends.{FitsSight};
 ghost use Rattle.path_calc.specs.inner.Ranges.{IsOnMap, IsLateralScreening};

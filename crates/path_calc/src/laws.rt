@@ -2,7 +2,7 @@
 
 ghost use Rattle.scene_book.specs.Book.{Book};
 ghost use Rattle.scene_geom.specs.declared.band.Band.{Band};
-ghost use Rattle.scene_parts.specs.Views.{Source, Receiver};
+ghost use Rattle.scene_parts.specs.Parts.{Source, Receiver};
 ghost use Rattle.path_calc.specs.Laws.{BandsAreEnclosed, LongIsEnclosed, LevelsAreEnclosed};
 ghost use Rattle.path_calc.specs.Laws.{SameBetween, EdgesAreCuts, ReflectedEdgesAreCuts};
 

@@ -1,7 +1,7 @@
 //! What is found by the index of obstacles, beside what is found by a look at all sides, in a town over several hundred
 //! cells.
 ghost use Rattle.std.specs.Prelude.{◌≡◌, ◌<◌, ◌^◌, length, map};
-ghost use Rattle.scene_parts.specs.Sides.{sides_of};
+ghost use Rattle.scene_parts.specs.Parts.{sides_of};
 ghost use Rattle.part_grid.specs.Numbered.{numbered};
 
 use crate::obstacles::add_obstacle;

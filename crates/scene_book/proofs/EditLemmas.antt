@@ -7,14 +7,13 @@ use Rattle.std.proofs.lemmas.Grind.{flat_map-append}
 use Rattle.std.proofs.lemmas.List.Elements.{filter-append}
 use Rattle.std.proofs.lemmas.List.Folds.{list_any-append}
 use Rattle.scene_parts.specs.Answers.{◌>>◌}
-use Rattle.scene_parts.specs.Views.{Receiver, Grid}
+use Rattle.scene_parts.specs.Parts.{Receiver, Grid}
 use Rattle.scene_parts.specs.declared.parts.Part.{Part}
-use Rattle.scene_parts.specs.declared.kinds.Class.TheVariants as classes
+use Rattle.scene_parts.specs.declared.parts.Class.TheVariants as classes
 use Rattle.scene_book.specs.declared.edits.Edit.TheVariants as edits
 use Rattle.scene_book.specs.declared.edits.EditFault.{EditFault}
-use Rattle.scene_book.specs.Limits.{most_receivers}
+use Rattle.scene_book.specs.Book.{most_receivers, Book, Slot, OfEachSlot, at_most}
 use Rattle.scene_book.specs.Lists.{named, put_in, take_out, put_all}
-use Rattle.scene_book.specs.Book.{Book, Slot, OfEachSlot, at_most}
 use Rattle.scene_book.specs.Grid.{receivers_of}
 use Rattle.scene_book.specs.Applying.{apply_of, all_own, own_class, name_of, class_of, holder, in_limits, part_named, put_of, put_where_room, remove_of, grid_of, taken, with_part, without, replaced, with_receivers}
 use Rattle.scene_book.specs.Laws.{Edited, FlatMapStays, FilterStays, AnyStays, PutsInTurn, no_pieces, pieces_of, pieces_of_any, ListsEdited, Changes, AcceptedChanges}

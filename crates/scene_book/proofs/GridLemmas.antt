@@ -16,7 +16,7 @@ use Rattle.std.proofs.lemmas.Fmt.{digits_decimal, decimal_injective, length-deci
 use Rattle.std.proofs.lemmas.Str.Parse.{IsNumeralModel, numerals_by_value, tells_all_ascii_digits}
 use Rattle.scene_parts.specs.Names.{is_any_name_byte, IsName, IsAnyName}
 use Rattle.scene_parts.proofs.NameLemmas.{left, right, name-is_any_name}
-use Rattle.scene_parts.specs.Views.{Receiver, Grid}
+use Rattle.scene_parts.specs.Parts.{Receiver, Grid}
 use Rattle.scene_book.specs.Grid.{name_in, columns_from, rows_from, receiver_at}
 
 own : IsNumeralModel (λ ds. all_ascii_digits ds ≡ true) (digits_value 10)

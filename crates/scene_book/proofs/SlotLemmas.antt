@@ -2,7 +2,7 @@
 use Rattle.std.proofs.Common.{◌≡◌, ℕ, refl, List}
 use Rattle.std.specs.Prelude.{Option, Some, None, option_map}
 use Rattle.std.specs.Option.{option_or}
-use Rattle.scene_parts.specs.Views.{Source, Obstacle, Zone, Foliage, Receiver}
+use Rattle.scene_parts.specs.Parts.{Source, Obstacle, Zone, Foliage, Receiver}
 use Rattle.scene_parts.specs.declared.parts.Part.{Part}
 use Rattle.scene_parts.specs.declared.parts.Part.TheVariants as parts
 use Rattle.scene_book.specs.Lists.{named}

@@ -2,15 +2,13 @@
 use Rattle.std.specs.Prelude.{◌≡◌, ℕ, ◌≤◌, List, [], ◌++◌, length, unwrap_or, nat_lt, Option, Result, Ok, Err, if◌then◌else◌}
 use Rattle.std.specs.Option.{option_or}
 use Rattle.scene_book.specs.Lists.{total, AreApart}
-use Rattle.scene_book.specs.Limits.{most_sources, most_obstacles, most_sides, most_zones, most_foliage, most_receivers}
 use Rattle.scene_parts.specs.Limits.{farthest_reach}
-use Rattle.scene_parts.specs.Views.{Source, Obstacle, Zone, Foliage, Receiver, Globals, Setting}
-use Rattle.scene_parts.specs.Sides.{sides_of}
+use Rattle.scene_parts.specs.Parts.{Source, Obstacle, Zone, Foliage, Receiver, Globals, Setting, sides_of}
 use Rattle.scene_parts.specs.Answers.{◌>>◌}
 use Rattle.scene_parts.specs.declared.parts.Part.{Part}
 use Rattle.scene_parts.specs.declared.parts.Part.TheVariants as parts
-use Rattle.scene_parts.specs.declared.kinds.Class.{Class}
-use Rattle.scene_parts.specs.declared.kinds.Class.TheVariants as classes
+use Rattle.scene_parts.specs.declared.parts.Class.{Class}
+use Rattle.scene_parts.specs.declared.parts.Class.TheVariants as classes
 use Rattle.scene_parts.specs.declared.kinds.Shape.{Shape}
 use Rattle.scene_parts.specs.declared.kinds.Shape.TheVariants as shapes
 use Rattle.scene_parts.specs.declared.kinds.Air.TheVariants.{Celsius10Humidity70}
@@ -51,6 +49,28 @@ globals_with setting globals = record {
 
 abbrev pub with_setting : Setting → Book → Book
 with_setting setting book = record book { globals = globals_with setting book.globals }
+
+-- ---- how many parts a scene holds, each number named once
+
+abbrev pub most_sources : ℕ
+most_sources = 128
+
+-- barriers and buildings together
+abbrev pub most_obstacles : ℕ
+most_obstacles = 4096
+
+-- their sides together
+abbrev pub most_sides : ℕ
+most_sides = 16384
+
+abbrev pub most_zones : ℕ
+most_zones = 1024
+
+abbrev pub most_foliage : ℕ
+most_foliage = 1024
+
+abbrev pub most_receivers : ℕ
+most_receivers = 4096
 
 -- ---- slots: one for each list of a scene
 

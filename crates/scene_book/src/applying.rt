@@ -5,8 +5,8 @@ ghost use Rattle.scene_book.specs.Applying.{apply_of, put_of, remove_of, grid_of
 
 use super::edits::{Edit, EditFault};
 use super::grids::receivers;
-use super::limits::{MAX_RECEIVERS, at_most, same_class};
-use super::named::{part_class, part_name};
+use super::limits::{at_most, same_class};
+use super::named::{MAX_RECEIVERS, part_class, part_name};
 use super::scene::Scene;
 use scene_parts::{Class, GridSpec, Name, NoMemory, Part, Receiver};
 use std::alloc::Global;

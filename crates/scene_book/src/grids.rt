@@ -4,7 +4,7 @@ ghost use Rattle.std.specs.Fmt.{decimal};
 ghost use Rattle.scene_geom.specs.Plan.{InPlan};
 ghost use Rattle.scene_parts.specs.Limits.{widest_step, most_columns, plan_end};
 ghost use Rattle.scene_parts.specs.Names.{IsName};
-ghost use Rattle.scene_parts.specs.Ranges.{last_place};
+ghost use Rattle.scene_parts.specs.Parts.{last_place};
 ghost use Rattle.scene_book.specs.Lists.{AreApart};
 ghost use Rattle.scene_book.specs.Grid.{name_in, receiver_at, columns_from, receivers_of};
 

@@ -1,14 +1,16 @@
 //! The five classes of a scene's lists: how each part is found, and how many of them there may be.
 ghost use Rattle.std.specs.Prelude.{◌≡◌};
-ghost use Rattle.scene_parts.specs.declared.kinds.Class.TheVariants as classes;
+ghost use Rattle.scene_parts.specs.declared.parts.Class.TheVariants as classes;
 ghost use Rattle.scene_book.specs.Book.{source_slot, obstacle_slot, zone_slot, foliage_slot, receiver_slot, class_of_shape};
 ghost use Rattle.scene_book.specs.Applying.{name_of, class_of};
 
-use super::limits::{MAX_FOLIAGE, MAX_OBSTACLES, MAX_RECEIVERS, MAX_SOURCES, MAX_ZONES};
 use super::register::Named;
 use scene_parts::{
     Class, Foliage, Name, NoMemory, Obstacle, Part, PointSource, Receiver, Shape, Zone,
 };
+
+/// The sources of a scene.
+pub const MAX_SOURCES: u32 = 128;
 
 impl Named for PointSource {
     ghost slot = { source_slot };
@@ -34,6 +36,12 @@ impl Named for PointSource {
     }
 }
 
+/// The barriers and buildings of a scene together.
+pub const MAX_OBSTACLES: u32 = 4096;
+
+/// Their sides together.
+pub const MAX_SIDES: u32 = 16384;
+
 impl Named for Obstacle {
     ghost slot = { obstacle_slot };
 
@@ -57,6 +65,9 @@ impl Named for Obstacle {
         Part::Obstacle(self)
     }
 }
+
+/// The zones of a scene.
+pub const MAX_ZONES: u32 = 1024;
 
 impl Named for Zone {
     ghost slot = { zone_slot };
@@ -82,6 +93,9 @@ impl Named for Zone {
     }
 }
 
+/// The foliage of a scene.
+pub const MAX_FOLIAGE: u32 = 1024;
+
 impl Named for Foliage {
     ghost slot = { foliage_slot };
 
@@ -105,6 +119,9 @@ impl Named for Foliage {
         Part::Foliage(self)
     }
 }
+
+/// The receivers of a scene.
+pub const MAX_RECEIVERS: u32 = 4096;
 
 impl Named for Receiver {
     ghost slot = { receiver_slot };

@@ -1,7 +1,7 @@
 //! Things of one class in the order of insertion, found by name without a scan.
 ghost use Rattle.std.specs.Prelude.{◌≡◌, ◌≤◌, List, [], ℕ, ◌+◌, ◌<◌, ◌^◌, length, Some, IfOk, IfNone, OnOk, OnErr, is_some};
 ghost use Rattle.std.specs.Option.{option_copied};
-ghost use Rattle.scene_parts.specs.declared.kinds.Class.{Class as ClassWord};
+ghost use Rattle.scene_parts.specs.declared.parts.Class.{Class as ClassWord};
 ghost use Rattle.scene_book.specs.Book.{Slot};
 ghost use Rattle.scene_book.specs.Applying.{room_in};
 ghost use Rattle.scene_book.specs.Lists.{named, place_of, put_in, take_out, put_all, AreApart};

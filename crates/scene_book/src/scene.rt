@@ -2,14 +2,13 @@
 ghost use Rattle.std.specs.Prelude.{◌≡◌, ◌≤◌, [], length, Ok, Err, IfOk, IfErr, OnOk, OnErr, option_map};
 ghost use Rattle.scene_parts.specs.Answers.{Unless};
 ghost use Rattle.scene_parts.specs.declared.parts.Part.TheVariants as parts;
-ghost use Rattle.scene_book.specs.Limits.{most_obstacles, most_sides};
+ghost use Rattle.scene_book.specs.Book.{most_obstacles, most_sides, IsWithin, NamesAreApart, empty_book, side_total, with_setting};
 ghost use Rattle.scene_book.specs.Lists.{named, place_of, put_in, take_out, AreApart};
-ghost use Rattle.scene_book.specs.Book.{IsWithin, NamesAreApart, empty_book, side_total, with_setting};
 ghost use Rattle.scene_book.specs.Applying.{holder, part_named, put_where_room, put_receivers as put_receivers_of, without_any, in_limits, with_part, lacks_memory, Leaves};
 
 use super::edits::EditFault;
-use super::limits::{MAX_SIDES, at_most};
-use super::named::shape_class;
+use super::limits::at_most;
+use super::named::{MAX_SIDES, shape_class};
 use super::register::{Named, part_like};
 use super::shared::Shared;
 use scene_parts::limits::MAX_REACH;

@@ -8,7 +8,7 @@ use Rattle.scene_parts.specs.declared.faults.PartFault.{PartFault}
 use Rattle.scene_parts.specs.declared.faults.PartFault.TheVariants.{OutOfRange}
 use Rattle.scene_parts.specs.Answers.{◌>>=◌, each}
 use Rattle.scene_parts.specs.Checking.{power_within}
-use Rattle.scene_parts.specs.Ranges.{is_power_within}
+use Rattle.scene_parts.specs.Parts.{is_power_within}
 use Rattle.scene_parts.proofs.AnswerLemmas.{after, after-step}
 
 -- a list of eight items is its items

@@ -18,13 +18,13 @@ use Rattle.scene_parts.specs.declared.faults.PartFault.{PartFault}
 use Rattle.scene_parts.specs.declared.faults.PartFault.TheVariants.{OutOfRange, OutsideMethod, UnknownKind, TooLight, FewCorners, FlatShape, SideTooLong, WeakMirror}
 use Rattle.scene_parts.specs.declared.parts.Part.{Part}
 use Rattle.scene_parts.specs.declared.parts.Part.TheVariants as parts
-use Rattle.scene_parts.specs.declared.checks.raw.RawPart.{RawPart}
-use Rattle.scene_parts.specs.declared.checks.raw.RawPart.TheVariants as raw
+use Rattle.scene_parts.specs.declared.checks.checking.RawPart.{RawPart}
+use Rattle.scene_parts.specs.declared.checks.checking.RawPart.TheVariants as raw
 use Rattle.scene_parts.specs.declared.checks.checked.Checked.{Checked}
 use Rattle.scene_parts.specs.declared.checks.checked.Checked.TheVariants as checked
 use Rattle.scene_parts.specs.Limits.{most_corners, most_columns, widest_step, plan_end, farthest_reach, greatest_height, least_density}
 use Rattle.scene_parts.specs.Sides.{sides_in, squared_length, is_short, floor_root}
-use Rattle.scene_parts.specs.Ranges.{is_flat, is_mirror, least_corners, last_place}
+use Rattle.scene_parts.specs.Parts.{is_flat, is_mirror, least_corners, last_place}
 use Rattle.scene_parts.specs.Answers.{◌>>=◌, ◌>>◌, each, optional}
 
 -- OutOfRange: a field's number lies outside its range

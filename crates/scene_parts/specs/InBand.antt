@@ -5,7 +5,7 @@ use Rattle.scene_geom.specs.declared.plan.Pt.{Pt}
 use Rattle.scene_geom.specs.declared.band.Band.{Band}
 use Rattle.scene_geom.specs.Bands.{frequency_of}
 use Rattle.scene_geom.specs.Outline.{extent_of}
-use Rattle.scene_parts.specs.Views.{Obstacle}
+use Rattle.scene_parts.specs.Parts.{Obstacle}
 use Rattle.scene_parts.specs.Sides.{squared_length}
 
 -- the speed of sound in mm/s: sound of f Hz has the wavelength of this number over f

@@ -1,10 +1,8 @@
 pub mod Limits
 pub mod Names
 pub mod Words
-pub mod Views
-pub mod Seen
 pub mod Sides
-pub mod Ranges
+pub mod Parts
 pub mod Answers
 pub mod Checking
 pub mod InBand

@@ -8,16 +8,11 @@ use Rattle.scene_geom.specs.Outline.{sides_along, ring}
 use Rattle.scene_parts.specs.declared.kinds.Shape.{Shape}
 use Rattle.scene_parts.specs.declared.kinds.Shape.TheVariants.{Barrier, Building}
 use Rattle.scene_parts.specs.Limits.{longest_side}
-use Rattle.scene_parts.specs.Views.{Obstacle}
 
 -- a barrier runs from each point to the next; a building's last side leads back to its first corner
 abbrev pub sides_in : Shape → List Pt → List Side
 sides_in Barrier points = sides_along points
 sides_in Building points = ring points
-
--- the sides of an obstacle, in order
-abbrev pub sides_of : Obstacle → List Side
-sides_of obstacle = sides_in obstacle.shape obstacle.points
 
 -- the square of a side's length, in mm²
 abbrev pub squared_length : Side → ℕ

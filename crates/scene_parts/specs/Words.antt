@@ -1,9 +1,7 @@
--- The words of fields and of classes, as lines and rows have them.
+-- The words of fields, as lines and rows have them.
 use Rattle.std.specs.Prelude.{ℕ, List, codes}
 use Rattle.scene_parts.specs.declared.kinds.Field.{Field}
 use Rattle.scene_parts.specs.declared.kinds.Field.TheVariants as fields
-use Rattle.scene_parts.specs.declared.kinds.Class.{Class}
-use Rattle.scene_parts.specs.declared.kinds.Class.TheVariants as classes
 
 unfoldable pub field_word : Field → List ℕ
 field_word fields.Do = codes "do"
@@ -28,13 +26,3 @@ field_word fields.Ground = codes "ground"
 field_word fields.Piece = codes "piece"
 field_word fields.Level = codes "level"
 field_word fields.To = codes "to"
-
-unfoldable pub class_word : Class → List ℕ
-class_word classes.Source = codes "source"
-class_word classes.Barrier = codes "barrier"
-class_word classes.Building = codes "building"
-class_word classes.Zone = codes "zone"
-class_word classes.Foliage = codes "foliage"
-class_word classes.Receiver = codes "receiver"
-class_word classes.Obstacle = codes "obstacle"
-class_word classes.Side = codes "side"

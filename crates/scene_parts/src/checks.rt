@@ -4,4 +4,3 @@ pub(crate) mod checked;
 pub(crate) mod checking;
 pub(crate) mod powers;
 pub(crate) mod ranges;
-pub(crate) mod raw;

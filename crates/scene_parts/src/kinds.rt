@@ -1,6 +1,6 @@
-//! Words of lines that name one of a few: kinds of sources, shapes of obstacles, air, ground, fields and classes.
+//! Words of lines that name one of a few: kinds of sources, shapes of obstacles, air, ground and fields.
 ghost use Rattle.std.specs.Prelude.{◌≡◌};
-ghost use Rattle.scene_parts.specs.Words.{field_word, class_word};
+ghost use Rattle.scene_parts.specs.Words.{field_word};
 
 /// What makes a source's sound. The level doesn't depend on it.
 #[derive(Clone, Copy, Debug, PartialEq, Eq)]
@@ -94,38 +94,6 @@ impl Field {
             Field::Piece => "piece",
             Field::Level => "level",
             Field::To => "to",
-        }
-    }
-}
-
-/// A class of parts. `Obstacle` counts barriers and buildings together, `Side` their sides.
-#[derive(Clone, Copy, Debug, PartialEq, Eq)]
-pub enum Class {
-    Source,
-    Barrier,
-    Building,
-    Zone,
-    Foliage,
-    Receiver,
-    Obstacle,
-    Side,
-}
-
-impl Class {
-    /// The word of a class, as rows have it.
-    #[tactic(auto, unfolding(crate::specs::Words::class_word))]
-    pub fn word(self) -> &'static str
-        ensures { result.now ≡ class_word self }
-    {
-        match self {
-            Class::Source => "source",
-            Class::Barrier => "barrier",
-            Class::Building => "building",
-            Class::Zone => "zone",
-            Class::Foliage => "foliage",
-            Class::Receiver => "receiver",
-            Class::Obstacle => "obstacle",
-            Class::Side => "side",
         }
     }
 }

@@ -17,14 +17,13 @@ mod texts;
 mod words;
 
 pub use checks::checked::Checked;
-pub use checks::checking::check;
-pub use checks::raw::RawPart;
+pub use checks::checking::{RawPart, check};
 pub use faults::PartFault;
-pub use kinds::{Air, Class, Field, Ground, Kind, Shape};
+pub use kinds::{Air, Field, Ground, Kind, Shape};
 pub use memory::NoMemory;
 pub use outlines::shapes::squared;
 pub use outlines::{Outline, RawPoints, RawPt};
-pub use parts::{Foliage, Obstacle, Part, PointSource, Receiver, Zone};
+pub use parts::{Class, Foliage, Obstacle, Part, PointSource, Receiver, Zone};
 pub use screening::crossing::Crossing;
 pub use screening::cuts::Cut;
 pub use screening::edge::Edge;

@@ -1,7 +1,6 @@
-//! The parts of a scene. No value of these types is out of its range.
+//! The parts of a scene, of which no value is out of its range, and their classes.
 ghost use Rattle.std.specs.Prelude.{◌≡◌};
-ghost use Rattle.scene_parts.specs.Views.{point_source};
-ghost use Rattle.scene_parts.specs.Ranges.{IsSource};
+ghost use Rattle.scene_parts.specs.Parts.{class_word, point_source, IsSource};
 
 use crate::kinds::{Kind, Shape};
 use crate::outlines::Outline;
@@ -22,9 +21,7 @@ pub struct PointSource {
 }
 
 impl Model for PointSource {
-    ghost use Rattle.scene_parts.specs.Views.{Source};
-    ghost use Rattle.scene_parts.specs.Ranges.{IsSource};
-    ghost use Rattle.scene_parts.specs.Seen.{source_seen};
+    ghost use Rattle.scene_parts.specs.Parts.{Source, IsSource, source_seen};
 
     ghost Value = { Source };
 
@@ -61,9 +58,7 @@ pub struct Obstacle {
 }
 
 impl Model for Obstacle {
-    ghost use Rattle.scene_parts.specs.Views.{Obstacle as ObstacleView};
-    ghost use Rattle.scene_parts.specs.Ranges.{IsObstacle};
-    ghost use Rattle.scene_parts.specs.Seen.{obstacle_seen};
+    ghost use Rattle.scene_parts.specs.Parts.{Obstacle as ObstacleView, IsObstacle, obstacle_seen};
 
     ghost Value = { ObstacleView };
 
@@ -81,9 +76,7 @@ pub struct Zone {
 }
 
 impl Model for Zone {
-    ghost use Rattle.scene_parts.specs.Views.{Zone as ZoneView};
-    ghost use Rattle.scene_parts.specs.Ranges.{IsZone};
-    ghost use Rattle.scene_parts.specs.Seen.{zone_seen};
+    ghost use Rattle.scene_parts.specs.Parts.{Zone as ZoneView, IsZone, zone_seen};
 
     ghost Value = { ZoneView };
 
@@ -102,9 +95,7 @@ pub struct Foliage {
 }
 
 impl Model for Foliage {
-    ghost use Rattle.scene_parts.specs.Views.{Foliage as FoliageView};
-    ghost use Rattle.scene_parts.specs.Ranges.{IsFoliage};
-    ghost use Rattle.scene_parts.specs.Seen.{foliage_seen};
+    ghost use Rattle.scene_parts.specs.Parts.{Foliage as FoliageView, IsFoliage, foliage_seen};
 
     ghost Value = { FoliageView };
 
@@ -122,9 +113,7 @@ pub struct Receiver {
 }
 
 impl Model for Receiver {
-    ghost use Rattle.scene_parts.specs.Views.{Receiver as ReceiverView};
-    ghost use Rattle.scene_parts.specs.Ranges.{IsReceiver};
-    ghost use Rattle.scene_parts.specs.Seen.{receiver_seen};
+    ghost use Rattle.scene_parts.specs.Parts.{Receiver as ReceiverView, IsReceiver, receiver_seen};
 
     ghost Value = { ReceiverView };
 
@@ -141,4 +130,36 @@ pub enum Part {
     Zone(Zone),
     Foliage(Foliage),
     Receiver(Receiver),
+}
+
+/// A class of parts. `Obstacle` counts barriers and buildings together, `Side` their sides.
+#[derive(Clone, Copy, Debug, PartialEq, Eq)]
+pub enum Class {
+    Source,
+    Barrier,
+    Building,
+    Zone,
+    Foliage,
+    Receiver,
+    Obstacle,
+    Side,
+}
+
+impl Class {
+    /// The word of a class, as rows have it.
+    #[tactic(auto, unfolding(crate::specs::Parts::class_word))]
+    pub fn word(self) -> &'static str
+        ensures { result.now ≡ class_word self }
+    {
+        match self {
+            Class::Source => "source",
+            Class::Barrier => "barrier",
+            Class::Building => "building",
+            Class::Zone => "zone",
+            Class::Foliage => "foliage",
+            Class::Receiver => "receiver",
+            Class::Obstacle => "obstacle",
+            Class::Side => "side",
+        }
+    }
 }

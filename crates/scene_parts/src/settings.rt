@@ -16,9 +16,7 @@ pub struct Globals {
 }
 
 impl Model for Globals {
-    ghost use Rattle.scene_parts.specs.Views.{Globals as GlobalsView};
-    ghost use Rattle.scene_parts.specs.Ranges.{AreGlobals};
-    ghost use Rattle.scene_parts.specs.Seen.{globals_seen};
+    ghost use Rattle.scene_parts.specs.Parts.{Globals as GlobalsView, AreGlobals, globals_seen};
 
     ghost Value = { GlobalsView };
 
@@ -40,9 +38,7 @@ pub struct SetSpec {
 }
 
 impl Model for SetSpec {
-    ghost use Rattle.scene_parts.specs.Views.{Setting};
-    ghost use Rattle.scene_parts.specs.Ranges.{IsSetting};
-    ghost use Rattle.scene_parts.specs.Seen.{setting_seen};
+    ghost use Rattle.scene_parts.specs.Parts.{Setting, IsSetting, setting_seen};
 
     ghost Value = { Setting };
 
@@ -63,9 +59,7 @@ pub struct GridSpec {
 }
 
 impl Model for GridSpec {
-    ghost use Rattle.scene_parts.specs.Views.{Grid};
-    ghost use Rattle.scene_parts.specs.Ranges.{IsGrid};
-    ghost use Rattle.scene_parts.specs.Seen.{grid_seen};
+    ghost use Rattle.scene_parts.specs.Parts.{Grid, IsGrid, grid_seen};
 
     ghost Value = { Grid };
 

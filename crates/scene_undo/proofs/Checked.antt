@@ -4,7 +4,7 @@ use Rattle.std.specs.Prelude.{Option, Some, None, IfSome, Result, Ok, Err, ◌&&
 use Rattle.scene_geom.specs.declared.plan.Pt.{Pt}
 use Rattle.scene_parts.specs.Answers.{◌>>=◌, ◌>>◌, each, optional}
 use Rattle.scene_parts.specs.Limits.{most_corners, most_columns, widest_step, plan_end, farthest_reach}
-use Rattle.scene_parts.specs.Ranges.{IsReach, last_place}
+use Rattle.scene_parts.specs.Parts.{IsReach, last_place}
 use Rattle.scene_parts.specs.Checking.{put, check_of, within, in_range, corner_of, corners_of, check_outline, plan_point, reaching, height_of, air_of, ground_of}
 use Rattle.scene_parts.specs.declared.outlines.RawPt.{RawPt}
 use Rattle.scene_parts.specs.declared.kinds.Shape.TheVariants.{Building}
@@ -14,8 +14,8 @@ use Rattle.scene_parts.specs.declared.parts.Part.TheVariants as parts
 use Rattle.scene_parts.specs.declared.faults.PartFault.{PartFault}
 use Rattle.scene_parts.specs.declared.faults.PartFault.TheVariants.{OutOfRange}
 use Rattle.scene_parts.specs.declared.kinds.Field.{Field}
-use Rattle.scene_parts.specs.declared.checks.raw.RawPart.{RawPart}
-use Rattle.scene_parts.specs.declared.checks.raw.RawPart.TheVariants as raw
+use Rattle.scene_parts.specs.declared.checks.checking.RawPart.{RawPart}
+use Rattle.scene_parts.specs.declared.checks.checking.RawPart.TheVariants as raw
 use Rattle.scene_parts.specs.declared.checks.checked.Checked.{Checked}
 use Rattle.scene_parts.specs.declared.checks.checked.Checked.TheVariants as checked
 use Rattle.scene_book.specs.declared.edits.Edit.TheVariants as edits

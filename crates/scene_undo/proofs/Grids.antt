@@ -1,10 +1,10 @@
 -- Receivers put one after another: what a scene has under each name then.
 use Rattle.std.proofs.Common.{◌≡◌, ℕ, refl, sym, subst, ◌∙◌, Bool, true, false, cond, List, [], ◌∷◌}
 use Rattle.std.specs.Prelude.{bytes_eq, Option, Some}
-use Rattle.scene_parts.specs.Views.{Receiver}
+use Rattle.scene_parts.specs.Parts.{Receiver}
 use Rattle.scene_parts.specs.declared.parts.Part.{Part}
 use Rattle.scene_parts.specs.declared.parts.Part.TheVariants as parts
-use Rattle.scene_parts.specs.declared.kinds.Class.TheVariants as classes
+use Rattle.scene_parts.specs.declared.parts.Class.TheVariants as classes
 use Rattle.scene_book.specs.Lists.{NoneNamed}
 use Rattle.scene_book.specs.Book.{Book}
 use Rattle.scene_book.specs.Applying.{part_named, holder, own_class, all_own, with_part}

@@ -2,8 +2,7 @@
 use Rattle.std.proofs.lemmas.List.Elements.{All-nil, All-cons, All-head, All-tail}
 use Rattle.std.proofs.Common.{◌≡◌, ℕ, ◌+◌, ◌≤◌, refl, sym, subst, arith, Bool, true, false, cond, List, [], ◌∷◌, length}
 use Rattle.std.specs.Prelude.{bytes_eq, Option, Some, None, IfSome, unwrap_or, All}
-use Rattle.scene_parts.specs.Views.{Setting, Globals}
-use Rattle.scene_parts.specs.Ranges.{IsSetting, AreGlobals, IsReach}
+use Rattle.scene_parts.specs.Parts.{Setting, Globals, IsSetting, AreGlobals, IsReach, sides_of}
 use Rattle.scene_parts.specs.declared.parts.Part.{Part}
 use Rattle.scene_parts.specs.declared.parts.Part.TheVariants as parts
 use Rattle.scene_book.specs.declared.edits.Edit.TheVariants as edits
@@ -14,7 +13,6 @@ use Rattle.scene_book.specs.Applying.{name_of, with_part, without}
 use Rattle.scene_book.specs.Orders.{Shuffled, SameParts}
 use Rattle.scene_book.specs.Orders.Shuffled.{same, under, exchange, after}
 use Rattle.scene_book.proofs.ListLemmas.{length-take_out}
-use Rattle.scene_parts.specs.Sides.{sides_of}
 use Rattle.scene_undo.specs.Scenes.{HasOneNameSpace, IsScene, IsEdit}
 use Rattle.scene_undo.specs.Laws.{SceneIsKept}
 use Rattle.scene_undo.proofs.Maps.{shuffled-length, shuffled-total}

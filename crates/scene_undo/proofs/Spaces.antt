@@ -3,13 +3,13 @@
 use Rattle.std.proofs.Common.{◌≡◌, ℕ, ◌≤◌, refl, sym, ap, subst, ◌∙◌, arith, Bool, true, false, cond, List, length, ◌++◌}
 use Rattle.std.specs.Prelude.{bytes_eq, ◌==◌, Option, Some, None, option_map, Result, Ok, Err, if◌then◌else◌}
 use Rattle.std.specs.Option.{option_or, option_to_list}
-use Rattle.scene_parts.specs.Views.{Source, Obstacle, Zone, Foliage, Receiver}
+use Rattle.scene_parts.specs.Parts.{Source, Obstacle, Zone, Foliage, Receiver}
 use Rattle.scene_parts.specs.declared.parts.Part.{Part}
 use Rattle.scene_parts.specs.declared.parts.Part.TheVariants as parts
 use Rattle.scene_parts.specs.declared.kinds.Shape.{Shape}
 use Rattle.scene_parts.specs.declared.kinds.Shape.TheVariants as shapes
-use Rattle.scene_parts.specs.declared.kinds.Class.{Class}
-use Rattle.scene_parts.specs.declared.kinds.Class.TheVariants as classes
+use Rattle.scene_parts.specs.declared.parts.Class.{Class}
+use Rattle.scene_parts.specs.declared.parts.Class.TheVariants as classes
 use Rattle.scene_book.specs.declared.edits.EditFault.{EditFault}
 use Rattle.scene_book.specs.Lists.{named, AreApart}
 use Rattle.scene_book.specs.Book.{Book, NamesAreApart, class_number, class_of_shape}

@@ -1,15 +1,14 @@
 -- What undoes an edit.
 use Rattle.std.proofs.Common.{◌≡◌, ℕ, ◌≤◌, refl, sym, ap, subst, ◌∙◌, arith, Bool, true, false, cond, List, [], ◌∷◌, length}
 use Rattle.std.specs.Prelude.{bytes_eq, Option, Some, None, IfSome, map}
-use Rattle.scene_parts.specs.Views.{Receiver, Grid}
+use Rattle.scene_parts.specs.Parts.{Receiver, Grid}
 use Rattle.scene_parts.specs.declared.parts.Part.{Part}
 use Rattle.scene_parts.specs.declared.parts.Part.TheVariants as parts
-use Rattle.scene_parts.specs.declared.kinds.Class.TheVariants as classes
+use Rattle.scene_parts.specs.declared.parts.Class.TheVariants as classes
 use Rattle.scene_book.specs.declared.edits.Edit.{Edit}
 use Rattle.scene_book.specs.declared.edits.Edit.TheVariants as edits
-use Rattle.scene_book.specs.Limits.{most_receivers}
+use Rattle.scene_book.specs.Book.{most_receivers, Book, Slot, OfEachSlot, IsWithin, with_setting}
 use Rattle.scene_book.specs.Lists.{named, put_in, NoneNamed, AreApart}
-use Rattle.scene_book.specs.Book.{Book, Slot, OfEachSlot, IsWithin, with_setting}
 use Rattle.scene_book.specs.Grid.{receivers_of}
 use Rattle.scene_book.specs.Applying.{apply_of, part_named, name_of, with_part, without, replaced, in_limits}
 use Rattle.scene_book.specs.Orders.{SameParts}

@@ -1,6 +1,6 @@
 -- The edits that undo an edit.
 use Rattle.std.specs.Prelude.{ℕ, List, [], ◌∷◌, map, Option, Some, None}
-use Rattle.scene_parts.specs.Views.{Globals, Setting}
+use Rattle.scene_parts.specs.Parts.{Globals, Setting}
 use Rattle.scene_parts.specs.declared.parts.Part.{Part}
 use Rattle.scene_book.specs.declared.edits.Edit.{Edit}
 use Rattle.scene_book.specs.declared.edits.Edit.TheVariants as edits

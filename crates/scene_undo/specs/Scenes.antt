@@ -2,8 +2,7 @@
 use Rattle.std.specs.Prelude.{ℕ, ◌≤◌, List, length, option_map, All}
 use Rattle.std.specs.Option.{option_to_list}
 use Rattle.scene_parts.specs.Limits.{most_corners, most_columns}
-use Rattle.scene_parts.specs.Views.{Zone, Foliage, Grid}
-use Rattle.scene_parts.specs.Ranges.{AreGlobals, IsSetting}
+use Rattle.scene_parts.specs.Parts.{Zone, Foliage, Grid, AreGlobals, IsSetting}
 use Rattle.scene_parts.specs.declared.parts.Part.{Part}
 use Rattle.scene_parts.specs.declared.parts.Part.TheVariants as parts
 use Rattle.scene_book.specs.declared.edits.Edit.{Edit}

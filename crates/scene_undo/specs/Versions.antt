@@ -1,7 +1,7 @@
 -- The versions that are kept for an undo, and what is taken of them.
 use Rattle.std.specs.Prelude.{◌≡◌, ◌≤◌, ◌<◌, ◌⊎◌, ◌==◌, ◌*◌, ℕ, Bool, false, nat_lt, List, [], ◌∷◌, ◌++◌, map, flat_map, reverse, All}
 use Rattle.std.specs.List.{list_any}
-use Rattle.scene_book.specs.Limits.{most_receivers}
+use Rattle.scene_book.specs.Book.{most_receivers}
 use Rattle.scene_book.specs.declared.edits.Edit.{Edit}
 use Rattle.scene_book.specs.declared.edits.Edit.TheVariants as edits
 use Rattle.scene_undo.specs.declared.versions.KeptVersion.{KeptVersion}

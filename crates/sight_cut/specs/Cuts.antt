@@ -8,9 +8,8 @@ use Rattle.scene_geom.specs.declared.band.Band.{Band}
 use Rattle.scene_geom.specs.Bands.{all_bands}
 use Rattle.scene_geom.specs.Direction.{direct}
 use Rattle.scene_geom.specs.Crossing.{crosses_of}
-use Rattle.scene_parts.specs.Views.{Obstacle}
+use Rattle.scene_parts.specs.Parts.{Obstacle, sides_of}
 use Rattle.scene_parts.specs.declared.screening.cuts.Cut.{Cut}
-use Rattle.scene_parts.specs.Sides.{sides_of}
 use Rattle.scene_parts.specs.Crossings.{rises_above, counts_in, is_crossing_in, cut_of}
 use Rattle.scene_parts.specs.declared.screening.edge.Edge.{Edge}
 use Rattle.scene_parts.specs.declared.screening.ends.Ends.{Ends}

@@ -1,7 +1,7 @@
 //! The search for sides that cross a line of sight.
 ghost use Rattle.std.specs.Prelude.{◌≡◌, ◌<◌, ◌≤◌, ◌*◌, ◌^◌, ◌++◌, [], length, map, filter, IfOk, OnOk};
 ghost use Rattle.scene_geom.specs.Fraction.{FitsCrossing};
-ghost use Rattle.scene_parts.specs.Sides.{sides_of};
+ghost use Rattle.scene_parts.specs.Parts.{sides_of};
 ghost use Rattle.scene_parts.specs.Crossings.{rises_above, cut_of, is_crossing_in};
 ghost use Rattle.sight_cut.specs.Cuts.{edge_of, crossing_of, before_all, crossings_along, crossings_of, cuts_of};
 

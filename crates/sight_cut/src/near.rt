@@ -1,6 +1,6 @@
 //! The search for sides that cross a line of sight among those near it.
 ghost use Rattle.std.specs.Prelude.{◌≡◌, ◌<◌, ◌^◌, ◌++◌, length, map, IfOk, OnOk};
-ghost use Rattle.scene_parts.specs.Sides.{sides_of};
+ghost use Rattle.scene_parts.specs.Parts.{sides_of};
 ghost use Rattle.part_grid.specs.Numbered.{numbered, numbered_sides};
 ghost use Rattle.sight_cut.specs.Cuts.{crossings_of, cuts_of};
 

@@ -7,7 +7,7 @@ use Rattle.fix_interval.specs.Interval.{Interval}
 use Rattle.fix_interval.specs.Values.{add_of}
 use Rattle.fix_interval.specs.Tree.{Tree, Known, Add, enc}
 use Rattle.scene_geom.specs.declared.plan.Pt.{Pt}
-use Rattle.scene_parts.specs.Views.{Foliage}
+use Rattle.scene_parts.specs.Parts.{Foliage}
 use Rattle.path_shape.specs.declared.stretch.Stretch.{Stretch}
 use Rattle.path_shape.specs.declared.path.Path.{Path}
 use Rattle.path_shape.specs.Forms.{zero_form, plus_all}

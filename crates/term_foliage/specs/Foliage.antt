@@ -8,7 +8,7 @@ use Rattle.fix_interval.specs.Tree.{Tree, Known, Const, Mul, Max, Min, Pick, enc
 use Rattle.scene_geom.specs.declared.band.Band.{Band}
 use Rattle.scene_geom.specs.declared.band.Band.TheVariants.{Hz63, Hz125, Hz250, Hz500, Hz1000, Hz2000, Hz4000, Hz8000}
 use Rattle.scene_geom.specs.Bands.{all_bands}
-use Rattle.scene_parts.specs.Views.{Foliage}
+use Rattle.scene_parts.specs.Parts.{Foliage}
 use Rattle.path_shape.specs.declared.path.Path.{Path}
 use Rattle.path_shape.specs.Forms.{zero_form, one_form, plus_all}
 use Rattle.path_shape.specs.Outlines.{met, length_on_legs}

@@ -2,7 +2,7 @@
 use Rattle.std.specs.Prelude.{◌≡◌, List, [], map}
 use Rattle.std.specs.List.{All}
 use Rattle.fix_interval.specs.Tree.{Tree, IsSound, enc}
-use Rattle.scene_parts.specs.Views.{Foliage}
+use Rattle.scene_parts.specs.Parts.{Foliage}
 use Rattle.path_shape.specs.declared.path.Path.{Path}
 use Rattle.term_foliage.specs.Foliage.{met_foliage, attenuations}
 

@@ -3,7 +3,7 @@ use Rattle.std.proofs.Common.{◌≡◌, ℕ, refl, List}
 use Rattle.std.specs.Prelude.{map}
 use Rattle.fix_interval.specs.Interval.{Interval}
 use Rattle.fix_interval.specs.Tree.{Tree, Known, Max, Min, Pick, enc}
-use Rattle.scene_parts.specs.Views.{Zone}
+use Rattle.scene_parts.specs.Parts.{Zone}
 use Rattle.path_shape.specs.declared.path.Path.{Path}
 use Rattle.path_shape.specs.declared.stretch.Stretch.{Stretch}
 use Rattle.path_shape.specs.Forms.{zero_form, one_form}

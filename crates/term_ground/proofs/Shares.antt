@@ -14,7 +14,7 @@ use Rattle.term_ground.specs.Regions.{region_from, known_share}
 use Rattle.term_ground.proofs.TermBounds.{factor-within}
 use Rattle.fix_interval.specs.Interval.{Interval}
 use Rattle.fix_interval.specs.Tree.{Known, enc}
-use Rattle.scene_parts.specs.Views.{Zone}
+use Rattle.scene_parts.specs.Parts.{Zone}
 use Rattle.path_shape.specs.declared.path.Path.{Path}
 use Rattle.term_ground.specs.declared.legs.region.Region.TheVariants.{Source, Middle, Receiver}
 use Rattle.term_ground.specs.Regions.{share_of}

@@ -20,7 +20,7 @@ use Rattle.fix_interval.proofs.Ranging.{LiesIn-All}
 use Rattle.fix_interval.proofs.RangedFormulas.{between, part-between}
 use Rattle.fix_interval.proofs.Dividing.{≤ℤ_trans}
 use Rattle.enclose_exp.proofs.PowerRanges.{decay-ranged}
-use Rattle.scene_parts.specs.Views.{Zone}
+use Rattle.scene_parts.specs.Parts.{Zone}
 use Rattle.path_shape.specs.declared.path.Path.{Path}
 use Rattle.path_shape.proofs.Lengths.{Found, path-found, div_ceil-within}
 use Rattle.path_shape.specs.Shape.{IsPath}

@@ -12,7 +12,7 @@ use Rattle.scene_geom.specs.Outline.{passages_of, ring, area2_of, meets_of}
 use Rattle.path_shape.proofs.Folding.{folds-as}
 use Rattle.path_shape.proofs.Sums.{plus_all-known}
 use Rattle.path_shape.proofs.Walking.{inside-turned, inside-straight}
-use Rattle.scene_parts.specs.Views.{Zone}
+use Rattle.scene_parts.specs.Parts.{Zone}
 use Rattle.path_shape.specs.declared.legs.Legs.TheVariants.{One}
 use Rattle.path_shape.specs.declared.path.Path.{Path}
 use Rattle.path_shape.specs.declared.stretch.Stretch.{Stretch}

@@ -16,7 +16,7 @@ use Rattle.scene_geom.specs.Crossing.{passage_of}
 use Rattle.scene_geom.specs.Direction.{direct}
 use Rattle.scene_geom.specs.Fraction.{is_inside}
 use Rattle.scene_geom.specs.Outline.{ring, passages_of, winding_of, meets_of}
-use Rattle.scene_parts.specs.Views.{Zone}
+use Rattle.scene_parts.specs.Parts.{Zone}
 use Rattle.path_shape.specs.declared.path.Path.{Path}
 use Rattle.path_shape.proofs.Folding.{folds-next}
 use Rattle.path_shape.specs.Outlines.{whole}

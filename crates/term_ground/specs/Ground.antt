@@ -3,7 +3,7 @@
 use Rattle.std.specs.Prelude.{ℕ, ◌*◌, ◌^◌, pos, neg_ℤ, List, [], ◌∷◌}
 use Rattle.std.specs.Int.{abs_diff}
 use Rattle.fix_interval.specs.Tree.{Tree, Const, Add, Sub, Mul, Div, ExpNeg, Pick}
-use Rattle.scene_parts.specs.Views.{Zone}
+use Rattle.scene_parts.specs.Parts.{Zone}
 use Rattle.path_shape.specs.declared.path.Path.{Path}
 use Rattle.term_ground.specs.declared.legs.region.Region.TheVariants.{Source, Middle, Receiver}
 use Rattle.path_shape.specs.Forms.{zero_form, one_form}

@@ -16,8 +16,8 @@ use Rattle.scene_geom.specs.Outline.{meets_of}
 use Rattle.scene_geom.specs.Reflection.{unfolded}
 use Rattle.scene_parts.specs.declared.kinds.Shape.{Shape}
 use Rattle.scene_parts.specs.declared.kinds.Shape.TheVariants.{Barrier, Building}
-use Rattle.scene_parts.specs.Views.{Receiver, Obstacle}
-use Rattle.scene_parts.specs.Sides.{sides_in, sides_of}
+use Rattle.scene_parts.specs.Parts.{Receiver, Obstacle, sides_of}
+use Rattle.scene_parts.specs.Sides.{sides_in}
 use Rattle.scene_parts.specs.declared.screening.ends.Ends.{Ends}
 use Rattle.scene_parts.specs.declared.parts.Part.{Part}
 use Rattle.scene_parts.specs.declared.parts.Part.TheVariants as parts

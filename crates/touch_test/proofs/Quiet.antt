@@ -11,8 +11,7 @@ use Rattle.scene_geom.specs.Crossing.{crosses_of, blocks_of}
 use Rattle.scene_geom.specs.Fraction.{rest_of}
 use Rattle.scene_geom.specs.Reflection.{unfolded}
 use Rattle.scene_geom.specs.Laws.{UncrossedIsUnblocked}
-use Rattle.scene_parts.specs.Views.{Obstacle}
-use Rattle.scene_parts.specs.Sides.{sides_of}
+use Rattle.scene_parts.specs.Parts.{Obstacle, sides_of}
 use Rattle.scene_book.specs.Book.{Book}
 use Rattle.scene_parts.specs.declared.screening.edge.Edge.{Edge}
 use Rattle.scene_parts.specs.declared.screening.ends.Ends.{Ends}

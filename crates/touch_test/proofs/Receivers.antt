@@ -13,7 +13,7 @@ use Rattle.std.proofs.lemmas.List.{get_or_append_left, take-append-drop, drop_mo
 use Rattle.std.proofs.lemmas.Grind.{get_or_default_zero}
 use Rattle.std.proofs.Math.Seq.{get_or-append_seam, take-append_seam}
 use Rattle.std.proofs.Math.Nat.{eq-or-lt_of_le}
-use Rattle.scene_parts.specs.Views.{Receiver, Grid}
+use Rattle.scene_parts.specs.Parts.{Receiver, Grid}
 use Rattle.scene_book.specs.Grid.{name_in, receiver_at, columns_from, rows_from, receivers_of}
 use Rattle.touch_test.specs.inner.Numbers.{read_on}
 

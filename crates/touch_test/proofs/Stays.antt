@@ -12,8 +12,7 @@ use Rattle.scene_geom.specs.Bands.{all_bands}
 use Rattle.scene_geom.specs.Crossing.{differ}
 use Rattle.scene_geom.specs.Reflection.{unfolded}
 use Rattle.scene_geom.specs.Laws.{UncrossedIsUnblocked}
-use Rattle.scene_parts.specs.Views.{Source, Receiver, Obstacle, Zone, Foliage}
-use Rattle.scene_parts.specs.Sides.{sides_of}
+use Rattle.scene_parts.specs.Parts.{Source, Receiver, Obstacle, Zone, Foliage, sides_of}
 use Rattle.scene_book.specs.Book.{Book}
 use Rattle.scene_book.specs.Laws.{Edited, ListsEdited}
 use Rattle.scene_parts.specs.declared.screening.edge.Edge.{Edge}

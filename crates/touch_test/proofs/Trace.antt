@@ -10,8 +10,7 @@ use Rattle.scene_geom.specs.declared.band.Band.{Band}
 use Rattle.scene_geom.specs.declared.band.Band.TheVariants.{Hz63, Hz125, Hz250, Hz500, Hz1000, Hz2000, Hz4000, Hz8000}
 use Rattle.scene_geom.specs.Bands.{all_bands}
 use Rattle.scene_geom.specs.Crossing.{differ}
-use Rattle.scene_parts.specs.Views.{Source, Receiver, Obstacle}
-use Rattle.scene_parts.specs.Sides.{sides_of}
+use Rattle.scene_parts.specs.Parts.{Source, Receiver, Obstacle, sides_of}
 use Rattle.scene_book.specs.Book.{Book}
 use Rattle.sight_cut.specs.Cuts.{screens_in}
 use Rattle.edge_chain.specs.declared.hand.Hand.{Hand}

@@ -5,7 +5,7 @@ use Rattle.std.specs.List.{list_any}
 use Rattle.std.specs.Option.{option_to_list}
 use Rattle.std.proofs.lemmas.Slice.Eq.{bytes_eq-Decides}
 use Rattle.scene_geom.specs.Laws.{UncrossedIsUnblocked}
-use Rattle.scene_parts.specs.Views.{Source, Receiver, Globals}
+use Rattle.scene_parts.specs.Parts.{Source, Receiver, Globals}
 use Rattle.scene_parts.specs.declared.parts.Part.{Part}
 use Rattle.scene_parts.specs.declared.parts.Part.TheVariants as parts
 use Rattle.scene_book.specs.Book.{Book}

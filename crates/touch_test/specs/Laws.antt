@@ -1,6 +1,6 @@
 -- What an edit leaves that doesn't touch a path or a receiver.
 use Rattle.std.specs.Prelude.{◌≡◌, false, List, [], ◌∷◌, Contains, Option, Ok, map}
-use Rattle.scene_parts.specs.Views.{Source, Receiver}
+use Rattle.scene_parts.specs.Parts.{Source, Receiver}
 use Rattle.scene_parts.specs.declared.parts.Part.{Part}
 use Rattle.scene_book.specs.Book.{Book}
 use Rattle.scene_book.specs.Applying.{apply_of}

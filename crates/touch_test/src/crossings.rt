@@ -4,7 +4,7 @@ ghost use Rattle.std.specs.List.{list_any};
 ghost use Rattle.scene_geom.specs.Direction.{FitsDirection};
 ghost use Rattle.scene_geom.specs.Fraction.{FitsEnd};
 ghost use Rattle.scene_geom.specs.Reflection.{FitsReflection};
-ghost use Rattle.scene_parts.specs.Sides.{sides_of};
+ghost use Rattle.scene_parts.specs.Parts.{sides_of};
 ghost use Rattle.image_source.specs.LegCuts.{place_up_to};
 ghost use Rattle.path_calc.specs.Segments.{FitsSegment};
 ghost use Rattle.touch_test.specs.Crossings as form;

@@ -1,7 +1,7 @@
 //! Parts that touch a path or a receiver where they are put or removed.
 ghost use Rattle.std.specs.Prelude.{◌≡◌, ◌<◌, length, slice_get, All, Some};
 ghost use Rattle.std.specs.List.{list_any};
-ghost use Rattle.scene_parts.specs.Sides.{sides_of};
+ghost use Rattle.scene_parts.specs.Parts.{sides_of};
 ghost use Rattle.image_source.specs.Mirrors.{has_mirror as is_mirror_of};
 ghost use Rattle.path_calc.specs.Segments.{FitsSegment};
 ghost use Rattle.touch_test.specs.Envelopes as far;

@@ -1,7 +1,7 @@
 //! Which paths and which receivers an edit touches.
 ghost use Rattle.std.specs.Prelude.{◌≡◌, Ok, map, option_map};
 ghost use Rattle.std.specs.List.{list_any};
-ghost use Rattle.scene_parts.specs.Views.{Source};
+ghost use Rattle.scene_parts.specs.Parts.{Source};
 ghost use Rattle.scene_book.specs.Book.{Book};
 ghost use Rattle.scene_book.specs.Applying.{apply_of};
 ghost use Rattle.path_calc.specs.Bundles.{bundle_of};

@@ -3,7 +3,7 @@ use Rattle.std.specs.Prelude.{◌≡◌, ◌≤◌, pos, neg_ℤ, ◌≤ℤ◌, 
 use Rattle.std.specs.List.{list_all}
 use Rattle.scene_parts.specs.Names.{IsName}
 use Rattle.scene_parts.specs.Limits.{most_corners}
-use Rattle.scene_parts.specs.Ranges.{IsCount, IsHeight, is_power_within, are_same}
+use Rattle.scene_parts.specs.Parts.{IsCount, IsHeight, is_power_within, are_same}
 use Rattle.command_lines.specs.Limits.{highest_level, least_line_power, greatest_line_power, shortest_piece, longest_piece}
 use Rattle.command_lines.specs.Views.{Contour, LineSource}
 

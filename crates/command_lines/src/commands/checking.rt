@@ -4,7 +4,7 @@ ghost use Rattle.std.specs.List.{list_all};
 ghost use Rattle.scene_parts.specs.Answers.{MatchesUnlessMemory, Unless, each, lacks_memory};
 ghost use Rattle.scene_parts.specs.Checking.{corners_of, height_of, power_within, directivity_of, in_range as in_range_of};
 ghost use Rattle.scene_parts.specs.Limits.{most_corners};
-ghost use Rattle.scene_parts.specs.Ranges.{IsHeight, is_power_within};
+ghost use Rattle.scene_parts.specs.Parts.{IsHeight, is_power_within};
 ghost use Rattle.command_lines.specs.Limits.{highest_level, least_line_power, greatest_line_power, shortest_piece, longest_piece};
 ghost use Rattle.command_lines.specs.Checking.{level_of, checked_contour as checked_contour_of, checked_line_source as checked_line_source_of, version_of};
 

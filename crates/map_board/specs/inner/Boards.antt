@@ -2,9 +2,8 @@
 use Rattle.std.specs.Prelude.{◌≡◌, ℕ, ◌≤◌, Bool, true, false, ◌&&◌, ◌||◌, not, is_some, List, [], ◌∷◌, length, map, take, slice_get, All, Contains, IsSome, IsSomeAnd, IfSome, Option, Some, None}
 use Rattle.std.specs.List.{zip, list_any}
 use Rattle.std.specs.Option.{option_map}
-use Rattle.scene_parts.specs.Views.{Source, Receiver}
-use Rattle.scene_book.specs.Book.{Book, empty_book}
-use Rattle.scene_book.specs.Limits.{most_receivers}
+use Rattle.scene_parts.specs.Parts.{Source, Receiver}
+use Rattle.scene_book.specs.Book.{Book, empty_book, most_receivers}
 use Rattle.scene_book.specs.Lists.{AreApart}
 use Rattle.scene_book.specs.declared.edits.Edit.{Edit}
 use Rattle.path_calc.specs.Show.{sources_within, bundles_of}

@@ -1,7 +1,7 @@
 -- What jobs and answers keep.
 use Rattle.std.specs.Prelude.{◌≡◌, ℕ, ◌≤◌, Bool, true, false, List, [], length, map, slice_get, Option, Some, is_some, IfSome}
 use Rattle.path_calc.specs.Levels.{levels_of}
-use Rattle.scene_parts.specs.Views.{Receiver}
+use Rattle.scene_parts.specs.Parts.{Receiver}
 use Rattle.scene_book.specs.Book.{Book}
 use Rattle.path_calc.specs.Bundles.{Bundle}
 use Rattle.path_cache.specs.declared.sums.RowSums.{RowSums}

@@ -1,6 +1,6 @@
 -- What the log's edits after a version do to bundles of that version.
 use Rattle.std.specs.Prelude.{ℕ, suc, Bool, List, [], ◌∷◌, map, Option, Some, None, if◌then◌else◌}
-use Rattle.scene_parts.specs.Views.{Receiver}
+use Rattle.scene_parts.specs.Parts.{Receiver}
 use Rattle.path_calc.specs.Bundles.{Bundle}
 use Rattle.touch_test.specs.Touches.{bundled, edit_touches_any}
 use Rattle.map_board.specs.declared.edits.log.LogEntry.{LogEntry}

@@ -1,7 +1,7 @@
 -- The marks of kept bundles as edits come.
 use Rattle.std.specs.Prelude.{◌≡◌, ℕ, Bool, ◌||◌, bytes_eq, List, map, Option}
 use Rattle.std.specs.List.{zip, list_any}
-use Rattle.scene_parts.specs.Views.{Receiver}
+use Rattle.scene_parts.specs.Parts.{Receiver}
 use Rattle.scene_parts.specs.declared.parts.Part.{Part}
 use Rattle.scene_book.specs.declared.edits.Edit.{Edit}
 use Rattle.path_calc.specs.Bundles.{Bundle}

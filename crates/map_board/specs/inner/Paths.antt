@@ -1,7 +1,7 @@
 -- The kept paths of rows, and which of them an edit touches.
 use Rattle.std.specs.Prelude.{Bool, not, ◌&&◌, List, [], ◌∷◌, ◌++◌, map, Option, Some, None}
 use Rattle.std.specs.List.{zip}
-use Rattle.scene_parts.specs.Views.{Receiver}
+use Rattle.scene_parts.specs.Parts.{Receiver}
 use Rattle.scene_book.specs.declared.edits.Logged.{Logged}
 use Rattle.path_calc.specs.Bundles.{Bundle}
 use Rattle.map_board.specs.declared.rows.caches.Cache.{Cache}

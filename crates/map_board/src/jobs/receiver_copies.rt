@@ -16,8 +16,7 @@ pub(crate) struct ReceiverCopy {
 }
 
 impl Model for ReceiverCopy {
-    ghost use Rattle.scene_parts.specs.Views.{Receiver as ReceiverView};
-    ghost use Rattle.scene_parts.specs.Ranges.{IsReceiver};
+    ghost use Rattle.scene_parts.specs.Parts.{Receiver as ReceiverView, IsReceiver};
 
     ghost Value = { ReceiverView };
 

@@ -1,6 +1,6 @@
 -- How many receivers an answer shows.
 use Rattle.std.specs.Prelude.{◌≤◌, length}
-use Rattle.scene_book.specs.Limits.{most_receivers}
+use Rattle.scene_book.specs.Book.{most_receivers}
 use Rattle.noise_map.specs.declared.lines.answer.Answer.{Answer}
 use Rattle.noise_map.specs.declared.lines.answer.Answer.TheVariants.{Settled, Looked, Contoured}
 

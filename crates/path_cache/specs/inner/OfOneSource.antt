@@ -1,6 +1,6 @@
 -- What a refresh adds for one source of the scene.
 use Rattle.std.specs.Prelude.{ℕ, Bool, ◌&&◌, List, [], ◌∷◌, if◌then◌else◌}
-use Rattle.scene_parts.specs.Views.{Source, Receiver}
+use Rattle.scene_parts.specs.Parts.{Source, Receiver}
 use Rattle.scene_book.specs.Book.{Book}
 use Rattle.path_calc.specs.Lengths.{is_within}
 use Rattle.path_calc.specs.Bundles.{Bundle}

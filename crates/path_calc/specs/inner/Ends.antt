@@ -1,7 +1,6 @@
 -- What is known of all that the paths between two ends share.
 use Rattle.std.specs.Prelude.{◌≡◌}
-use Rattle.scene_parts.specs.Ranges.{IsHeight}
-use Rattle.scene_parts.specs.Views.{Source, Receiver}
+use Rattle.scene_parts.specs.Parts.{IsHeight, Source, Receiver}
 use Rattle.scene_parts.specs.declared.screening.ends.Ends.{Ends}
 use Rattle.path_shape.specs.Shape.{direct_path}
 use Rattle.path_shape.specs.declared.path.Path.{Path}

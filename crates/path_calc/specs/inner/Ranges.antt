@@ -6,7 +6,7 @@ use Rattle.term_barrier.specs.Limits.{IsScreening}
 use Rattle.scene_geom.specs.declared.plan.Pt.{Pt}
 use Rattle.scene_geom.specs.declared.fractions.fraction.Frac.{Frac}
 use Rattle.scene_geom.specs.Reflection.{longest_wall}
-use Rattle.scene_book.specs.Limits.{most_sides}
+use Rattle.scene_book.specs.Book.{most_sides}
 use Rattle.edge_chain.specs.Laws.{way_along_axes}
 use Rattle.path_calc.specs.declared.lateral.LateralScreening.{LateralScreening}
 use Rattle.path_calc.specs.declared.energies.paths.Paths.{Paths}

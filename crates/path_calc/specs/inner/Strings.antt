@@ -7,7 +7,7 @@ use Rattle.fix_interval.specs.Tree.{Known, enc}
 use Rattle.scene_geom.specs.declared.plan.Pt.{Pt}
 use Rattle.scene_geom.specs.declared.band.Band.{Band}
 use Rattle.scene_geom.specs.Bands.{place_of}
-use Rattle.scene_parts.specs.Views.{Obstacle}
+use Rattle.scene_parts.specs.Parts.{Obstacle}
 use Rattle.scene_parts.specs.declared.screening.size_test.Breadth.{Breadth}
 use Rattle.scene_parts.specs.InBand.{exceeds_wavelength}
 use Rattle.scene_parts.specs.declared.screening.ends.Ends.{Ends}

@@ -1,7 +1,7 @@
 -- What stands between the code and the definition of traces: the segments that are added where strings turn to a band.
 use Rattle.std.specs.Prelude.{ℕ, Bool, true, false, ◌&&◌, ◌==◌, List, [], ◌∷◌, ◌++◌, flat_map, if◌then◌else◌}
 use Rattle.scene_geom.specs.declared.band.Band.{Band}
-use Rattle.scene_parts.specs.Views.{Obstacle}
+use Rattle.scene_parts.specs.Parts.{Obstacle}
 use Rattle.scene_parts.specs.declared.screening.ends.Ends.{Ends}
 use Rattle.sight_cut.specs.Cuts.{crossings_of}
 use Rattle.path_calc.specs.declared.bundles.segments.Seg.{Seg}

@@ -1,6 +1,6 @@
 //! The calculation of a bundle.
 ghost use Rattle.std.specs.Prelude.{◌≡◌, ◌+◌, map, IfOk};
-ghost use Rattle.scene_parts.specs.Sides.{sides_of};
+ghost use Rattle.scene_parts.specs.Parts.{sides_of};
 ghost use Rattle.part_grid.specs.Numbered.{numbered};
 ghost use Rattle.path_calc.specs.Bundles.{bundle_of};
 ghost use Rattle.path_calc.specs.Prepared.{prepared_of};

@@ -2,7 +2,7 @@
 ghost use Rattle.std.specs.Prelude.{◌≡◌, ◌≤◌, ◌<◌, ◌^◌, ◌*◌, ◌-ℤ◌, pos, unsigned_abs};
 ghost use Rattle.scene_geom.specs.Plan.{InPlan};
 ghost use Rattle.scene_geom.specs.Fraction.{over};
-ghost use Rattle.scene_parts.specs.Ranges.{IsHeight};
+ghost use Rattle.scene_parts.specs.Parts.{IsHeight};
 ghost use Rattle.std.specs.Int.{abs_diff};
 ghost use Rattle.fix_interval.specs.Tree.{Const, enc};
 ghost use Rattle.path_shape.specs.Shape as shape;

@@ -2,7 +2,7 @@
 ghost use Rattle.std.specs.Prelude.{◌≡◌, ◌≤◌, All, OnOk, IfSome, vec_len};
 ghost use Rattle.fix_interval.specs.Values.{sub_of};
 ghost use Rattle.path_shape.specs.Shape.{IsPath};
-ghost use Rattle.scene_parts.specs.Ranges.{IsHeight};
+ghost use Rattle.scene_parts.specs.Parts.{IsHeight};
 ghost use Rattle.scene_parts.specs.declared.kinds.Ground.TheVariants as methods;
 ghost use Rattle.path_calc.specs.inner.Hearing.{propagation_past, screened_by, bars_over, edges_among, is_asked, grounds_along, omega_along, ground_at, screening_at, power_at};
 ghost use Rattle.path_calc.specs.inner.BarrierAttenuations.{no_attenuations};

@@ -12,7 +12,7 @@ ghost use Rattle.path_calc.specs.inner.Ranges.{IsUnscreened, IsScreened, IsAtRec
 ghost use Rattle.path_calc.specs.inner.Propagations.{IsPropagation, IsEcho, IsReflectedSound, counts_at};
 ghost use Rattle.path_calc.specs.inner.Losses.{loss_in};
 ghost use Rattle.path_calc.specs.inner.Ranges.{AreInRange, IsWeight, IsSmall, IsSumOf, most_sounds};
-ghost use Rattle.scene_book.specs.Limits.{most_sides};
+ghost use Rattle.scene_book.specs.Book.{most_sides};
 ghost use Rattle.path_calc.specs.inner.Hearing.{energy_after, long_energy_after, sum_after, past, with_energy};
 ghost use Rattle.path_calc.specs.inner.Hearing.{power_at, screening_at};
 ghost use Rattle.path_calc.specs.inner.Hearing.{downwind_energy, long_term_energy, sound_energy, echo_energy, reflected_energy};

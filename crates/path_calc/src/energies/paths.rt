@@ -2,8 +2,8 @@
 ghost use Rattle.std.specs.Prelude.{◌≡◌, ◌≤◌, ◌∷◌, ◌++◌, [], true, length, map, flat_map, All, OnOk};
 ghost use Rattle.scene_geom.specs.Bands.{all_bands};
 ghost use Rattle.scene_geom.specs.declared.band.Band.{Band};
-ghost use Rattle.scene_parts.specs.Views.{Source, Receiver};
-ghost use Rattle.scene_book.specs.Limits.{most_sides};
+ghost use Rattle.scene_parts.specs.Parts.{Source, Receiver};
+ghost use Rattle.scene_book.specs.Book.{most_sides};
 ghost use Rattle.sight_cut.specs.Cuts.{crossings_of};
 ghost use Rattle.path_calc.specs.declared.bundles.segments.Seg.TheVariants.{Straight};
 ghost use Rattle.path_calc.specs.ReflectedPaths.{reflected_paths};

@@ -2,7 +2,7 @@
 ghost use Rattle.std.specs.Prelude.{◌≡◌, ◌&&◌, ◌||◌, map, OnOk};
 ghost use Rattle.std.specs.List.{list_any};
 ghost use Rattle.scene_geom.specs.Crossing.{blocks_of};
-ghost use Rattle.scene_parts.specs.Sides.{sides_of};
+ghost use Rattle.scene_parts.specs.Parts.{sides_of};
 ghost use Rattle.scene_parts.specs.Crossings.{counts_in};
 ghost use Rattle.part_grid.specs.Numbered.{numbered};
 ghost use Rattle.edge_chain.specs.Chain.{blocks_chain};

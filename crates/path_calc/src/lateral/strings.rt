@@ -3,8 +3,7 @@ ghost use Rattle.std.specs.Prelude.{◌≡◌, ◌<◌, [], ◌++◌, List, leng
 ghost use Rattle.std.specs.List.{list_any};
 ghost use Rattle.fix_interval.specs.Interval.{Interval};
 ghost use Rattle.fix_interval.specs.Tree.{Known, enc};
-ghost use Rattle.scene_parts.specs.Ranges.{IsHeight};
-ghost use Rattle.scene_parts.specs.Views.{Obstacle as ObstacleView};
+ghost use Rattle.scene_parts.specs.Parts.{IsHeight, Obstacle as ObstacleView};
 ghost use Rattle.term_barrier.specs.Lateral.{in_band, side_attenuation};
 ghost use Rattle.term_barrier.specs.Limits.{IsScreening};
 ghost use Rattle.path_calc.specs.inner.Ends.{FitsSight};

@@ -2,9 +2,9 @@
 ghost use Rattle.std.specs.Prelude.{◌≡◌, ◌≤◌, ◌<◌, [], ◌++◌, true, length, map, slice_get, Some, IfOk, OnOk};
 ghost use Rattle.std.specs.Option.{option_to_list};
 ghost use Rattle.scene_geom.specs.Reflection.{CanReflect};
-ghost use Rattle.scene_parts.specs.Sides.{sides_of};
+ghost use Rattle.scene_parts.specs.Parts.{sides_of};
 ghost use Rattle.scene_geom.specs.Reflection.{unfolded};
-ghost use Rattle.scene_book.specs.Limits.{most_sides};
+ghost use Rattle.scene_book.specs.Book.{most_sides};
 ghost use Rattle.fix_interval.specs.Tree.{enc};
 ghost use Rattle.image_source.specs.Mirrors.{has_mirror as is_mirror_of};
 ghost use Rattle.path_calc.specs.Contributions.{reflection_level as level_form};

@@ -1,4 +1,4 @@
-//! The check of a line's part.
+//! Parts as lines give them, with numbers of any size, and their check.
 ghost use Rattle.std.specs.Prelude.{◌≡◌, codes};
 ghost use Rattle.scene_parts.specs.Answers.{MatchesUnlessMemory, lacks_memory};
 ghost use Rattle.scene_parts.specs.Checking.{word_of, check_of};
@@ -8,15 +8,75 @@ use crate::checks::powers::{directivity, powers};
 use crate::checks::ranges::{
     column_count, height, in_range, optional_in_range, plan_point, row_count,
 };
-use crate::checks::raw::RawPart;
 use crate::faults::PartFault;
 use crate::kinds::{Field, Shape};
 use crate::limits::{MAX_REACH, MAX_STEP};
+use crate::outlines::RawPoints;
 use crate::outlines::shapes::{check_density, check_outline, check_surface, corners};
 use crate::parts::{Foliage, Obstacle, Part, PointSource, Receiver, Zone};
 use crate::settings::{GridSpec, SetSpec};
+use crate::texts::{PlainName, Word};
 use crate::words::{kind_named, optional_air, optional_ground};
 use std::alloc::Global;
+
+/// A part, a grid or a setting as a line gives it, before it is checked.
+#[derive(Debug, Drop)]
+pub enum RawPart {
+    Source {
+        name: PlainName,
+        kind: Word,
+        x: i64,
+        y: i64,
+        h: i64,
+        lw: [Option<i64>; 8],
+        dc: i64,
+    },
+    Barrier {
+        name: PlainName,
+        points: RawPoints,
+        h: i64,
+        density: i64,
+        rho: i64,
+    },
+    Building {
+        name: PlainName,
+        points: RawPoints,
+        h: i64,
+        rho: i64,
+    },
+    Zone {
+        name: PlainName,
+        points: RawPoints,
+        g: i64,
+    },
+    Foliage {
+        name: PlainName,
+        points: RawPoints,
+        h: i64,
+    },
+    Receiver {
+        name: PlainName,
+        x: i64,
+        y: i64,
+        h: i64,
+    },
+    Grid {
+        name: PlainName,
+        x: i64,
+        y: i64,
+        step: i64,
+        columns: i64,
+        rows: i64,
+        h: i64,
+    },
+    Set {
+        reach: Option<i64>,
+        g: Option<i64>,
+        air: Option<Word>,
+        c0: Option<i64>,
+        ground: Option<Word>,
+    },
+}
 
 /// Checks what a line gives: the part, the grid or the setting, or the first fault in the order of
 /// their numbers. Memory is taken for the corners of an outline.

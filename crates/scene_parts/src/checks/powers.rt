@@ -2,7 +2,7 @@
 ghost use Rattle.std.specs.Prelude.{◌≡◌, IfOk, IsTrue, pos, neg_ℤ, ◌≤ℤ◌};
 ghost use Rattle.std.specs.List.{list_all};
 ghost use Rattle.scene_parts.specs.Answers.{each};
-ghost use Rattle.scene_parts.specs.Ranges.{is_power_within};
+ghost use Rattle.scene_parts.specs.Parts.{is_power_within};
 ghost use Rattle.scene_parts.specs.Checking.{power_within, directivity_of};
 
 use crate::checks::ranges::within;

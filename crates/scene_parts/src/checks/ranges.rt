@@ -3,7 +3,7 @@ ghost use Rattle.std.specs.Prelude.{◌≡◌, ◌≤◌, ◌<◌, ◌^◌, pos,
 ghost use Rattle.scene_geom.specs.declared.plan.Pt.{Pt};
 ghost use Rattle.scene_parts.specs.Answers.{optional};
 ghost use Rattle.scene_parts.specs.Limits.{most_columns, widest_step, plan_end};
-ghost use Rattle.scene_parts.specs.Ranges.{IsHeight, IsCount, last_place};
+ghost use Rattle.scene_parts.specs.Parts.{IsHeight, IsCount, last_place};
 ghost use Rattle.scene_parts.specs.Checking.{within as within_of, in_range as in_range_of, plan_point as plan_point_of, reaching as reaching_of, height_of};
 
 use crate::faults::PartFault;

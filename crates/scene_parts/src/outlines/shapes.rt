@@ -6,7 +6,7 @@ ghost use Rattle.scene_geom.specs.Plan.{InPlan};
 ghost use Rattle.scene_geom.specs.declared.plan.Pt.{Pt};
 ghost use Rattle.scene_parts.specs.Answers.{MatchesUnlessMemory, lacks_memory};
 ghost use Rattle.scene_parts.specs.Limits.{most_corners};
-ghost use Rattle.scene_parts.specs.Ranges.{are_same, is_same, is_flat, is_mirror, least_corners};
+ghost use Rattle.scene_parts.specs.Parts.{are_same, is_same, is_flat, is_mirror, least_corners};
 ghost use Rattle.scene_parts.specs.Sides.{sides_in, is_short, squared_length, floor_root};
 ghost use Rattle.scene_parts.specs.Checking.{corner_of, corners_of, check_outline as check_outline_of, check_surface as check_surface_of, check_sides_from, check_reflection as check_reflection_of, check_density as check_density_of};
 

@@ -1,8 +1,8 @@
 //! The sides of barriers and buildings.
 ghost use Rattle.std.specs.Prelude.{◌≡◌, ◌≤◌, ◌<◌, length, Some, slice_get};
 ghost use Rattle.scene_parts.specs.Limits.{most_corners};
-ghost use Rattle.scene_parts.specs.Ranges.{IsObstacle};
-ghost use Rattle.scene_parts.specs.Sides.{sides_in, sides_of};
+ghost use Rattle.scene_parts.specs.Parts.{IsObstacle, sides_of};
+ghost use Rattle.scene_parts.specs.Sides.{sides_in};
 
 use crate::kinds::Shape;
 use crate::parts::Obstacle;

@@ -4,7 +4,7 @@ use Rattle.std.specs.List.{fold}
 use Rattle.fix_interval.specs.Interval.{Interval}
 use Rattle.fix_interval.specs.Values.{add_of}
 use Rattle.fix_interval.specs.Tree.{Tree, enc}
-use Rattle.scene_parts.specs.Views.{Foliage}
+use Rattle.scene_parts.specs.Parts.{Foliage}
 use Rattle.path_shape.specs.declared.path.Path.{Path}
 use Rattle.path_shape.specs.declared.stretch.Stretch.{Stretch}
 use Rattle.path_shape.specs.Forms.{zero_form}

@@ -10,7 +10,7 @@ use Rattle.scene_geom.specs.declared.directions.direction.Dir.{Dir}
 use Rattle.scene_geom.specs.declared.fractions.fraction.Frac.{Frac}
 use Rattle.scene_geom.specs.Fraction.{rest_of}
 use Rattle.scene_geom.specs.Outline.{meets_of}
-use Rattle.scene_parts.specs.Views.{Zone}
+use Rattle.scene_parts.specs.Parts.{Zone}
 use Rattle.path_shape.specs.declared.legs.Legs.{Legs}
 use Rattle.path_shape.specs.declared.legs.Legs.TheVariants.{One, Two}
 use Rattle.path_shape.specs.declared.path.Path.{Path}

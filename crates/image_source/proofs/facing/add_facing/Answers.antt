@@ -5,7 +5,7 @@ use Rattle.std.specs.Bool.{then_some}
 use Rattle.part_grid.specs.declared.owned.Owned.{Owned}
 use Rattle.image_source.specs.Facing.{FacingSide, facing_in}
 use Rattle.image_source.specs.inner.Facing.{is_in_front}
-use Rattle.scene_parts.specs.Views.{Obstacle}
+use Rattle.scene_parts.specs.Parts.{Obstacle}
 use Rattle.image_source.proofs.Listing.{nothing-faces, facing-is, in-front-long, side-listed}
 use Rattle.image_source.proofs.Even.{still-short}
 use Rattle.image_source.proofs.facing.add_facing.Goals.{then-is_in_front+in_ok-push, else-is_in_front}

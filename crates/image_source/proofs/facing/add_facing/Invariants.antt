@@ -1,7 +1,7 @@
 -- What is listed, and what the sides behind give, is what all sides give.
 use Rattle.std.proofs.Common.{◌≡◌, ◌++◌, drop, map}
 use Rattle.std.specs.List.{enumerate_from, filter_map}
-use Rattle.scene_parts.specs.Sides.{sides_of}
+use Rattle.scene_parts.specs.Parts.{sides_of}
 use Rattle.part_grid.specs.Numbered.{owned_by}
 use Rattle.image_source.specs.Facing.{facing_in, facing_of}
 use Rattle.image_source.proofs.facing.add_facing.Given as goal

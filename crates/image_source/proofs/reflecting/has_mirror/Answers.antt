@@ -1,5 +1,5 @@
 use Rattle.std.proofs.Common.{sym, ap, ◌∙◌}
-use Rattle.scene_parts.specs.Views.{Obstacle}
+use Rattle.scene_parts.specs.Parts.{Obstacle}
 use Rattle.image_source.proofs.Walls.{none-absorbed, none-beside}
 use Rattle.image_source.proofs.Passing.{none-struck}
 use Rattle.image_source.proofs.reflecting.has_mirror.Goals as goal

@@ -1,6 +1,6 @@
 -- What is found, and what the sides behind give, is what all sides give.
 use Rattle.std.proofs.Common.{◌≡◌, ◌++◌, drop}
-use Rattle.scene_parts.specs.Sides.{sides_of}
+use Rattle.scene_parts.specs.Parts.{sides_of}
 use Rattle.image_source.specs.LegCuts.{crossings_along}
 use Rattle.image_source.proofs.search.add_crossings.Given as goal
 

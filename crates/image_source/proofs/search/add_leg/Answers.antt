@@ -1,6 +1,6 @@
 use Rattle.std.proofs.Common.{◌≡◌, ◌++◌, ◌∙◌, [], drop, ap, sym, append-nil, arith}
 use Rattle.std.proofs.lemmas.List.{drop_all}
-use Rattle.scene_parts.specs.Sides.{sides_of}
+use Rattle.scene_parts.specs.Parts.{sides_of}
 use Rattle.image_source.specs.LegCuts.{crossings_along, crossings_from}
 use Rattle.image_source.proofs.Found.{obstacle-added}
 use Rattle.image_source.proofs.search.add_leg.Goals as goal

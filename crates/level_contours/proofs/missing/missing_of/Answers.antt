@@ -1,6 +1,6 @@
 use Rattle.std.proofs.Common.{◌≡◌, ◌∙◌, ap, subst, not, ℕ, List}
 use Rattle.std.specs.Prelude.{Option, find, is_some, IfOk}
-use Rattle.scene_parts.specs.Views.{Receiver}
+use Rattle.scene_parts.specs.Parts.{Receiver}
 use Rattle.scene_book.specs.Lists.{named}
 use Rattle.level_contours.specs.GridNames.{names_of, first_missing_of}
 use Rattle.level_contours.specs.inner.Filing.{is_absent}

@@ -1,6 +1,6 @@
 use Rattle.std.proofs.Common.{arith}
 use Rattle.std.proofs.lemmas.List.{length-take, drop_all}
-use Rattle.scene_parts.specs.Views.{Source}
+use Rattle.scene_parts.specs.Parts.{Source}
 use Rattle.line_sources.specs.Pieces.{sources_of}
 use Rattle.line_sources.proofs.SourceLemmas.{point-step, no_side-left}
 use Rattle.line_sources.proofs.sources.first_sources.Goals as goal

@@ -2,7 +2,7 @@
 use Rattle.std.proofs.Common.{◌≡◌, drop}
 use Rattle.std.specs.Prelude.{bytes_eq}
 use Rattle.std.specs.List.{list_any}
-use Rattle.scene_parts.specs.Views.{Obstacle}
+use Rattle.scene_parts.specs.Parts.{Obstacle}
 use Rattle.map_board.proofs.scenes.has_obstacle.Given as goal
 
 abbrev pub invariant-loop-obstacle : goal.invariant-loop-obstacle

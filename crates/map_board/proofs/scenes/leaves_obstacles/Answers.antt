@@ -1,7 +1,7 @@
 use Rattle.std.proofs.Common.{◌≡◌, ◌∙◌, ap, sym, subst, refl, true, false, Bool}
 use Rattle.std.specs.Prelude.{not, bytes_eq}
 use Rattle.std.specs.List.{list_any}
-use Rattle.scene_parts.specs.Views.{Obstacle}
+use Rattle.scene_parts.specs.Parts.{Obstacle}
 use Rattle.scene_book.specs.declared.edits.Edit.{Edit}
 use Rattle.map_board.specs.inner.Sources.{LeavesObstacles}
 use Rattle.map_board.proofs.LeftObstacles.{put-leaves, removal-leaves, grid-leaves, set-leaves}

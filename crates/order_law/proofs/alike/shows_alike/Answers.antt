@@ -1,7 +1,6 @@
 use Rattle.std.proofs.Common.{subst, List}
 use Rattle.std.specs.Prelude.{All}
-use Rattle.scene_parts.specs.Views.{Zone, Foliage}
-use Rattle.scene_parts.specs.Ranges.{AreGlobals}
+use Rattle.scene_parts.specs.Parts.{Zone, Foliage, AreGlobals}
 use Rattle.scene_undo.specs.Scenes.{IsZoneWithin, IsFoliageWithin}
 use Rattle.order_law.proofs.Shown.{scene-alike}
 use Rattle.order_law.proofs.alike.shows_alike.Goals as goal

@@ -1,7 +1,7 @@
 use Rattle.std.proofs.Common.{◌≡◌, ◌+◌, ◌<◌, ◌≤◌, List, length, get_or, sym, ap, ◌∙◌, subst, arith}
 use Rattle.std.specs.Prelude.{All, count_by, slice_get, slice_set}
 use Rattle.std.proofs.lemmas.List.{take_all, length-map, get_or-map}
-use Rattle.scene_parts.specs.Views.{Source}
+use Rattle.scene_parts.specs.Parts.{Source}
 use Rattle.path_calc.specs.Bundles.{Bundle}
 use Rattle.path_calc.specs.Prepared.{PreparedSource, prepared_of}
 use Rattle.path_cache.specs.declared.replacing.Replaced.{Replaced}

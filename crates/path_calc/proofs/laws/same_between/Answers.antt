@@ -1,5 +1,5 @@
 use Rattle.std.proofs.Common.{ap, ◌∙◌}
-use Rattle.scene_parts.specs.Views.{Globals}
+use Rattle.scene_parts.specs.Parts.{Globals}
 use Rattle.path_calc.specs.Surroundings.{Surroundings, surroundings_of}
 use Rattle.path_calc.specs.Bundles.{bundle_over}
 use Rattle.path_calc.proofs.laws.same_between.Goals as goal

@@ -1,5 +1,5 @@
 use Rattle.std.proofs.Common.{◌<◌, ◌+◌, ◌-◌, ◌++◌, ◌∷◌, [], List, ◌∙◌, sym, ap, append_assoc, arith}
-use Rattle.scene_parts.specs.Views.{Receiver}
+use Rattle.scene_parts.specs.Parts.{Receiver}
 use Rattle.scene_book.specs.Grid.{columns_from, receiver_at}
 use Rattle.scene_book.proofs.GridLemmas.{columns-step}
 use Rattle.scene_book.proofs.grids.add_row.Goals as goal

@@ -1,5 +1,5 @@
 use Rattle.std.proofs.Common.{◌≡◌, ◌<◌, ◌+◌, ◌-◌, ◌++◌, List, ◌∙◌, sym, ap, append_assoc, rules, arith}
-use Rattle.scene_parts.specs.Views.{Receiver, Grid}
+use Rattle.scene_parts.specs.Parts.{Receiver, Grid}
 use Rattle.scene_book.specs.Grid.{columns_from, rows_from, receivers_of}
 use Rattle.scene_book.proofs.GridLemmas.{rows-step, rows-apart}
 use Rattle.scene_book.proofs.grids.receivers.Goals as goal

@@ -1,6 +1,6 @@
 use Rattle.std.proofs.Common.{◌≡◌, ◌*◌, true, sym, ap, ◌∙◌, subst}
 use Rattle.std.specs.Prelude.{nat_lt, IsErr}
-use Rattle.scene_parts.specs.Views.{Grid}
+use Rattle.scene_parts.specs.Parts.{Grid}
 use Rattle.scene_book.specs.Applying.{apply_of}
 use Rattle.scene_book.specs.declared.edits.Edit.{Edit}
 use Rattle.scene_undo.proofs.KeptVersions.{large-refused}

@@ -1,6 +1,6 @@
 use Rattle.std.proofs.Common.{◌≡◌, ◌++◌, ◌∙◌, [], drop, ap, sym, append-nil, arith}
 use Rattle.std.proofs.lemmas.List.{drop_all}
-use Rattle.scene_parts.specs.Sides.{sides_of}
+use Rattle.scene_parts.specs.Parts.{sides_of}
 use Rattle.sight_cut.specs.Cuts.{crossings_along, crossings_from}
 use Rattle.sight_cut.proofs.Found.{obstacle-added}
 use Rattle.sight_cut.proofs.cutting.find_crossings.Goals as goal

@@ -1,7 +1,7 @@
 use Rattle.std.proofs.Common.{◌≡◌, ◌++◌, ◌∙◌, [], drop, map, ap, sym, append-nil, arith}
 use Rattle.std.specs.List.{enumerate_from}
 use Rattle.std.proofs.lemmas.List.{drop_all}
-use Rattle.scene_parts.specs.Sides.{sides_of}
+use Rattle.scene_parts.specs.Parts.{sides_of}
 use Rattle.part_grid.specs.Numbered.{owned_by}
 use Rattle.sight_cut.proofs.Nearby.{side-numbered}
 use Rattle.sight_cut.proofs.near.add_sides.Goals as goal

@@ -1,7 +1,7 @@
 -- The sides that are there, and those behind, are all sides.
 use Rattle.std.proofs.Common.{◌≡◌, ◌++◌, drop, map}
 use Rattle.std.specs.List.{enumerate_from}
-use Rattle.scene_parts.specs.Sides.{sides_of}
+use Rattle.scene_parts.specs.Parts.{sides_of}
 use Rattle.part_grid.specs.Numbered.{owned_by, numbered_sides}
 use Rattle.sight_cut.proofs.near.add_sides.Given as goal
 

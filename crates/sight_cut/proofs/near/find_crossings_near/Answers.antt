@@ -1,7 +1,7 @@
 use Rattle.std.proofs.Common.{◌≡◌, take, ◌∙◌, ap, arith, length}
 use Rattle.std.specs.List.{filter_map}
 use Rattle.std.proofs.lemmas.List.{take_all}
-use Rattle.scene_parts.specs.Sides.{sides_of}
+use Rattle.scene_parts.specs.Parts.{sides_of}
 use Rattle.part_grid.specs.Near.{sides_near}
 use Rattle.part_grid.proofs.Numbered.{obstacle-within}
 use Rattle.sight_cut.proofs.Nearby.{near_sides, near_crossing, near-at, near-are-all, side-added}

@@ -1,5 +1,5 @@
 use Rattle.std.proofs.Common.{◌++◌, ◌∙◌, ap, arith}
-use Rattle.scene_parts.specs.Sides.{sides_of}
+use Rattle.scene_parts.specs.Parts.{sides_of}
 use Rattle.part_grid.specs.Numbered.{numbered_sides}
 use Rattle.sight_cut.proofs.Nearby.{obstacle-numbered}
 use Rattle.sight_cut.proofs.near.grid_of.Goals as goal

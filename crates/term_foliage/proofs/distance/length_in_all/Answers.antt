@@ -1,7 +1,7 @@
 use Rattle.std.proofs.Common.{arith, ap, sym, ◌∙◌, map, List}
 use Rattle.std.proofs.lemmas.List.{drop_all}
 use Rattle.fix_interval.specs.Tree.{enc}
-use Rattle.scene_parts.specs.Views.{Foliage}
+use Rattle.scene_parts.specs.Parts.{Foliage}
 use Rattle.term_foliage.specs.Foliage.{lengths_in}
 use Rattle.term_foliage.specs.inner.Distances.{with_length, with_lengths}
 use Rattle.term_foliage.proofs.Counting.{drop-step, lengths-step, from-none}

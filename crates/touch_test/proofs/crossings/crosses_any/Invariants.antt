@@ -1,7 +1,7 @@
 -- No side crosses a segment so far.
 use Rattle.std.proofs.Common.{◌≡◌, false, take}
 use Rattle.std.specs.List.{list_any}
-use Rattle.scene_parts.specs.Sides.{sides_of}
+use Rattle.scene_parts.specs.Parts.{sides_of}
 use Rattle.touch_test.specs.Crossings.{crosses_segment}
 use Rattle.touch_test.proofs.crossings.crosses_any.Given as goal
 

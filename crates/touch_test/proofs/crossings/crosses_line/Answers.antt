@@ -1,8 +1,7 @@
 use Rattle.std.proofs.Common.{ap, sym, ◌∙◌}
 use Rattle.scene_geom.specs.declared.plan.Side.{Side}
 use Rattle.scene_geom.specs.Direction.{direct}
-use Rattle.scene_parts.specs.Sides.{sides_of}
-use Rattle.scene_parts.specs.Views.{Obstacle}
+use Rattle.scene_parts.specs.Parts.{sides_of, Obstacle}
 use Rattle.touch_test.specs.Envelopes.{lies_beyond}
 use Rattle.touch_test.specs.Crossings.{crosses_line}
 use Rattle.path_shape.specs.Outlines.{whole}

@@ -1,7 +1,7 @@
 -- No side so far crosses the way.
 use Rattle.std.proofs.Common.{◌≡◌, false, take}
 use Rattle.std.specs.List.{list_any}
-use Rattle.scene_parts.specs.Sides.{sides_of}
+use Rattle.scene_parts.specs.Parts.{sides_of}
 use Rattle.touch_test.specs.Crossings.{crosses_line}
 use Rattle.touch_test.proofs.crossings.crosses_line.Given as goal
 

@@ -1,5 +1,5 @@
 use Rattle.scene_geom.specs.declared.plan.Side.{Side}
-use Rattle.scene_parts.specs.Sides.{sides_of}
+use Rattle.scene_parts.specs.Parts.{sides_of}
 use Rattle.touch_test.specs.Crossings.{crosses_legs}
 use Rattle.touch_test.proofs.Lists.{passes-there, fails-too}
 use Rattle.touch_test.proofs.crossings.crosses_reflection.Goals as goal

@@ -1,7 +1,7 @@
 -- No side so far crosses a leg.
 use Rattle.std.proofs.Common.{◌≡◌, false, take}
 use Rattle.std.specs.List.{list_any}
-use Rattle.scene_parts.specs.Sides.{sides_of}
+use Rattle.scene_parts.specs.Parts.{sides_of}
 use Rattle.touch_test.specs.Crossings.{crosses_legs}
 use Rattle.touch_test.proofs.crossings.crosses_reflection.Given as goal
 

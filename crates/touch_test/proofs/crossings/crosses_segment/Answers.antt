@@ -2,7 +2,7 @@ use Rattle.std.proofs.Common.{ap, sym, ◌∙◌}
 use Rattle.std.specs.List.{list_any}
 use Rattle.scene_geom.specs.declared.plan.Side.{Side}
 use Rattle.scene_geom.specs.declared.reflection.Reflection.{Reflection}
-use Rattle.scene_parts.specs.Sides.{sides_of}
+use Rattle.scene_parts.specs.Parts.{sides_of}
 use Rattle.path_calc.specs.declared.bundles.segments.Seg.{Seg}
 use Rattle.touch_test.specs.Crossings.{crosses_legs, crosses_segment}
 use Rattle.touch_test.proofs.crossings.crosses_segment.Goals as goal

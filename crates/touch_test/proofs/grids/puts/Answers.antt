@@ -1,7 +1,7 @@
 use Rattle.std.proofs.Common.{ap, ◌∙◌}
 use Rattle.std.specs.Prelude.{bytes_eq}
 use Rattle.std.specs.List.{list_any}
-use Rattle.scene_parts.specs.Views.{Receiver, Grid}
+use Rattle.scene_parts.specs.Parts.{Receiver, Grid}
 use Rattle.scene_book.specs.Grid.{receivers_of}
 use Rattle.touch_test.proofs.Receivers.{puts-none, puts-some}
 use Rattle.touch_test.proofs.grids.puts.Goals as goal

@@ -1,7 +1,6 @@
 use Rattle.std.proofs.Common.{ap, sym, ◌∙◌}
 use Rattle.scene_geom.specs.declared.plan.Side.{Side}
-use Rattle.scene_parts.specs.Views.{Obstacle}
-use Rattle.scene_parts.specs.Sides.{sides_of}
+use Rattle.scene_parts.specs.Parts.{Obstacle, sides_of}
 use Rattle.image_source.specs.Mirrors.{has_mirror}
 use Rattle.touch_test.proofs.Lists.{passes-there, fails-too}
 use Rattle.touch_test.proofs.Pieces.{absorbs}

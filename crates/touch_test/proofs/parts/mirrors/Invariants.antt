@@ -1,7 +1,7 @@
 -- No side so far mirrors the source to the receiver.
 use Rattle.std.proofs.Common.{◌≡◌, false, take}
 use Rattle.std.specs.List.{list_any}
-use Rattle.scene_parts.specs.Sides.{sides_of}
+use Rattle.scene_parts.specs.Parts.{sides_of}
 use Rattle.image_source.specs.Mirrors.{has_mirror}
 use Rattle.touch_test.proofs.parts.mirrors.Given as goal
 

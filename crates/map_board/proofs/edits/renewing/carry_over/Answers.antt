@@ -1,6 +1,6 @@
 use Rattle.std.proofs.Common.{◌≡◌, ◌∙◌, ◌<◌, ℕ, ap, sym, subst, arith, length, List}
 use Rattle.std.specs.Prelude.{slice_get, Some, Option, IfSome, IsSomeAnd}
-use Rattle.scene_parts.specs.Views.{Receiver}
+use Rattle.scene_parts.specs.Parts.{Receiver}
 use Rattle.map_board.specs.declared.rows.HeldRow.{HeldRow}
 use Rattle.map_board.specs.Boards.{rows_of}
 use Rattle.map_board.specs.inner.Boards.{EachHolds, EmptyFrom}

@@ -1,6 +1,6 @@
 use Rattle.std.proofs.Common.{◌≡◌, ◌∙◌, ap, sym, refl, true, List, Some, None}
 use Rattle.std.specs.Prelude.{Option}
-use Rattle.scene_parts.specs.Views.{Receiver}
+use Rattle.scene_parts.specs.Parts.{Receiver}
 use Rattle.scene_parts.specs.declared.parts.Part.{Part}
 use Rattle.scene_parts.specs.declared.parts.Part.TheVariants as parts
 use Rattle.scene_book.specs.Lists.{place_of}

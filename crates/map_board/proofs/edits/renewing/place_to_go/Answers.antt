@@ -1,5 +1,5 @@
 use Rattle.std.proofs.Common.{◌∙◌, ap, sym}
-use Rattle.scene_parts.specs.Views.{Receiver}
+use Rattle.scene_parts.specs.Parts.{Receiver}
 use Rattle.scene_book.specs.Lists.{place_of}
 use Rattle.scene_book.specs.declared.edits.Edit.{Edit}
 use Rattle.map_board.specs.inner.Changes.{named_place}

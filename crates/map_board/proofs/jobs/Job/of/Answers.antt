@@ -2,7 +2,7 @@ use Rattle.std.proofs.Common.{◌≡◌, ℕ, ◌<◌, length, refl, sym, subst,
 use Rattle.std.specs.Prelude.{Option, Result, Ok, Err, IfOk, IfSome, Some, slice_get, slice_index_or}
 use Rattle.std.specs.Result.{result_ok}
 use Rattle.std.proofs.lemmas.Option.{slice_get_read}
-use Rattle.scene_parts.specs.Views.{Receiver}
+use Rattle.scene_parts.specs.Parts.{Receiver}
 use Rattle.scene_book.specs.Book.{Book}
 use Rattle.path_cache.specs.Standing.{AreOfEach}
 use Rattle.map_board.specs.declared.scenes.PreparedScene.{PreparedScene}

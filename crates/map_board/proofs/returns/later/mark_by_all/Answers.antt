@@ -1,5 +1,5 @@
 use Rattle.std.proofs.Common.{◌≡◌, ◌∙◌, ℕ, ◌+◌, ◌<◌, ◌∷◌, ap, sym, suc, length, drop, get_or, drop-cons, add-one, List, Bool, Vec, Global}
-use Rattle.scene_parts.specs.Views.{Receiver}
+use Rattle.scene_parts.specs.Parts.{Receiver}
 use Rattle.path_calc.specs.Bundles.{Bundle}
 use Rattle.touch_test.specs.Touches.{bundled, edit_touches}
 use Rattle.map_board.specs.declared.edits.log.LogEntry.{LogEntry}

@@ -1,8 +1,8 @@
 use Rattle.std.proofs.Common.{◌≡◌, ℕ, ◌+◌, ◌-◌, ◌≤◌, sym, ap, ◌∙◌, subst, arith, length, add-one, drop, List, [], ◌∷◌, ◌++◌, Ok}
 use Rattle.std.specs.Prelude.{All}
 use Rattle.std.proofs.lemmas.List.{length_push}
-use Rattle.scene_parts.specs.Views.{Receiver}
-use Rattle.scene_book.specs.Limits.{most_receivers}
+use Rattle.scene_parts.specs.Parts.{Receiver}
+use Rattle.scene_book.specs.Book.{most_receivers}
 use Rattle.scene_book.specs.Applying.{apply_of}
 use Rattle.scene_book.specs.declared.edits.Edit.{Edit}
 use Rattle.map_board.specs.Journal.{newest_scene}

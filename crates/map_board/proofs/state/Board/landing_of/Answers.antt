@@ -1,7 +1,7 @@
 use Rattle.std.proofs.Common.{◌≡◌, ◌-◌, ◌∙◌, ap, sym, subst, arith, length, length-drop, drop, get_or, List, Some}
 use Rattle.std.specs.Prelude.{slice_get}
 use Rattle.std.proofs.lemmas.Option.{slice_get_within, get_or_from_slice_get}
-use Rattle.scene_parts.specs.Views.{Receiver}
+use Rattle.scene_parts.specs.Parts.{Receiver}
 use Rattle.map_board.specs.declared.edits.log.LogEntry.{LogEntry}
 use Rattle.map_board.specs.Rows.{Row, State, row_named, version_out}
 use Rattle.map_board.proofs.Keeping.{IsOut, row-out}

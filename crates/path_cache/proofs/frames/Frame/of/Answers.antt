@@ -2,7 +2,7 @@ use Rattle.std.proofs.Common.{◌<◌, take, length, subst, sym, ◌∙◌, arit
 use Rattle.std.proofs.lemmas.Grind.{common_steps}
 use Rattle.std.proofs.lemmas.List.{take_all}
 use Rattle.std.proofs.lemmas.List.Elements.{All-more, All-weaker}
-use Rattle.scene_parts.specs.Views.{Source}
+use Rattle.scene_parts.specs.Parts.{Source}
 use Rattle.path_cache.specs.Frames.{IsIn, Holds}
 use Rattle.path_cache.proofs.Framing.{one-lies}
 use Rattle.path_cache.proofs.frames.Frame.of.Goals as goal

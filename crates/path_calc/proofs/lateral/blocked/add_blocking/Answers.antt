@@ -2,7 +2,7 @@ use Rattle.std.proofs.Common.{◌≡◌, take, ◌∙◌, ap, arith, length}
 use Rattle.std.specs.Prelude.{◌||◌}
 use Rattle.std.specs.List.{list_any}
 use Rattle.std.proofs.lemmas.List.{take_all}
-use Rattle.scene_parts.specs.Sides.{sides_of}
+use Rattle.scene_parts.specs.Parts.{sides_of}
 use Rattle.part_grid.specs.Near.{sides_near}
 use Rattle.part_grid.proofs.Numbered.{obstacle-within, looked_any}
 use Rattle.path_calc.specs.inner.Strings.{is_within}

@@ -1,7 +1,7 @@
 use Rattle.std.proofs.Common.{◌∙◌, ap, List}
 use Rattle.std.specs.List.{list_any}
 use Rattle.std.proofs.lemmas.List.{take_all}
-use Rattle.scene_parts.specs.Views.{Obstacle}
+use Rattle.scene_parts.specs.Parts.{Obstacle}
 use Rattle.path_calc.specs.LateralPaths.{is_in_the_way}
 use Rattle.path_calc.specs.inner.Strings.{is_within}
 use Rattle.path_calc.proofs.Barred.{breadth-counts}

@@ -1,5 +1,5 @@
 use Rattle.edge_chain.specs.Chain.{blocks_chain}
-use Rattle.scene_parts.specs.Sides.{sides_of}
+use Rattle.scene_parts.specs.Parts.{sides_of}
 use Rattle.path_calc.proofs.Stretching.{side-crosses, side-passed}
 use Rattle.path_calc.proofs.lateral.blocked.obstructs.Goals as goal
 

@@ -1,7 +1,7 @@
 -- No side so far crosses the string.
 use Rattle.std.proofs.Common.{◌≡◌, false, take}
 use Rattle.std.specs.List.{list_any}
-use Rattle.scene_parts.specs.Sides.{sides_of}
+use Rattle.scene_parts.specs.Parts.{sides_of}
 use Rattle.edge_chain.specs.Chain.{blocks_chain}
 use Rattle.path_calc.proofs.lateral.blocked.obstructs.Given as goal
 

@@ -1,6 +1,5 @@
 use Rattle.std.proofs.Common.{ℕ, List, length, sym, arith}
-use Rattle.scene_parts.specs.Views.{Obstacle}
-use Rattle.scene_parts.specs.Sides.{sides_of}
+use Rattle.scene_parts.specs.Parts.{Obstacle, sides_of}
 use Rattle.scene_parts.proofs.SideLemmas.{no_more_sides}
 use Rattle.scene_book.proofs.ListLemmas.{sum-put_in-there, sum-put_in-new, total-there}
 use Rattle.scene_book.proofs.scene.Scene.sides_with.Goals as goal

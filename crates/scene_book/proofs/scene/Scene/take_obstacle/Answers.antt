@@ -1,8 +1,7 @@
 use Rattle.std.proofs.Common.{◌≡◌, ◌≤◌, ℕ, List, length, sym, ◌∙◌, arith}
 use Rattle.std.specs.Prelude.{Some}
-use Rattle.scene_parts.specs.Views.{Obstacle}
-use Rattle.scene_parts.specs.Sides.{sides_of}
-use Rattle.scene_book.specs.Limits.{most_obstacles}
+use Rattle.scene_parts.specs.Parts.{Obstacle, sides_of}
+use Rattle.scene_book.specs.Book.{most_obstacles}
 use Rattle.scene_book.specs.Lists.{named}
 use Rattle.scene_book.proofs.ListLemmas.{sum-take_out, total-there}
 use Rattle.scene_book.proofs.scene.Scene.take_obstacle.Goals as goal

@@ -1,7 +1,7 @@
 use Rattle.std.proofs.Common.{◌≡◌, ◌++◌, ◌∙◌, [], drop, map, ap, sym, append-nil, arith}
 use Rattle.std.specs.Prelude.{List, flat_map}
 use Rattle.std.proofs.lemmas.List.{drop_all}
-use Rattle.scene_parts.specs.Views.{Obstacle}
+use Rattle.scene_parts.specs.Parts.{Obstacle}
 use Rattle.path_calc.specs.ReflectedPaths.{reflected_by}
 use Rattle.path_calc.specs.inner.Hearing.{reflected_of}
 use Rattle.path_calc.proofs.Reflecting.{obstacle-added, few-found}

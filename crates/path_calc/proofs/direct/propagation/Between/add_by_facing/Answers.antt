@@ -3,7 +3,7 @@ use Rattle.std.specs.Prelude.{Some, None, slice_get}
 use Rattle.std.specs.List.{filter_map}
 use Rattle.std.proofs.lemmas.List.{drop_all}
 use Rattle.std.proofs.lemmas.Option.{slice_get_within}
-use Rattle.scene_parts.specs.Sides.{sides_of}
+use Rattle.scene_parts.specs.Parts.{sides_of}
 use Rattle.part_grid.specs.declared.owned.Owned.{Owned}
 use Rattle.image_source.specs.Facing.{FacingSide}
 use Rattle.path_calc.specs.ReflectedPaths.{ReflectedPath, reflected_in}

@@ -1,6 +1,5 @@
 use Rattle.std.proofs.Common.{◌∙◌, ap, sym}
-use Rattle.scene_parts.specs.Views.{Obstacle}
-use Rattle.scene_parts.specs.Sides.{sides_of}
+use Rattle.scene_parts.specs.Parts.{Obstacle, sides_of}
 use Rattle.path_calc.proofs.Reflecting.{side-added, nothing-reflected}
 use Rattle.path_calc.proofs.direct.propagation.Between.add_reflected.Goals as goal
 

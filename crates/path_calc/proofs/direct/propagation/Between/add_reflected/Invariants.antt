@@ -1,6 +1,6 @@
 -- What is found, and what the sides behind give, is what all sides give.
 use Rattle.std.proofs.Common.{◌≡◌, ◌++◌, drop, map}
-use Rattle.scene_parts.specs.Sides.{sides_of}
+use Rattle.scene_parts.specs.Parts.{sides_of}
 use Rattle.path_calc.specs.ReflectedPaths.{reflected_by}
 use Rattle.path_calc.specs.inner.Hearing.{reflected_of}
 use Rattle.path_calc.proofs.Reflecting.{by_sides}

@@ -2,7 +2,7 @@ use Rattle.std.proofs.Common.{ap, sym, ◌∙◌, map}
 use Rattle.fix_interval.specs.Tree.{enc}
 use Rattle.scene_geom.specs.Bands.{all_bands}
 use Rattle.scene_geom.specs.declared.reflection.Reflection.{Reflection}
-use Rattle.scene_parts.specs.Views.{Obstacle}
+use Rattle.scene_parts.specs.Parts.{Obstacle}
 use Rattle.path_calc.specs.Lengths.{reflected_distance}
 use Rattle.path_calc.specs.Contributions.{reflection_level}
 use Rattle.path_calc.specs.inner.Hearing.{counts_on}

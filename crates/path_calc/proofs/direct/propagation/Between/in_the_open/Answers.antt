@@ -1,5 +1,5 @@
 use Rattle.std.proofs.Common.{rules, arith, sym, ap, ◌∙◌}
-use Rattle.scene_parts.specs.Views.{Globals}
+use Rattle.scene_parts.specs.Parts.{Globals}
 use Rattle.path_shape.proofs.Lengths.{paths-have_lengths}
 use Rattle.path_shape.specs.Shape.{square_form}
 use Rattle.energy_sum.specs.Weather.{IsLengthInPlan}

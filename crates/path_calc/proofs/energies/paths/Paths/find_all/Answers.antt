@@ -11,7 +11,7 @@ use Rattle.term_barrier.specs.Edges.{FitsEdge}
 use Rattle.path_calc.specs.Lengths.{distance}
 use Rattle.path_calc.specs.ReflectedPaths.{reflected_paths}
 use Rattle.path_calc.specs.Surroundings.{path_of, ends_of}
-use Rattle.scene_parts.specs.Views.{Source, Receiver}
+use Rattle.scene_parts.specs.Parts.{Source, Receiver}
 use Rattle.scene_geom.specs.Fraction.{over}
 use Rattle.path_shape.specs.Shape.{plan_square}
 use Rattle.path_shape.specs.declared.path.Path.{Path}
