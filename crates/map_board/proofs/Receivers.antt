@@ -4,11 +4,11 @@ use Rattle.std.specs.Prelude.{bytes_eq, Option, Result, Ok, Err, All, nat_lt}
 use Rattle.std.proofs.lemmas.Bool.{ltb-false}
 use Rattle.std.proofs.lemmas.List.Elements.{All-nil, All-cons, All-head, All-tail}
 use Rattle.scene_parts.specs.Answers.{◌>>◌}
-use Rattle.scene_parts.specs.Parts.{Receiver}
+use Rattle.scene_parts.specs.Parts.{Receiver, globals_with}
 use Rattle.scene_parts.specs.declared.parts.Part.{Part}
 use Rattle.scene_parts.specs.declared.parts.Part.TheVariants as parts
 use Rattle.scene_parts.specs.declared.parts.Class.TheVariants as classes
-use Rattle.scene_book.specs.Book.{Book, globals_with, at_most, most_receivers}
+use Rattle.scene_book.specs.Book.{Book, at_most, most_receivers}
 use Rattle.scene_book.specs.Grid.{receivers_of}
 use Rattle.scene_book.specs.Lists.{named, put_in, take_out, put_all, NoneNamed, AreApart}
 use Rattle.scene_book.specs.Applying.{apply_of, put_of, put_where_room, remove_of, grid_of, taken, part_named, in_limits, with_part, without, own_class, name_of, class_of, holder, all_own, replaced, with_receivers}

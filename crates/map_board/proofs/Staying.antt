@@ -4,10 +4,10 @@ use Rattle.std.specs.Prelude.{bytes_eq, not, nat_lt, slice_get, Option, Ok, IfSo
 use Rattle.std.specs.List.{list_any, position_or_len, remove}
 use Rattle.std.proofs.lemmas.Bool.{ltb-false, ltb-true}
 use Rattle.std.proofs.Math.Nat.{mul-suc, mul-zero}
-use Rattle.scene_parts.specs.Parts.{Receiver, Grid}
+use Rattle.scene_parts.specs.Parts.{Receiver, Grid, globals_with}
 use Rattle.scene_parts.specs.declared.parts.Part.{Part}
 use Rattle.scene_parts.specs.declared.parts.Part.TheVariants as parts
-use Rattle.scene_book.specs.Book.{Book, globals_with, at_most, most_receivers}
+use Rattle.scene_book.specs.Book.{Book, at_most, most_receivers}
 use Rattle.scene_book.specs.Grid.{receivers_of, columns_from, rows_from}
 use Rattle.scene_book.specs.Lists.{place_of, put_in, take_out, put_all}
 use Rattle.scene_book.specs.Applying.{apply_of, grid_of, with_part, without, all_own, with_receivers}

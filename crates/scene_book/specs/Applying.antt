@@ -1,6 +1,6 @@
 -- What an edit makes of a scene.
 use Rattle.std.specs.Prelude.{ℕ, ◌*◌, List, [], ◌∷◌, length, ◌==◌, Bool, true, false, Option, Some, None, option_map, Result, Ok, Err, if◌then◌else◌}
-use Rattle.scene_parts.specs.Parts.{Receiver, Grid, Setting}
+use Rattle.scene_parts.specs.Parts.{Receiver, Grid, Setting, globals_with}
 use Rattle.scene_parts.specs.declared.parts.Part.{Part}
 use Rattle.scene_parts.specs.declared.parts.Class.{Class}
 use Rattle.scene_parts.specs.declared.parts.Class.TheVariants as classes
@@ -9,7 +9,7 @@ use Rattle.scene_book.specs.declared.edits.Edit.TheVariants as edits
 use Rattle.scene_book.specs.declared.edits.EditFault.{EditFault}
 use Rattle.scene_book.specs.declared.edits.EditFault.TheVariants.{NoMemory, NoSuchName, OtherClass}
 use Rattle.scene_parts.specs.Answers.{◌>>=◌, ◌>>◌, MatchesUnlessMemory}
-use Rattle.scene_book.specs.Book.{most_receivers, Book, class_number, at_most, by_slot, first_of_slots, globals_with}
+use Rattle.scene_book.specs.Book.{most_receivers, Book, class_number, at_most, by_slot, first_of_slots}
 use Rattle.scene_book.specs.Lists.{named, put_in, take_out, put_all}
 use Rattle.scene_book.specs.Grid.{receivers_of}
 

@@ -1,9 +1,8 @@
 -- Scenes: the parts of each class in the order of insertion, and what holds of the whole scene.
-use Rattle.std.specs.Prelude.{◌≡◌, ℕ, ◌≤◌, List, [], ◌++◌, length, unwrap_or, nat_lt, Option, Result, Ok, Err, if◌then◌else◌}
+use Rattle.std.specs.Prelude.{◌≡◌, ℕ, ◌≤◌, List, [], ◌++◌, length, nat_lt, Option, Result, Ok, Err, if◌then◌else◌}
 use Rattle.std.specs.Option.{option_or}
 use Rattle.scene_book.specs.Lists.{total, AreApart}
-use Rattle.scene_parts.specs.Limits.{farthest_reach}
-use Rattle.scene_parts.specs.Parts.{Source, Obstacle, Zone, Foliage, Receiver, Globals, Setting, sides_of}
+use Rattle.scene_parts.specs.Parts.{Source, Obstacle, Zone, Foliage, Receiver, Globals, Setting, default_globals, globals_with, sides_of}
 use Rattle.scene_parts.specs.Answers.{◌>>◌}
 use Rattle.scene_parts.specs.declared.parts.Part.{Part}
 use Rattle.scene_parts.specs.declared.parts.Part.TheVariants as parts
@@ -11,8 +10,6 @@ use Rattle.scene_parts.specs.declared.parts.Class.{Class}
 use Rattle.scene_parts.specs.declared.parts.Class.TheVariants as classes
 use Rattle.scene_parts.specs.declared.kinds.Shape.{Shape}
 use Rattle.scene_parts.specs.declared.kinds.Shape.TheVariants as shapes
-use Rattle.scene_parts.specs.declared.kinds.Air.TheVariants.{Celsius10Humidity70}
-use Rattle.scene_parts.specs.declared.kinds.Ground.TheVariants.{General}
 use Rattle.scene_book.specs.declared.edits.EditFault.{EditFault}
 use Rattle.scene_book.specs.declared.edits.EditFault.TheVariants.{Full}
 
@@ -24,11 +21,7 @@ pub record Book : Type 0 where
   pub receivers : List Receiver
   pub globals : Globals
 
--- a scene without parts: sources reach 4 km, the ground is hard, the air has 10 °C and 70 %, C0 is 0, and the ground
--- goes by the general method
-abbrev pub default_globals : Globals
-default_globals = record { reach = farthest_reach; g = 0; air = Celsius10Humidity70; c0 = 0; method = General }
-
+-- a scene without parts, in which nothing is set
 abbrev pub empty_book : Book
 empty_book =
     record { sources = []; obstacles = []; zones = []; foliage = []; receivers = []; globals = default_globals }
@@ -36,16 +29,6 @@ empty_book =
 -- the sides of barriers and buildings together
 abbrev pub side_total : List Obstacle → ℕ
 side_total obstacles = total (λ obstacle. length (sides_of obstacle)) obstacles
-
--- the globals with the values that a setting gives
-abbrev pub globals_with : Setting → Globals → Globals
-globals_with setting globals = record {
-  reach = unwrap_or setting.reach globals.reach;
-  g = unwrap_or setting.g globals.g;
-  air = unwrap_or setting.air globals.air;
-  c0 = unwrap_or setting.c0 globals.c0;
-  method = unwrap_or setting.method globals.method;
-}
 
 abbrev pub with_setting : Setting → Book → Book
 with_setting setting book = record book { globals = globals_with setting book.globals }

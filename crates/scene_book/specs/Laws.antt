@@ -2,11 +2,12 @@
 use Rattle.std.specs.Prelude.{◌≡◌, Bool, false, List, [], ◌∷◌, ◌++◌, Option, Some, None, Ok, flat_map, filter, ℕ}
 use Rattle.std.specs.List.{list_any}
 use Rattle.std.specs.Option.{option_to_list}
+use Rattle.scene_parts.specs.Parts.{globals_with}
 use Rattle.scene_parts.specs.declared.parts.Part.{Part}
 use Rattle.scene_book.specs.declared.edits.Edit.{Edit}
 use Rattle.scene_book.specs.declared.edits.Edit.TheVariants as edits
 use Rattle.scene_book.specs.Lists.{named, put_in, take_out}
-use Rattle.scene_book.specs.Book.{Book, OfEachSlot, by_slot, empty_book, globals_with}
+use Rattle.scene_book.specs.Book.{Book, OfEachSlot, by_slot, empty_book}
 use Rattle.scene_book.specs.Grid.{receivers_of}
 use Rattle.scene_book.specs.Applying.{apply_of, replaced, part_named, with_receivers}
 

@@ -11,9 +11,8 @@ use super::limits::at_most;
 use super::named::{MAX_SIDES, shape_class};
 use super::register::{Named, part_like};
 use super::shared::Shared;
-use scene_parts::limits::MAX_REACH;
 use scene_parts::{
-    Air, Class, Foliage, Globals, Ground, NoMemory, Obstacle, Part, PointSource, Receiver, SetSpec,
+    Class, Foliage, Globals, NoMemory, Obstacle, Part, PointSource, Receiver, SetSpec,
     Zone, sides,
 };
 use std::alloc::Global;
@@ -56,13 +55,7 @@ impl Scene {
             foliage: Shared::new(),
             receivers: Shared::new(),
             sides: 0,
-            globals: Globals {
-                reach: MAX_REACH,
-                g: 0,
-                air: Air::Celsius10Humidity70,
-                c0: 0,
-                ground: Ground::General,
-            },
+            globals: Globals::initial(),
         })
     }
 
@@ -315,12 +308,6 @@ impl Scene {
     pub(crate) fn set(&mut self, setting: &SetSpec)
         ensures { self.new ≡ with_setting setting.now self.old }
     {
-        self.globals = Globals {
-            reach: setting.reach.unwrap_or(self.globals.reach),
-            g: setting.g.unwrap_or(self.globals.g),
-            air: setting.air.unwrap_or(self.globals.air),
-            c0: setting.c0.unwrap_or(self.globals.c0),
-            ground: setting.ground.unwrap_or(self.globals.ground),
-        };
+        self.globals = self.globals.with(setting);
     }
 }

@@ -22,7 +22,7 @@ use Rattle.scene_parts.specs.declared.checks.checking.RawPart.{RawPart}
 use Rattle.scene_parts.specs.declared.checks.checking.RawPart.TheVariants as raw
 use Rattle.scene_parts.specs.declared.checks.checked.Checked.{Checked}
 use Rattle.scene_parts.specs.declared.checks.checked.Checked.TheVariants as checked
-use Rattle.scene_parts.specs.Limits.{most_corners, most_columns, widest_step, plan_end, farthest_reach, greatest_height, least_density}
+use Rattle.scene_parts.specs.Limits.{most_corners, most_columns, widest_step, plan_end, farthest_reach, greatest_height, greatest_ground_factor, greatest_c0, least_density, greatest_density, full_reflection}
 use Rattle.scene_parts.specs.Sides.{sides_in, squared_length, is_short, floor_root}
 use Rattle.scene_parts.specs.Parts.{is_flat, is_mirror, least_corners, last_place}
 use Rattle.scene_parts.specs.Answers.{◌>>=◌, ◌>>◌, each, optional}
@@ -160,20 +160,20 @@ check_of (raw.Source name word x y h lw dc) = put parts.Source (do
 check_of (raw.Barrier name points h density rho) = put parts.Obstacle (do
   corners ← corners_of points
   height ← height_of h
-  weight ← in_range fields.Density 0 100000 density
-  reflected ← in_range fields.Rho 0 1000 rho
+  weight ← in_range fields.Density 0 greatest_density density
+  reflected ← in_range fields.Rho 0 full_reflection rho
   check_density weight
   check_surface Barrier corners reflected
   Ok (record { name = name; shape = Barrier; points = corners; h = height; rho = reflected }))
 check_of (raw.Building name points h rho) = put parts.Obstacle (do
   corners ← corners_of points
   height ← height_of h
-  reflected ← in_range fields.Rho 0 1000 rho
+  reflected ← in_range fields.Rho 0 full_reflection rho
   check_surface Building corners reflected
   Ok (record { name = name; shape = Building; points = corners; h = height; rho = reflected }))
 check_of (raw.Zone name points g) = put parts.Zone (do
   corners ← corners_of points
-  factor ← in_range fields.G 0 100 g
+  factor ← in_range fields.G 0 greatest_ground_factor g
   check_outline Building corners
   Ok (record { name = name; points = corners; g = factor }))
 check_of (raw.Foliage name points h) = put parts.Foliage (do
@@ -195,8 +195,8 @@ check_of (raw.Grid name x y step columns rows h) = do
 -- of the words that of the air is looked at first
 check_of (raw.Set reach g air c0 word) = do
   far ← optional (in_range fields.Reach 1 farthest_reach) reach
-  factor ← optional (in_range fields.G 0 100) g
-  correction ← optional (in_range fields.C0 0 1000) c0
+  factor ← optional (in_range fields.G 0 greatest_ground_factor) g
+  correction ← optional (in_range fields.C0 0 greatest_c0) c0
   weather ← optional air_of air
   method ← optional ground_of word
   Ok (checked.Set (record { reach = far; g = factor; air = weather; c0 = correction; method = method }))

@@ -25,6 +25,14 @@ farthest_reach = 4000000
 abbrev pub greatest_height : ℕ
 greatest_height = 100000
 
+-- a ground factor, in hundredths
+abbrev pub greatest_ground_factor : ℕ
+greatest_ground_factor = 100
+
+-- the factor C0 of clause 8, in 0.01 dB
+abbrev pub greatest_c0 : ℕ
+greatest_c0 = 1000
+
 -- the length of a side of a barrier or a building, in mm
 abbrev pub longest_side : ℕ
 longest_side = 262143
@@ -32,6 +40,14 @@ longest_side = 262143
 -- what a barrier weighs at least, in kg/m² (ISO 9613-2, 7.4)
 abbrev pub least_density : ℕ
 least_density = 10
+
+-- what a barrier weighs at most, in kg/m²
+abbrev pub greatest_density : ℕ
+greatest_density = 100000
+
+-- what a surface reflects at most, per mille
+abbrev pub full_reflection : ℕ
+full_reflection = 1000
 
 -- what a surface that isn't taken as a mirror reflects at most, per mille (ISO 9613-2, 7.5)
 abbrev pub weak_reflection : ℕ

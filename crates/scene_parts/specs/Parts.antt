@@ -1,6 +1,6 @@
 -- The parts of a scene, grids and settings: for each the plain record that contracts see of it, without where it lies
 -- in memory, how its fields are seen as that record, and its ranges.
-use Rattle.std.specs.Prelude.{◌≡◌, ℕ, ◌≤◌, ℤ, pos, neg_ℤ, ◌+ℤ◌, ◌≤ℤ◌, ◌-◌, ◌*◌, List, [], ◌∷◌, length, Bool, true, false, ◌&&◌, ◌||◌, ◌==◌, nat_lt, int_le, IsTrue, Option, None, Some, IfSome, codes}
+use Rattle.std.specs.Prelude.{◌≡◌, ℕ, ◌≤◌, ℤ, pos, neg_ℤ, ◌+ℤ◌, ◌≤ℤ◌, ◌-◌, ◌*◌, List, [], ◌∷◌, length, Bool, true, false, ◌&&◌, ◌||◌, ◌==◌, nat_lt, int_le, IsTrue, Option, None, Some, IfSome, codes, unwrap_or}
 use Rattle.std.specs.List.{list_all}
 use Rattle.std.specs.Ordering.{int_eq}
 use Rattle.scene_geom.specs.declared.plan.Pt.{Pt}
@@ -8,7 +8,9 @@ use Rattle.scene_geom.specs.declared.plan.Side.{Side}
 use Rattle.scene_geom.specs.Outline.{area2_of}
 use Rattle.scene_parts.specs.declared.kinds.Kind.{Kind}
 use Rattle.scene_parts.specs.declared.kinds.Air.{Air}
+use Rattle.scene_parts.specs.declared.kinds.Air.TheVariants.{Celsius10Humidity70}
 use Rattle.scene_parts.specs.declared.kinds.Ground.{Ground}
+use Rattle.scene_parts.specs.declared.kinds.Ground.TheVariants.{General}
 use Rattle.scene_parts.specs.declared.kinds.Shape.{Shape}
 use Rattle.scene_parts.specs.declared.kinds.Shape.TheVariants.{Barrier, Building}
 use Rattle.scene_parts.specs.declared.parts.Class.{Class}
@@ -22,7 +24,7 @@ use Rattle.scene_parts.specs.declared.settings.Globals.TheInside.{Inside as Glob
 use Rattle.scene_parts.specs.declared.settings.SetSpec.TheInside.{Inside as SetSpecInside}
 use Rattle.scene_parts.specs.declared.settings.GridSpec.TheInside.{Inside as GridSpecInside}
 use Rattle.scene_parts.specs.Names.{IsName, IsAnyName}
-use Rattle.scene_parts.specs.Limits.{most_corners, most_columns, widest_step, plan_end, farthest_reach, greatest_height, weak_reflection}
+use Rattle.scene_parts.specs.Limits.{most_corners, most_columns, widest_step, plan_end, farthest_reach, greatest_height, greatest_ground_factor, greatest_c0, full_reflection, weak_reflection}
 use Rattle.scene_parts.specs.Sides.{sides_in, is_short}
 
 -- the words of classes, as rows have them
@@ -42,6 +44,10 @@ class_word classes.Side = codes "side"
 pub record IsHeight (h : ℕ) : Type 0 where
   pub low : 1 ≤ h
   pub high : h ≤ greatest_height
+
+-- a ground factor, in hundredths
+abbrev pub IsGroundFactor : ℕ → Type 0
+IsGroundFactor g = g ≤ greatest_ground_factor
 
 -- two points in one place
 abbrev pub is_same : Pt → Pt → Bool
@@ -128,7 +134,7 @@ pub record IsObstacle (obstacle : Obstacle) : Type 0 where
   pub short : IsTrue (list_all is_short (sides_of obstacle))
   pub height : IsHeight obstacle.h
   pub reflects : IsTrue (is_mirror obstacle.rho)
-  pub reflects_no_more : obstacle.rho ≤ 1000
+  pub reflects_no_more : obstacle.rho ≤ full_reflection
 
 -- ---- zones of ground
 
@@ -146,7 +152,7 @@ pub record IsZone (zone : Zone) : Type 0 where
   pub enough : 3 ≤ length zone.points
   pub few : length zone.points ≤ most_corners
   pub spread : is_flat Building zone.points ≡ false
-  pub ground_factor : zone.g ≤ 100
+  pub ground_factor : IsGroundFactor zone.g
 
 -- ---- foliage
 
@@ -180,30 +186,6 @@ receiver_seen r = record { name = r.name; at = r.at; h = r.h }
 pub record IsReceiver (receiver : Receiver) : Type 0 where
   pub name : IsAnyName receiver.name
   pub height : IsHeight receiver.h
-
--- ---- what holds of the whole scene
-
--- what holds of the whole scene: how far a source reaches in mm, the ground factor outside zones in
--- hundredths, the air (ISO 9613-2, Table 2), the factor C0 of clause 8 in 0.01 dB, and the method for ground (7.3)
-pub record Globals : Type 0 where
-  pub reach : ℕ
-  pub g : ℕ
-  pub air : Air
-  pub c0 : ℕ
-  pub method : Ground
-
-abbrev pub globals_seen : GlobalsInside → Globals
-globals_seen s = record { reach = s.reach; g = s.g; air = s.air; c0 = s.c0; method = s.ground }
-
--- a distance at which a source still counts, in mm
-pub record IsReach (reach : ℕ) : Type 0 where
-  pub low : 1 ≤ reach
-  pub high : reach ≤ farthest_reach
-
-pub record AreGlobals (globals : Globals) : Type 0 where
-  pub reach : IsReach globals.reach
-  pub ground_factor : globals.g ≤ 100
-  pub c0 : globals.c0 ≤ 1000
 
 -- ---- grids
 
@@ -240,6 +222,18 @@ pub record IsGrid (grid : Grid) : Type 0 where
 
 -- ---- settings
 
+-- what holds of the whole scene: how far a source reaches in mm, the ground factor outside zones in
+-- hundredths, the air (ISO 9613-2, Table 2), the factor C0 of clause 8 in 0.01 dB, and the method for ground (7.3)
+pub record Globals : Type 0 where
+  pub reach : ℕ
+  pub g : ℕ
+  pub air : Air
+  pub c0 : ℕ
+  pub method : Ground
+
+abbrev pub globals_seen : GlobalsInside → Globals
+globals_seen s = record { reach = s.reach; g = s.g; air = s.air; c0 = s.c0; method = s.ground }
+
 -- values for some of the globals
 pub record Setting : Type 0 where
   pub reach : Option ℕ
@@ -251,7 +245,46 @@ pub record Setting : Type 0 where
 abbrev pub setting_seen : SetSpecInside → Setting
 setting_seen s = record { reach = s.reach; g = s.g; air = s.air; c0 = s.c0; method = s.ground }
 
+-- the globals of a scene in which nothing is set: sources reach 4 km, the ground is hard, the air has 10 °C and 70 %, C0
+-- is 0, and the ground goes by the general method
+abbrev pub default_globals : Globals
+default_globals = record { reach = farthest_reach; g = 0; air = Celsius10Humidity70; c0 = 0; method = General }
+
+-- the globals with the values that a setting gives
+abbrev pub globals_with : Setting → Globals → Globals
+globals_with setting globals = record {
+  reach = unwrap_or setting.reach globals.reach;
+  g = unwrap_or setting.g globals.g;
+  air = unwrap_or setting.air globals.air;
+  c0 = unwrap_or setting.c0 globals.c0;
+  method = unwrap_or setting.method globals.method;
+}
+
+-- the setting of all globals
+abbrev pub setting_of : Globals → Setting
+setting_of globals = record {
+  reach = Some globals.reach;
+  g = Some globals.g;
+  air = Some globals.air;
+  c0 = Some globals.c0;
+  method = Some globals.method;
+}
+
+-- a distance at which a source still counts, in mm
+pub record IsReach (reach : ℕ) : Type 0 where
+  pub low : 1 ≤ reach
+  pub high : reach ≤ farthest_reach
+
+-- the factor C0, in 0.01 dB
+abbrev pub IsWeatherFactor : ℕ → Type 0
+IsWeatherFactor c0 = c0 ≤ greatest_c0
+
+pub record AreGlobals (globals : Globals) : Type 0 where
+  pub reach : IsReach globals.reach
+  pub ground_factor : IsGroundFactor globals.g
+  pub c0 : IsWeatherFactor globals.c0
+
 pub record IsSetting (setting : Setting) : Type 0 where
   pub reach : IfSome setting.reach IsReach
-  pub ground_factor : IfSome setting.g (λ g. g ≤ 100)
-  pub c0 : IfSome setting.c0 (λ c0. c0 ≤ 1000)
+  pub ground_factor : IfSome setting.g IsGroundFactor
+  pub c0 : IfSome setting.c0 IsWeatherFactor

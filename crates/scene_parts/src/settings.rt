@@ -1,5 +1,9 @@
 //! What holds of the whole scene, and grids of receivers.
+ghost use Rattle.std.specs.Prelude.{◌≡◌};
+ghost use Rattle.scene_parts.specs.Parts.{default_globals, globals_with, setting_of};
+
 use crate::kinds::{Air, Ground};
+use crate::limits::MAX_REACH;
 use crate::texts::Name;
 use scene_geom::Pt;
 use std::marker::Model;
@@ -27,6 +31,34 @@ impl Model for Globals {
     ghost inverse = { λ s. record { reach = s.reach; g = s.g; air = s.air; c0 = s.c0; ground = s.method } };
 }
 
+impl Globals {
+    /// The globals of a scene in which nothing is set.
+    pub fn initial() -> Globals
+        ensures { result ≡ default_globals }
+    {
+        Globals {
+            reach: MAX_REACH,
+            g: 0,
+            air: Air::Celsius10Humidity70,
+            c0: 0,
+            ground: Ground::General,
+        }
+    }
+
+    /// The globals with the values that a setting gives.
+    pub fn with(&self, setting: &SetSpec) -> Globals
+        ensures { result ≡ globals_with setting.now self.now }
+    {
+        Globals {
+            reach: setting.reach.unwrap_or(self.reach),
+            g: setting.g.unwrap_or(self.g),
+            air: setting.air.unwrap_or(self.air),
+            c0: setting.c0.unwrap_or(self.c0),
+            ground: setting.ground.unwrap_or(self.ground),
+        }
+    }
+}
+
 /// Values for some of the globals; the others stay as they are.
 #[derive(Clone, Debug, Drop)]
 pub struct SetSpec {
@@ -45,6 +77,21 @@ impl Model for SetSpec {
     ghost view = { setting_seen };
 
     ghost invariant = { λ s. IsSetting (setting_seen s) };
+}
+
+impl SetSpec {
+    /// The setting of all globals.
+    pub fn of(globals: &Globals) -> SetSpec
+        ensures { result ≡ setting_of globals.now }
+    {
+        SetSpec {
+            reach: Some(globals.reach),
+            g: Some(globals.g),
+            air: Some(globals.air),
+            c0: Some(globals.c0),
+            ground: Some(globals.ground),
+        }
+    }
 }
 
 /// A grid of receivers: the place of the first, the distance to the next in mm, and their height in mm.

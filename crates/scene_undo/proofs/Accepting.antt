@@ -1,7 +1,7 @@
 -- When an edit is accepted, and what it leaves.
 use Rattle.std.proofs.Common.{◌≡◌, ℕ, ◌≤◌, ◌*◌, refl, ap, arith, Bool, true, false, List, length}
 use Rattle.std.specs.Prelude.{Option, Some, None, Result, Ok, Err, nat_lt, if◌then◌else◌}
-use Rattle.scene_parts.specs.Parts.{Receiver, Grid, Setting}
+use Rattle.scene_parts.specs.Parts.{Receiver, Grid, Setting, globals_with}
 use Rattle.scene_parts.specs.Answers.{◌>>◌}
 use Rattle.scene_parts.specs.declared.parts.Part.{Part}
 use Rattle.scene_parts.specs.declared.parts.Part.TheVariants as parts
@@ -10,7 +10,7 @@ use Rattle.scene_parts.specs.declared.parts.Class.TheVariants as classes
 use Rattle.scene_book.specs.declared.edits.Edit.TheVariants as edits
 use Rattle.scene_book.specs.declared.edits.EditFault.{EditFault}
 use Rattle.scene_book.specs.declared.edits.EditFault.TheVariants.{Full}
-use Rattle.scene_book.specs.Book.{most_obstacles, most_sides, most_receivers, Book, IsWithin, at_most, side_total, globals_with}
+use Rattle.scene_book.specs.Book.{most_obstacles, most_sides, most_receivers, Book, IsWithin, at_most, side_total}
 use Rattle.scene_book.specs.Lists.{put_all}
 use Rattle.scene_book.specs.Grid.{receivers_of}
 use Rattle.scene_book.specs.Applying.{apply_of, put_of, put_where_room, remove_of, grid_of, own_class, holder, in_limits, all_own, taken, part_named, name_of, class_of, with_part, without, with_receivers, replaced}

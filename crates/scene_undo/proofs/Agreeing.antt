@@ -1,7 +1,7 @@
 -- Scenes of the same parts answer an edit alike.
 use Rattle.std.proofs.Common.{◌≡◌, ℕ, ◌*◌, refl, sym, ap, ◌∙◌, cond, List, [], ◌∷◌, length}
 use Rattle.std.specs.Prelude.{bytes_eq, Option, Some, None, option_map, Result, Ok, Err}
-use Rattle.scene_parts.specs.Parts.{Receiver, sides_of}
+use Rattle.scene_parts.specs.Parts.{Receiver, globals_with, sides_of}
 use Rattle.scene_parts.specs.Answers.{◌>>◌}
 use Rattle.scene_parts.specs.declared.parts.Part.{Part}
 use Rattle.scene_parts.specs.declared.parts.Part.TheVariants as parts
@@ -9,7 +9,7 @@ use Rattle.scene_parts.specs.declared.parts.Class.{Class}
 use Rattle.scene_parts.specs.declared.parts.Class.TheVariants as classes
 use Rattle.scene_book.specs.declared.edits.Edit.TheVariants as edits
 use Rattle.scene_book.specs.declared.edits.EditFault.{EditFault}
-use Rattle.scene_book.specs.Book.{most_receivers, Book, NamesAreApart, at_most, globals_with}
+use Rattle.scene_book.specs.Book.{most_receivers, Book, NamesAreApart, at_most}
 use Rattle.scene_book.specs.Lists.{named, put_in, take_out, put_all, AreApart}
 use Rattle.scene_book.specs.Grid.{receivers_of}
 use Rattle.scene_book.specs.Applying.{apply_of, put_of, put_where_room, remove_of, grid_of, own_class, holder, in_limits, all_own, taken, part_named, name_of, class_of, with_part, without, replaced}

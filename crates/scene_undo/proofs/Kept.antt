@@ -2,12 +2,12 @@
 use Rattle.std.proofs.lemmas.List.Elements.{All-nil, All-cons, All-head, All-tail}
 use Rattle.std.proofs.Common.{◌≡◌, ℕ, ◌+◌, ◌≤◌, refl, sym, subst, arith, Bool, true, false, cond, List, [], ◌∷◌, length}
 use Rattle.std.specs.Prelude.{bytes_eq, Option, Some, None, IfSome, unwrap_or, All}
-use Rattle.scene_parts.specs.Parts.{Setting, Globals, IsSetting, AreGlobals, IsReach, sides_of}
+use Rattle.scene_parts.specs.Parts.{Setting, Globals, IsSetting, AreGlobals, IsReach, IsGroundFactor, IsWeatherFactor, globals_with, sides_of}
 use Rattle.scene_parts.specs.declared.parts.Part.{Part}
 use Rattle.scene_parts.specs.declared.parts.Part.TheVariants as parts
 use Rattle.scene_book.specs.declared.edits.Edit.TheVariants as edits
 use Rattle.scene_book.specs.Lists.{named, put_in, take_out, total}
-use Rattle.scene_book.specs.Book.{Book, IsWithin, empty_book, globals_with, with_setting}
+use Rattle.scene_book.specs.Book.{Book, IsWithin, empty_book, with_setting}
 use Rattle.scene_book.specs.Grid.{receivers_of}
 use Rattle.scene_book.specs.Applying.{name_of, with_part, without}
 use Rattle.scene_book.specs.Orders.{Shuffled, SameParts}
@@ -98,8 +98,8 @@ either P (Some n) old is was = is
 set-globals : (setting : Setting) (globals : Globals) → IsSetting setting → AreGlobals globals → AreGlobals (globals_with setting globals)
 set-globals setting globals is was = record {
   reach = either IsReach setting.reach globals.reach is.reach was.reach;
-  ground_factor = either (λ g. g ≤ 100) setting.g globals.g is.ground_factor was.ground_factor;
-  c0 = either (λ c0. c0 ≤ 1000) setting.c0 globals.c0 is.c0 was.c0;
+  ground_factor = either IsGroundFactor setting.g globals.g is.ground_factor was.ground_factor;
+  c0 = either IsWeatherFactor setting.c0 globals.c0 is.c0 was.c0;
 }
 
 -- ---- scenes

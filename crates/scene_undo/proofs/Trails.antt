@@ -4,6 +4,7 @@ use Rattle.std.specs.Prelude.{Option, Some, None, IfSome, Result, Ok, Err, All, 
 use Rattle.std.proofs.lemmas.List.Elements.{All-nil, All-cons, All-head, All-tail, All-map}
 use Rattle.scene_parts.specs.Answers.{◌>>=◌}
 use Rattle.scene_parts.specs.declared.parts.Part.{Part}
+use Rattle.scene_parts.specs.Parts.{setting_of}
 use Rattle.scene_book.specs.declared.edits.Edit.{Edit}
 use Rattle.scene_book.specs.declared.edits.Edit.TheVariants as edits
 use Rattle.scene_book.specs.declared.edits.EditFault.{EditFault}
@@ -12,7 +13,7 @@ use Rattle.scene_book.specs.Book.{Book}
 use Rattle.scene_book.specs.Applying.{apply_of, applied, part_named}
 use Rattle.scene_book.specs.Orders.{SameParts}
 use Rattle.scene_book.specs.Orders.Shuffled.{same, after}
-use Rattle.scene_undo.specs.Inverse.{names_in, put_back, inverse_of, setting_of}
+use Rattle.scene_undo.specs.Inverse.{names_in, put_back, inverse_of}
 use Rattle.scene_undo.specs.Scenes.{IsScene, IsEdit}
 use Rattle.scene_undo.specs.Laws.{LeadTo, InverseIsOfEdits, Entry, IsTrail, inverses_of, TrailLaw}
 use Rattle.scene_undo.proofs.Maps.{turned}

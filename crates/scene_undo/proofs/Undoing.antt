@@ -1,7 +1,7 @@
 -- What undoes an edit.
 use Rattle.std.proofs.Common.{◌≡◌, ℕ, ◌≤◌, refl, sym, ap, subst, ◌∙◌, arith, Bool, true, false, cond, List, [], ◌∷◌, length}
 use Rattle.std.specs.Prelude.{bytes_eq, Option, Some, None, IfSome, map}
-use Rattle.scene_parts.specs.Parts.{Receiver, Grid}
+use Rattle.scene_parts.specs.Parts.{Receiver, Grid, setting_of}
 use Rattle.scene_parts.specs.declared.parts.Part.{Part}
 use Rattle.scene_parts.specs.declared.parts.Part.TheVariants as parts
 use Rattle.scene_parts.specs.declared.parts.Class.TheVariants as classes
@@ -15,7 +15,7 @@ use Rattle.scene_book.specs.Orders.{SameParts}
 use Rattle.scene_book.proofs.ListLemmas.{length-put_in-there, length-take_out}
 use Rattle.scene_book.proofs.GridLemmas.{rows-apart}
 use Rattle.scene_book.proofs.SlotLemmas.{each_to, of_named}
-use Rattle.scene_undo.specs.Inverse.{put_back, setting_of}
+use Rattle.scene_undo.specs.Inverse.{put_back}
 use Rattle.scene_undo.specs.Scenes.{IsGridWithin}
 use Rattle.scene_undo.specs.Laws.{LeadTo, UndoLaw}
 use Rattle.scene_undo.proofs.Maps.{one_name, own_name, other_way, found-name, shuffled-length}

@@ -1,6 +1,6 @@
 -- The edits that undo an edit.
 use Rattle.std.specs.Prelude.{ℕ, List, [], ◌∷◌, map, Option, Some, None}
-use Rattle.scene_parts.specs.Parts.{Globals, Setting}
+use Rattle.scene_parts.specs.Parts.{setting_of}
 use Rattle.scene_parts.specs.declared.parts.Part.{Part}
 use Rattle.scene_book.specs.declared.edits.Edit.{Edit}
 use Rattle.scene_book.specs.declared.edits.Edit.TheVariants as edits
@@ -19,16 +19,6 @@ names_in (edits.Set setting) = []
 abbrev pub put_back : List ℕ → Option Part → Edit
 put_back name None = edits.Remove name
 put_back name (Some part) = edits.Put part
-
--- the setting of all globals
-abbrev pub setting_of : Globals → Setting
-setting_of globals = record {
-  reach = Some globals.reach;
-  g = Some globals.g;
-  air = Some globals.air;
-  c0 = Some globals.c0;
-  method = Some globals.method;
-}
 
 -- what undoes an edit of a scene: after a setting all old globals are set, and after any other edit each name is given
 -- back, in order

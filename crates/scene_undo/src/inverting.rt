@@ -1,13 +1,13 @@
 //! The edits that undo an edit.
 ghost use Rattle.std.specs.Prelude.{◌≡◌, [], ◌∷◌, map, IfOk};
 ghost use Rattle.scene_book.specs.Applying.{part_named};
-ghost use Rattle.scene_undo.specs.Inverse.{inverse_of, put_back as put_back_of, setting_of as setting_of_all};
+ghost use Rattle.scene_undo.specs.Inverse.{inverse_of, put_back as put_back_of};
 ghost use Rattle.scene_undo.specs.Laws.{IsUndone};
 
 use super::edits::Inverse;
 use scene_book::grids::receivers;
 use scene_book::{Edit, Scene, part_name};
-use scene_parts::{Globals, Name, NoMemory, Receiver, SetSpec};
+use scene_parts::{Name, NoMemory, Receiver, SetSpec};
 use std::alloc::Global;
 
 /// What undoes an edit of a scene that accepts it: of a put the old part's put, or the remove of a new name; of a removal
@@ -30,7 +30,7 @@ fn edits_back(alloc: Global, edit: &Edit, before: &Scene) -> Result<Vec<Edit>, N
         Edit::Put(part) => one(alloc, put_back(part_name(part), before)?),
         Edit::Remove(name) => one(alloc, put_back(name, before)?),
         Edit::Grid(grid) => all_put_back(alloc, &receivers(alloc, grid)?, before),
-        Edit::Set(_) => one(alloc, Edit::Set(setting_of(before.globals()))),
+        Edit::Set(_) => one(alloc, Edit::Set(SetSpec::of(before.globals()))),
     }
 }
 
@@ -66,17 +66,4 @@ fn all_put_back(
         edits.push(put_back(&receiver.name, before)?)?;
     }
     Ok(edits)
-}
-
-/// The setting of all globals.
-fn setting_of(globals: &Globals) -> SetSpec
-    ensures { result ≡ setting_of_all globals.now }
-{
-    SetSpec {
-        reach: Some(globals.reach),
-        g: Some(globals.g),
-        air: Some(globals.air),
-        c0: Some(globals.c0),
-        ground: Some(globals.ground),
-    }
 }

@@ -10,7 +10,7 @@ use crate::checks::ranges::{
 };
 use crate::faults::PartFault;
 use crate::kinds::{Field, Shape};
-use crate::limits::{MAX_REACH, MAX_STEP};
+use crate::limits::{FULL_REFLECTION, MAX_C0, MAX_DENSITY, MAX_GROUND_FACTOR, MAX_REACH, MAX_STEP};
 use crate::outlines::RawPoints;
 use crate::outlines::shapes::{check_density, check_outline, check_surface, corners};
 use crate::parts::{Foliage, Obstacle, Part, PointSource, Receiver, Zone};
@@ -139,8 +139,8 @@ fn barrier(alloc: Global, raw: RawPart) -> Result<Checked, PartFault>
     };
     let points = corners(alloc, points.items())?;
     let h = height(h)?;
-    let density = in_range(Field::Density, 0, 100_000, density)?;
-    let rho = in_range(Field::Rho, 0, 1000, rho)? as u16;
+    let density = in_range(Field::Density, 0, MAX_DENSITY, density)?;
+    let rho = in_range(Field::Rho, 0, FULL_REFLECTION, rho)? as u16;
     check_density(density)?;
     check_surface(Shape::Barrier, points.items(), rho)?;
     Ok(Checked::Part(Part::Obstacle(Obstacle {
@@ -168,7 +168,7 @@ fn building(alloc: Global, raw: RawPart) -> Result<Checked, PartFault>
     };
     let points = corners(alloc, points.items())?;
     let h = height(h)?;
-    let rho = in_range(Field::Rho, 0, 1000, rho)? as u16;
+    let rho = in_range(Field::Rho, 0, FULL_REFLECTION, rho)? as u16;
     check_surface(Shape::Building, points.items(), rho)?;
     Ok(Checked::Part(Part::Obstacle(Obstacle {
         name: name.into_name(),
@@ -188,7 +188,7 @@ fn zone(alloc: Global, raw: RawPart) -> Result<Checked, PartFault>
         unreachable!()
     };
     let points = corners(alloc, points.items())?;
-    let g = in_range(Field::G, 0, 100, g)? as u8;
+    let g = in_range(Field::G, 0, MAX_GROUND_FACTOR, g)? as u8;
     check_outline(Shape::Building, points.items())?;
     Ok(Checked::Part(Part::Zone(Zone {
         name: name.into_name(),
@@ -279,8 +279,8 @@ fn setting(raw: RawPart) -> Result<Checked, PartFault>
     };
     Ok(Checked::Set(SetSpec {
         reach: optional_in_range(Field::Reach, 1, MAX_REACH, reach)?,
-        g: optional_in_range(Field::G, 0, 100, g)?.map(|g| g as u8),
-        c0: optional_in_range(Field::C0, 0, 1000, c0)?.map(|c0| c0 as u16),
+        g: optional_in_range(Field::G, 0, MAX_GROUND_FACTOR, g)?.map(|g| g as u8),
+        c0: optional_in_range(Field::C0, 0, MAX_C0, c0)?.map(|c0| c0 as u16),
         air: optional_air(air)?,
         ground: optional_ground(ground)?,
     }))
