@@ -12,8 +12,7 @@ use super::named::{MAX_SIDES, shape_class};
 use super::register::{Named, part_like};
 use super::shared::Shared;
 use scene_parts::{
-    Class, Foliage, Globals, NoMemory, Obstacle, Part, PointSource, Receiver, SetSpec,
-    Zone, sides,
+    Class, Foliage, Globals, NoMemory, Obstacle, Part, PointSource, Receiver, SetSpec, Zone, sides,
 };
 use std::alloc::Global;
 use std::marker::Model;
