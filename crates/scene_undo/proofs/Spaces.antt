@@ -32,6 +32,10 @@ found_in book name = (
   named (λ r. r.name) name book.receivers,
 )
 
+-- the receiver among them
+abbrev pub receiver_in : Found → Option Receiver
+receiver_in lists = lists.4
+
 -- the first of them
 abbrev pub first : Found → Option Part
 first lists =

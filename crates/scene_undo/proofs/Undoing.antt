@@ -19,7 +19,7 @@ use Rattle.scene_undo.specs.Inverse.{put_back}
 use Rattle.scene_undo.specs.Scenes.{IsGridWithin}
 use Rattle.scene_undo.specs.Laws.{LeadTo, UndoLaw}
 use Rattle.scene_undo.proofs.Maps.{one_name, own_name, other_way, found-name, shuffled-length}
-use Rattle.scene_undo.proofs.Spaces.{IsMap, One, Found, split, Kin, kin-back, ReceiverOrNone, receiver-kin, fine, put-found, put-map, take-found, take-map, SameFound, same-map, found-same}
+use Rattle.scene_undo.proofs.Spaces.{IsMap, One, Found, receiver_in, split, Kin, kin-back, ReceiverOrNone, receiver-kin, fine, put-found, put-map, take-found, take-map, SameFound, same-map, found-same}
 use Rattle.scene_undo.proofs.Accepting.{left, put-accepted, put-accepts, remove-accepted, remove-accepts, grid-accepted, set-accepted, set-accepts, within-fits, puts_in, at_most-fits}
 use Rattle.scene_undo.proofs.Grids.{AllKin, AtReceiver, AllThere, all-kin, grid-map, grid-other, grid-there}
 use Rattle.scene_undo.proofs.Kept.{put-globals, take-globals, same-within, scene-map}
@@ -140,7 +140,7 @@ given-back name a b within map other globals others can = by (part_named a name)
 -- the receiver of a name that finds one
 receiver-there : (name : List ℕ) (s : Receiver) (b : Book) → One b → part_named b name ≡ Some (parts.Receiver s)
     → named (λ r. r.name) name b.receivers ≡ Some s
-receiver-there name s b one is = ap (λ (f : Found). f.4) (one name ∙ ap split is)
+receiver-there name s b one is = ap receiver_in (one name ∙ ap split is)
 
 -- a name of a grid is given back
 abbrev Step : List ℕ → Edit → Book → Book → Type 0
