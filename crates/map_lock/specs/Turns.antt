@@ -25,6 +25,10 @@ IsReplyTo (calls.Offer answer) reply = (landed : Landed) × (reply ≡ replies.L
 IsReplyTo (calls.GiveBack job) reply = reply ≡ replies.Done
 IsReplyTo calls.Look reply = (result : Result LookAll NoMemory) × (reply ≡ replies.Looked result)
 
+-- the board replies to the call by a value of one kind
+abbrev pub RepliesBy : {A : Type 0} → (A → BoardReply) → BoardCall → Type 0
+RepliesBy {A} said call = (reply : BoardReply) → IsReplyTo call reply → (value : A) × (reply ≡ said value)
+
 -- A seat's call was answered so. The seat saw what others alone did in between, and then its own entry, the last of all
 -- that it has seen. All before that entry led to a state, from which the board's step for this call gave this reply.
 pub record HasTurned (before : BoardSeat) (call : BoardCall) (reply : BoardReply) (after : BoardSeat) : Type 0 where

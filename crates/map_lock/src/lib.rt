@@ -9,6 +9,7 @@ mod bell;
 mod desk;
 mod lock;
 mod machine;
+mod reply;
 mod reserve;
 mod seats;
 mod settling;

@@ -4,10 +4,11 @@ ghost use Rattle.std.specs.Thread.{IsSync};
 ghost use Rattle.map_board.specs.Machine.{Step, Can};
 ghost use Rattle.map_board.specs.Seats.{May, editor};
 ghost use Rattle.map_lock.specs.Seats.{IsSeat};
-ghost use Rattle.map_lock.specs.Turns.{HasTurned, IsReplyTo};
+ghost use Rattle.map_lock.specs.Turns.{HasTurned, RepliesBy};
 
 use crate::lock::MapLock;
 use crate::machine::{SharedBoard, step_with};
+use crate::reply::{Reply, said_by};
 use map_board::{Answer, BoardCall, BoardReply, Job, Landed, LookAll, Took};
 use scene_book::{Edit, EditFault};
 use scene_parts::NoMemory;
@@ -17,46 +18,49 @@ use std::thread::Threads;
 use turn_lock::Seat;
 
 impl MapLock {
-    fn ask<R: Wait>(
+    /// Makes a call in its turn, to which the board replies by a value of type `T`.
+    fn ask<R: Wait, T: Reply>(
         &self,
         rt: &R,
         alloc: Global,
         seat: &mut Seat<SharedBoard>,
         call: BoardCall,
-    ) -> BoardReply
+    ) -> T
         requires own { seat.old.table ≡ self.now }
         requires allowed { May seat.old.number seat.old.mine call }
-        ensures turn { HasTurned seat.old call result seat.new }
-        ensures kind { IsReplyTo call result }
+        requires kind { RepliesBy T.said call }
+        ensures turn { HasTurned seat.old call (T.said result) seat.new }
         ensures sound_before { IsSeat seat.old }
         ensures sound { IsSeat seat.new }
     {
-        self.turn.turn(rt, alloc, seat, call)
+        said_by(self.turn.turn(rt, alloc, seat, call))
     }
 
     /// The same, where threads may share the work of an edit. All of them have ended when the turn ends.
-    fn ask_with<R: Threads + Wait + Sync>(
+    fn ask_with<R: Threads + Wait + Sync, T: Reply>(
         &self,
         rt: &R,
         alloc: Global,
         seat: &mut Seat<SharedBoard>,
         call: BoardCall,
-    ) -> BoardReply
+    ) -> T
         requires own { seat.old.table ≡ self.now }
         requires allowed { May seat.old.number seat.old.mine call }
-        ensures turn { HasTurned seat.old call result seat.new }
-        ensures kind { IsReplyTo call result }
+        requires kind { RepliesBy T.said call }
+        ensures turn { HasTurned seat.old call (T.said result) seat.new }
         ensures sound_before { IsSeat seat.old }
         ensures sound { IsSeat seat.new }
     {
-        self.turn.turn_by(
-            rt,
-            seat,
-            call,
-            |machine: &mut SharedBoard, call: BoardCall| -> BoardReply
-                requires { IsSync R.row × Can machine.old.board call }
-                ensures { Step machine.old.board call result machine.new.board }
-            { step_with(rt, alloc, machine, call) },
+        said_by(
+            self.turn.turn_by(
+                rt,
+                seat,
+                call,
+                |machine: &mut SharedBoard, call: BoardCall| -> BoardReply
+                    requires { IsSync R.row × Can machine.old.board call }
+                    ensures { Step machine.old.board call result machine.new.board }
+                { step_with(rt, alloc, machine, call) },
+            ),
         )
     }
 
@@ -72,13 +76,9 @@ impl MapLock {
         ensures turn { HasTurned seat.old (BoardCall.Edit edit) (BoardReply.Edited result) seat.new }
         ensures sound { IsSeat seat.new }
     {
-        match self.ask_with(rt, alloc, seat, BoardCall::Edit(edit)) {
-            BoardReply::Edited(result) => {
-                self.jobs.ring_where(result.is_ok());
-                result
-            }
-            _ => unreachable!(),
-        }
+        let edited: Result<u64, EditFault> = self.ask_with(rt, alloc, seat, BoardCall::Edit(edit));
+        self.jobs.ring_where(edited.is_ok());
+        edited
     }
 
     pub(crate) fn ask_finish<R: Wait>(&self, rt: &R, seat: &mut Seat<SharedBoard>)
@@ -87,7 +87,7 @@ impl MapLock {
         ensures turn { HasTurned seat.old BoardCall.Finish BoardReply.Done seat.new }
         ensures sound { IsSeat seat.new }
     {
-        self.ask(rt, self.alloc, seat, BoardCall::Finish);
+        self.ask::<R, ()>(rt, self.alloc, seat, BoardCall::Finish);
         self.jobs.ring_for_all();
         self.reserve.call_all();
     }
@@ -98,10 +98,7 @@ impl MapLock {
         ensures sound_before { IsSeat seat.old }
         ensures sound { IsSeat seat.new }
     {
-        match self.ask(rt, self.alloc, seat, BoardCall::Take) {
-            BoardReply::Took(took) => took,
-            _ => unreachable!(),
-        }
+        self.ask(rt, self.alloc, seat, BoardCall::Take)
     }
 
     /// Takes a job, and wakes another worker where it got one; where there is none now, it sleeps until the bell of jobs
@@ -139,13 +136,9 @@ impl MapLock {
         ensures sound_before { IsSeat seat.old }
         ensures sound { IsSeat seat.new }
     {
-        match self.ask(rt, self.alloc, seat, BoardCall::Offer(answer)) {
-            BoardReply::Landed(landed) => {
-                self.answers.ring();
-                landed
-            }
-            _ => unreachable!(),
-        }
+        let landed: Landed = self.ask(rt, self.alloc, seat, BoardCall::Offer(answer));
+        self.answers.ring();
+        landed
     }
 
     pub(crate) fn ask_give_back<R: Wait>(&self, rt: &R, seat: &mut Seat<SharedBoard>, job: Job)
@@ -155,7 +148,7 @@ impl MapLock {
         ensures sound_before { IsSeat seat.old }
         ensures sound { IsSeat seat.new }
     {
-        self.ask(rt, self.alloc, seat, BoardCall::GiveBack(job));
+        self.ask::<R, ()>(rt, self.alloc, seat, BoardCall::GiveBack(job));
         self.jobs.ring();
         self.answers.ring();
     }
@@ -170,9 +163,6 @@ impl MapLock {
         ensures turn { HasTurned seat.old BoardCall.Look (BoardReply.Looked result) seat.new }
         ensures sound { IsSeat seat.new }
     {
-        match self.ask(rt, alloc, seat, BoardCall::Look) {
-            BoardReply::Looked(look) => look,
-            _ => unreachable!(),
-        }
+        self.ask(rt, alloc, seat, BoardCall::Look)
     }
 }
