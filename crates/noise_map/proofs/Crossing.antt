@@ -34,7 +34,7 @@ use Rattle.atomic_table.proofs.shared.Shared.TheSendSync.{the_sync as Table-sync
 use Rattle.atomic_table.proofs.shared.Seat.TheSendSync.{the_send as Seat-send}
 use Rattle.atomic_table.proofs.send_lease.SendLease.TheSendSync.{the_sync as Lease-sync}
 use Rattle.map_io.specs.contracts.reader.LineReader as LineReader
-use Rattle.noise_map.specs.contracts.lines.step.Shared as Shared
+use Rattle.noise_map.specs.contracts.lines.step.Context as Context
 use Rattle.noise_map.specs.contracts.run.editor.Editor as Editor
 use Rattle.std.proofs.Crossing.{crosses, Vec-send}
 
@@ -132,7 +132,7 @@ pub reader_crosses : IsSend LineReader.the_row
 reader_crosses = search (crosses, sendable) depth 40 fits 10000 steps 1000000
 
 -- what lines act on may be shared where its handle and its gate may
-pub shared_by_threads : (ℓ : NamedLft) (R G : RattleType) → IsSync R → IsSync G → IsSync (Shared.the_row ℓ R G)
+pub shared_by_threads : (ℓ : NamedLft) (R G : RattleType) → IsSync R → IsSync G → IsSync (Context.the_row ℓ R G)
 shared_by_threads ℓ R G handle gate = search (MapLock-sync, crosses, sendable) depth 40 fits 10000 steps 1000000
 
 -- a closure may cross where all that it captures may

@@ -19,10 +19,10 @@ use Rattle.noise_map.specs.declared.run.status.Status.TheVariants as status
 use Rattle.noise_map.specs.Demands.{demand_of}
 use Rattle.noise_map.specs.Effects.{Past, past_with, Effect, effect_of, effect_at, looks_asked, is_refused, Point, at_start, point_after}
 use Rattle.noise_map.specs.Texts.{answer_to, rows_of, line_rows, text_of}
-use Rattle.noise_map.specs.Ways.{looks_in, Does, Way, and_line, Fails}
+use Rattle.noise_map.specs.Ways.{looks_in, HasEffect, EditorRun, and_line, LastLineFailed}
 use Rattle.map_text.specs.Taking.{joined, TakesFront}
 use Rattle.noise_map.specs.inner.Steps.{past_of, HasGone, HasMet, HasFollowed, HasFailed, is_refusal}
-use Rattle.noise_map.specs.inner.Progress.{IsSameSeat, Did, Told, HasEnded, status_of}
+use Rattle.noise_map.specs.inner.Progress.{IsSameSeat, LinesDone, RowsWritten, HasEnded, status_of}
 use Rattle.noise_map.specs.Outcome.{TakesPartOf}
 use Rattle.noise_map.proofs.Ways.{looks_in-append, way-grown}
 use Rattle.map_text.proofs.Fronts.{joined-append, on-from}
@@ -48,15 +48,15 @@ looks-gone seat after added goes = ap looks_in goes.mine ∙ looks_in-append sea
 abbrev pub comes_to : Editor → List ℕ → Effect
 comes_to editor line = effect_of (past_of editor) (demand_of line)
 
-pub way-push : (editor : Editor) (after : BoardSeat) (done : List (List ℕ)) (line : List ℕ) (added : Entries) → Way editor.seat.seen done editor.seat.mine → past_of editor ≡ (point_after done).past
-    → HasGone editor.seat added after → Does after.seen editor.seat.mine (accepted_edits editor.seat.mine) (comes_to editor line) added → Way after.seen (done ++ line ∷ []) after.mine
+pub way-push : (editor : Editor) (after : BoardSeat) (done : List (List ℕ)) (line : List ℕ) (added : Entries) → EditorRun editor.seat.seen done editor.seat.mine → past_of editor ≡ (point_after done).past
+    → HasGone editor.seat added after → HasEffect after.seen editor.seat.mine (accepted_edits editor.seat.mine) (comes_to editor line) added → EditorRun after.seen (done ++ line ∷ []) after.mine
 way-push editor after done line added way past goes does =
     let seat = editor.seat in
-    subst (Way after.seen (done ++ line ∷ [])) (sym goes.mine)
+    subst (EditorRun after.seen (done ++ line ∷ [])) (sym goes.mine)
     (and_line done line seat.mine added (way-grown seat.seen after.seen done seat.mine way goes.seen)
-    (subst (λ (p : Past). Does after.seen seat.mine p.journal (effect_of p (demand_of line)) added) past does))
+    (subst (λ (p : Past). HasEffect after.seen seat.mine p.journal (effect_of p (demand_of line)) added) past does))
 
-module _ (before : BoardSeat) (editor after_line : Editor) (done : List (List ℕ)) (line : List ℕ) (answer : Answer) (did : Did before editor done)
+module _ (before : BoardSeat) (editor after_line : Editor) (done : List (List ℕ)) (line : List ℕ) (answer : Answer) (did : LinesDone before editor done)
     (met : HasMet editor.seat (comes_to editor line) answer after_line.seat) (followed : HasFollowed editor (comes_to editor line) after_line) where
   abbrev seat : BoardSeat
   seat = editor.seat
@@ -64,7 +64,7 @@ module _ (before : BoardSeat) (editor after_line : Editor) (done : List (List �
   abbrev after : BoardSeat
   after = after_line.seat
 
-  pub did-more : Did before after_line (done ++ line ∷ [])
+  pub did-more : LinesDone before after_line (done ++ line ∷ [])
   did-more = record {
     same = same-gone before seat after met.added did.same met.goes;
     way = way-push editor after done line met.added did.way did.past met.goes met.does;
@@ -103,9 +103,9 @@ module _ (before : BoardSeat) (editor after_line : Editor) (done : List (List �
       let front = text-before words in
       text-push words (looks_in after.mine) at_start done line ∙ (λ i. front i ++ here i)
 
-  pub told-more : (words : CommandLine) (refused : Bool) (taken_before taken_now taken_after : Option (List ℕ)) → Told words refused seat taken_before taken_now done
+  pub told-more : (words : CommandLine) (refused : Bool) (taken_before taken_now taken_after : Option (List ℕ)) → RowsWritten words refused seat taken_before taken_now done
       → Appends taken_now taken_after (joined (rows_of words (length done + 1) (length (accepted_edits seat.mine)) answer))
-      → Told words (refused || is_refusal answer) after taken_before taken_after (done ++ line ∷ [])
+      → RowsWritten words (refused || is_refusal answer) after taken_before taken_after (done ++ line ∷ [])
   told-more words refused taken_before taken_now taken_after told wrote =
       let look = slice_get (looks_in met.added) 0 in
       record {
@@ -129,7 +129,7 @@ all_but_last-push (first ∷ second ∷ more) line = ap (λ ls. first ∷ ls) (a
 
 -- the rows of the last line, or some of them
 pub broken-told : (stopped : Stopped) (words : CommandLine) (refused : Bool) (before : BoardSeat) (editor after_line : Editor) (taken_before taken_now taken_after : Option (List ℕ)) (done : List (List ℕ)) (line : List ℕ) (answer : Answer)
-    → Did before editor done → HasMet editor.seat (comes_to editor line) answer after_line.seat → HasFollowed editor (comes_to editor line) after_line → Told words refused editor.seat taken_before taken_now done
+    → LinesDone before editor done → HasMet editor.seat (comes_to editor line) answer after_line.seat → HasFollowed editor (comes_to editor line) after_line → RowsWritten words refused editor.seat taken_before taken_now done
     → TakesFront stopped taken_now taken_after (rows_of words (length done + 1) (length (accepted_edits editor.seat.mine)) answer)
     → TakesPartOf stopped words (looks_in after_line.seat.mine) taken_before taken_after (done ++ line ∷ [])
 broken-told stopped words refused before editor after_line taken_before taken_now taken_after done line answer did met followed told takes =
@@ -150,7 +150,7 @@ broken-told stopped words refused before editor after_line taken_before taken_no
 
 -- nothing of the last line
 pub failed-told : (words : CommandLine) (refused : Bool) (editor : Editor) (after : BoardSeat) (taken_before taken_now taken_after : Option (List ℕ)) (done : List (List ℕ)) (line : List ℕ)
-    → HasFailed editor.seat (comes_to editor line) after → Told words refused editor.seat taken_before taken_now done → Appends taken_now taken_after []
+    → HasFailed editor.seat (comes_to editor line) after → RowsWritten words refused editor.seat taken_before taken_now done → Appends taken_now taken_after []
     → TakesPartOf stops.NoMemory words (looks_in after.mine) taken_before taken_after (done ++ line ∷ [])
 failed-told words refused editor after taken_before taken_now taken_after done line failed told none =
     let seat = editor.seat in
@@ -171,7 +171,7 @@ failed-told words refused editor after taken_before taken_now taken_after done l
           (on-from taken_before taken_now taken_after text [] [] told.written none);
     }
 
-pub failed-way : (before : BoardSeat) (editor : Editor) (after : BoardSeat) (done : List (List ℕ)) (line : List ℕ) → Did before editor done → HasFailed editor.seat (comes_to editor line) after
+pub failed-way : (before : BoardSeat) (editor : Editor) (after : BoardSeat) (done : List (List ℕ)) (line : List ℕ) → LinesDone before editor done → HasFailed editor.seat (comes_to editor line) after
     → HasEnded status.NoMemory (done ++ line ∷ []) before after
 failed-way before editor after done line did failed =
     let seat = editor.seat in
@@ -184,12 +184,12 @@ failed-way before editor after done line did failed =
         front = seat.mine;
         added = failed.added;
         way = way-grown seat.seen after.seen done seat.mine did.way failed.goes.seen;
-        fails = subst (λ (p : Past). Fails p.journal (effect_of p (demand_of line)) failed.added) did.past failed.fails;
+        fails = subst (λ (p : Past). LastLineFailed p.journal (effect_of p (demand_of line)) failed.added) did.past failed.fails;
         own_is = failed.goes.mine;
       });
     }
 
-pub stopped-way : (stopped : Stopped) (before : BoardSeat) (editor : Editor) (done : List (List ℕ)) → Did before editor done → HasEnded (status_of stopped) done before editor.seat
+pub stopped-way : (stopped : Stopped) (before : BoardSeat) (editor : Editor) (done : List (List ℕ)) → LinesDone before editor done → HasEnded (status_of stopped) done before editor.seat
 stopped-way stops.WriteFault before editor done did = record { same = did.same; way = did.way }
 stopped-way stops.NoMemory before editor done did = record { same = did.same; way = inl did.way }
 

@@ -30,11 +30,11 @@ use Rattle.noise_map.specs.declared.run.status.Status.TheVariants as status
 use Rattle.noise_map.specs.Effects.{point_after}
 use Rattle.noise_map.specs.Making.{site_lines}
 use Rattle.noise_map.specs.Texts.{text_of, rows_of}
-use Rattle.noise_map.specs.Ways.{Way, begun, looks_in}
-use Rattle.noise_map.specs.Histories.{IsWay}
+use Rattle.noise_map.specs.Ways.{EditorRun, begun, looks_in}
+use Rattle.noise_map.specs.Histories.{IsEditorRun}
 use Rattle.map_text.specs.Taking.{joined, TakesFront}
 use Rattle.noise_map.specs.inner.Steps.{IsKeptOf, Knows, is_refusal}
-use Rattle.noise_map.specs.inner.Progress.{Read, IsSameSeat, Did, Progress, HasWritten, HasEnded, HasFinished, Ended, AskedEnded, IsTextOf, ending_of, status_at_end, status_of}
+use Rattle.noise_map.specs.inner.Progress.{Read, IsSameSeat, LinesDone, Progress, HasWritten, HasEnded, HasFinished, Ended, AskedEnded, IsTextOf, ending_of, status_at_end, status_of}
 use Rattle.noise_map.specs.Outcome.{Covers, CoversFront, Writes, TellsRefused, TakesPartOf}
 use Rattle.noise_map.proofs.Ways.{looks_in-append, looks_in-one, is_way-grown}
 use Rattle.noise_map.proofs.Doing.{same-self, did-more, told-more, broken-told, failed-told, nothing-told, failed-way, stopped-way}
@@ -50,11 +50,11 @@ nothing-kept at_first none knows = by at_first.kept.items (subst (λ (es : Entri
   by (one ∷ kept) all = let is = All-head (IsKeptOf []) one kept all in absurd (omega (arith, is.some, is.known))
 
 -- a seat that has done nothing
-went-none : (seat : BoardSeat) → seat.mine ≡ [] → IsSameSeat seat seat × Way seat.seen [] seat.mine
-went-none seat none = (same-self seat, subst (Way seat.seen []) (sym none) begun)
+went-none : (seat : BoardSeat) → seat.mine ≡ [] → IsSameSeat seat seat × EditorRun seat.seen [] seat.mine
+went-none seat none = (same-self seat, subst (EditorRun seat.seen []) (sym none) begun)
 
 -- an editor who has done nothing keeps version 0 alone
-pub did-at-start : (at_first : Editor) → at_first.seat.mine ≡ [] → Knows at_first → Did at_first.seat at_first []
+pub did-at-start : (at_first : Editor) → at_first.seat.mine ≡ [] → Knows at_first → LinesDone at_first.seat at_first []
 did-at-start at_first none knows = record {
   same = (went-none at_first.seat none).0;
   way = (went-none at_first.seat none).1;
@@ -79,15 +79,15 @@ some_injective e = cc
 
 -- where the reader ended the run, all lines were done, and all their rows were written
 abbrev AsEnded : CommandLine → Status → BoardSeat → Option (List ℕ) → Option (List ℕ) → List (List ℕ) → Type 0
-AsEnded words s seat taken_before taken_now done = Writes words (looks_in seat.mine) s taken_before taken_now done × IsWay s seat.seen done seat.mine
+AsEnded words s seat taken_before taken_now done = Writes words (looks_in seat.mine) s taken_before taken_now done × IsEditorRun s seat.seen done seat.mine
 
 at_end : (words : CommandLine) (refused : Bool) (seat : BoardSeat) (taken_before taken_now : Option (List ℕ)) (done : List (List ℕ))
-    → Appends taken_before taken_now (joined (text_of words (looks_in seat.mine) done)) → Way seat.seen done seat.mine → AsEnded words (status_at_end refused) seat taken_before taken_now done
+    → Appends taken_before taken_now (joined (text_of words (looks_in seat.mine) done)) → EditorRun seat.seen done seat.mine → AsEnded words (status_at_end refused) seat taken_before taken_now done
 at_end words true seat taken_before taken_now done written way = (written, way)
 at_end words false seat taken_before taken_now done written way = (written, way)
 
 as_ended : (words : CommandLine) (answer : Next) (refused : Bool) (s : Status) (seat : BoardSeat) (taken_before taken_now : Option (List ℕ)) (done : List (List ℕ)) → ending_of answer refused ≡ Some s
-    → Appends taken_before taken_now (joined (text_of words (looks_in seat.mine) done)) → Way seat.seen done seat.mine → AsEnded words s seat taken_before taken_now done
+    → Appends taken_before taken_now (joined (text_of words (looks_in seat.mine) done)) → EditorRun seat.seen done seat.mine → AsEnded words s seat taken_before taken_now done
 as_ended words (next.Line n) refused s seat taken_before taken_now done ends written way = cc
 as_ended words next.LongLine refused s seat taken_before taken_now done ends written way = cc
 as_ended words next.End refused s seat taken_before taken_now done ends written way =

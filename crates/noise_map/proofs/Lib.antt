@@ -10,9 +10,9 @@ mod EditLists
 mod Contours
 pub mod Reading
 pub mod Doing
-pub mod Told
+pub mod RowsWritten
 pub mod Ending
 pub mod Crossing
-pub mod Crews
+pub mod Teams
 pub mod Wholes
 pub mod Sites

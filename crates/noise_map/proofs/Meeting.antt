@@ -43,7 +43,7 @@ use Rattle.map_io.specs.Reading.{line_limit}
 use Rattle.noise_map.specs.Demands.{Demand, nothing, command, demand_read, demand_of, is_blank}
 use Rattle.noise_map.specs.Effects.{Display, silent, refused, settled, known, contoured, Effect, shows, effect_of, effect_of_edits, effect_of_contour, display_of_edit, effect_of_edit, looks_asked, with_edit, journal_with}
 use Rattle.noise_map.specs.Texts.{answer_to, looked_by, settled_by, contoured_by}
-use Rattle.noise_map.specs.Ways.{look_in, looks_in, look_entry, edit_entry, lacking_edit, BreaksOff, Settles, DoesLook, Does, IsNoLook}
+use Rattle.noise_map.specs.Ways.{look_in, looks_in, look_entry, edit_entry, lacking_edit, BreaksOff, Settles, DoesLook, HasEffect, IsNoLook}
 use Rattle.noise_map.specs.inner.Answers.{ShowsFew}
 use Rattle.noise_map.specs.inner.Steps.{past_of, IsKeptOf, Descends, Knows, IsBatch, HasGone, HasMade, HasLacked, MakesOrLacks, MakesUnlessMemory, display_behind, HasMet, HasFollowed, HasFailed, MeetsUnlessMemory, MeetsEditsUnlessMemory}
 use Rattle.noise_map.proofs.Effects.{newest-with}
@@ -523,7 +523,7 @@ module _ (show : RunsShowRight) (before after : BoardSeat) where
 
 -- ---- lines that ask nothing of the board
 
-still-does : (history own : Entries) (journal : List Edit) (display : Display) → DoesLook history (own ++ []) journal display [] → Does history own journal (shows display) []
+still-does : (history own : Entries) (journal : List Edit) (display : Display) → DoesLook history (own ++ []) journal display [] → HasEffect history own journal (shows display) []
 still-does history own journal display looks = record { looked = []; is = refl; looks = looks }
 
 pub nothing-met : (seat : BoardSeat) → HasMet seat (shows silent) answers.Nothing seat

@@ -36,7 +36,7 @@ use Rattle.noise_map.proofs.Meeting.{no-looks}
 use Rattle.noise_map.specs.Making.{total_in, span_in, Made, made_showing, made_with, making_of, made_after, made_by, nothing_made, site_lines, site_made, site_row, MakesRow}
 use Rattle.noise_map.specs.inner.Adding.{made_with_answer}
 use Rattle.noise_map.specs.declared.run.status.Status.{Status}
-use Rattle.noise_map.specs.inner.Progress.{status_at_end, Did, HasEnded, SiteEnded}
+use Rattle.noise_map.specs.inner.Progress.{status_at_end, LinesDone, HasEnded, SiteEnded}
 use Rattle.noise_map.specs.declared.run.status.Status.TheVariants as status
 use Rattle.map_io.specs.Putting.{TakesPart}
 use Rattle.std.specs.Option.{option_map}
@@ -166,7 +166,7 @@ pub ended : (number count refusals : ℕ) (before after : Option (List ℕ)) →
 ended number count refusals before after all is row true test = (all, subst (λ (n : ℕ). 0 < n) is (some-refused refusals test), row)
 ended number count refusals before after all is row false test = (all, sym is ∙ none-refused refusals test, row)
 
-pub way-at-end : (test : Bool) (before : BoardSeat) (editor : Editor) (done : List (List ℕ)) → Did before editor done → HasEnded (status_at_end test) done before editor.seat
+pub way-at-end : (test : Bool) (before : BoardSeat) (editor : Editor) (done : List (List ℕ)) → LinesDone before editor done → HasEnded (status_at_end test) done before editor.seat
 way-at-end true before editor done did = record { same = did.same; way = did.way }
 way-at-end false before editor done did = record { same = did.same; way = did.way }
 

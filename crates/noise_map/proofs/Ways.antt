@@ -10,8 +10,8 @@ use Rattle.map_board.specs.Showing.{accepted_by, accepted_edits}
 use Rattle.map_lock.specs.Seats.{BoardEntry}
 use Rattle.scene_book.specs.declared.edits.Edit.{Edit}
 use Rattle.noise_map.specs.Effects.{Display, silent, refused, settled, known, contoured, Effect, journal_with_all, effect_at, point_after, journal_of}
-use Rattle.noise_map.specs.Ways.{look_in, looks_in, look_entry, edit_entries, Stands, Settles, DoesLook, Does, Way, begun, and_line, Broken}
-use Rattle.noise_map.specs.Histories.{IsWay}
+use Rattle.noise_map.specs.Ways.{look_in, looks_in, look_entry, edit_entries, Stands, Settles, DoesLook, HasEffect, EditorRun, begun, and_line, Interrupted}
+use Rattle.noise_map.specs.Histories.{IsEditorRun}
 use Rattle.noise_map.specs.declared.run.status.Status.{Status}
 use Rattle.noise_map.specs.declared.run.status.Status.TheVariants as status
 
@@ -54,20 +54,20 @@ does_look-grown history more own journal known added does b = record {
   right = does.right;
 }
 
-pub does-grown : (history more own : Entries) (journal : List Edit) (effect : Effect) (added : Entries) → Does history own journal effect added → Begins history more
-    → Does more own journal effect added
+pub does-grown : (history more own : Entries) (journal : List Edit) (effect : Effect) (added : Entries) → HasEffect history own journal effect added → Begins history more
+    → HasEffect more own journal effect added
 does-grown history more own journal effect added does b = record {
   looked = does.looked;
   is = does.is;
   looks = does_look-grown history more (own ++ edit_entries journal effect.edits) (journal_with_all journal effect.edits) effect.display does.looked does.looks b;
 }
 
-pub way-grown : (history more : Entries) (done : List (List ℕ)) (own : Entries) → Way history done own → Begins history more → Way more done own
+pub way-grown : (history more : Entries) (done : List (List ℕ)) (own : Entries) → EditorRun history done own → Begins history more → EditorRun more done own
 way-grown history more done own begun b = begun
 way-grown history more done own (and_line before line front added way does) b =
     and_line before line front added (way-grown history more before front way b) (does-grown history more front (journal_of before) (effect_at (point_after before) line) added does b)
 
-broken-grown : (history more : Entries) (done : List (List ℕ)) (own : Entries) → Broken history done own → Begins history more → Broken more done own
+broken-grown : (history more : Entries) (done : List (List ℕ)) (own : Entries) → Interrupted history done own → Begins history more → Interrupted more done own
 broken-grown history more done own broken b = record {
   before = broken.before;
   line = broken.line;
@@ -79,7 +79,7 @@ broken-grown history more done own broken b = record {
   own_is = broken.own_is;
 }
 
-pub is_way-grown : (s : Status) (history more : Entries) (done : List (List ℕ)) (own : Entries) → IsWay s history done own → Begins history more → IsWay s more done own
+pub is_way-grown : (s : Status) (history more : Entries) (done : List (List ℕ)) (own : Entries) → IsEditorRun s history done own → Begins history more → IsEditorRun s more done own
 is_way-grown status.Done history more done own way b = way-grown history more done own way b
 is_way-grown status.SomeRefused history more done own way b = way-grown history more done own way b
 is_way-grown status.Usage history more done own way b = way

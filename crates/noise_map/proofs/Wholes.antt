@@ -8,11 +8,11 @@ use Rattle.map_board.specs.declared.looks.LookAll.{LookAll}
 use Rattle.map_lock.specs.Seats.{BoardSeat}
 use Rattle.noise_map.specs.declared.run.status.Status.{Status}
 use Rattle.noise_map.specs.Ways.{looks_in}
-use Rattle.noise_map.specs.inner.Crews.{IsBeginner, HasJoinedAll}
+use Rattle.noise_map.specs.inner.Teams.{IsBeginner, HasJoinedAll}
 use Rattle.noise_map.specs.inner.Progress.{HasFinished, Ended, SiteEnded, AskedEnded}
 use Rattle.noise_map.specs.Outcome.{Outcome, OutcomeOf, Writes}
 use Rattle.noise_map.specs.Making.{Makes, site_lines}
-use Rattle.noise_map.proofs.Crews.{comes-whole}
+use Rattle.noise_map.proofs.Teams.{comes-whole}
 use Rattle.noise_map.proofs.Undone.{leads-back}
 
 -- the seats that were lent are all that come back

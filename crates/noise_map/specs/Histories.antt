@@ -13,7 +13,7 @@ use Rattle.map_lock.specs.Working.{seat_call}
 use Rattle.noise_map.specs.declared.run.status.Status.{Status}
 use Rattle.noise_map.specs.declared.run.status.Status.TheVariants.{Done, SomeRefused, Usage}
 use Rattle.noise_map.specs.declared.run.status.Status.TheVariants.{ReadFault, WriteFault, NoMemory, InputLimit}
-use Rattle.noise_map.specs.Ways.{Way, Broken}
+use Rattle.noise_map.specs.Ways.{EditorRun, Interrupted}
 
 -- A worker has ended: its last entry is a take that found the board finished, or the give-back of a job for which it
 -- had no memory, and it gave none back before.
@@ -26,14 +26,14 @@ pub record HasEnded (mine : Entries) : Type 0 where
       (seat_call last.call last.reply ≡ Some (worker_calls.Take taken.Finished)) ⊎ (is_give_back last.call ≡ true)
 
 -- the editor's way through the lines of a run, of which the last may have lacked memory
-abbrev pub IsWay : Status → Entries → List (List ℕ) → Entries → Type 0
-IsWay Done history done own = Way history done own
-IsWay SomeRefused history done own = Way history done own
-IsWay Usage history done own = ⊥
-IsWay ReadFault history done own = Way history done own
-IsWay WriteFault history done own = Way history done own
-IsWay NoMemory history done own = Way history done own ⊎ Broken history done own
-IsWay InputLimit history done own = Way history done own
+abbrev pub IsEditorRun : Status → Entries → List (List ℕ) → Entries → Type 0
+IsEditorRun Done history done own = EditorRun history done own
+IsEditorRun SomeRefused history done own = EditorRun history done own
+IsEditorRun Usage history done own = ⊥
+IsEditorRun ReadFault history done own = EditorRun history done own
+IsEditorRun WriteFault history done own = EditorRun history done own
+IsEditorRun NoMemory history done own = EditorRun history done own ⊎ Interrupted history done own
+IsEditorRun InputLimit history done own = EditorRun history done own
 
 abbrev pub finish_entry : BoardEntry
 finish_entry = entry editor calls.Finish replies.Done
@@ -44,11 +44,11 @@ finish_entry = entry editor calls.Finish replies.Done
 pub record IsWhole (workers : ℕ) (status : Status) (done : List (List ℕ)) (seat : BoardSeat) : Type 0 where
   pub sound : IsEditor seat
   pub whole : seat.parts ≡ all_parts
-  pub crew : length seat.joined ≡ workers
+  pub team : length seat.joined ≡ workers
   pub ended : All (λ j. HasEnded j.mine) seat.joined
   pub own : Entries
   pub own_is : seat.mine ≡ own ++ finish_entry ∷ []
-  pub way : IsWay status seat.seen done own
+  pub way : IsEditorRun status seat.seen done own
 
 -- there is no seat only where there was no memory to begin
 abbrev pub HasHistory : ℕ → Status → List (List ℕ) → Option BoardSeat → Type 0

@@ -85,7 +85,7 @@ DoesLook history own journal (contoured contour) added = Settles history own jou
 
 -- The editor's entries for a line, behind its own entries and behind these accepted edits: one for each edit, with the
 -- answer that the scene gives, and then those for what is shown.
-pub record Does (history own : Entries) (journal : List Edit) (effect : Effect) (added : Entries) : Type 0 where
+pub record HasEffect (history own : Entries) (journal : List Edit) (effect : Effect) (added : Entries) : Type 0 where
   pub looked : Entries
   pub is : added ≡ edit_entries journal effect.edits ++ looked
   pub looks :
@@ -93,11 +93,11 @@ pub record Does (history own : Entries) (journal : List Edit) (effect : Effect) 
       looked
 
 -- The editor's way through its own entries: those of each line behind those of the lines before it, and no others.
-pub data Way (history : Entries) : List (List ℕ) → Entries → Type 0 where
-  begun : Way history [] []
-  and_line : (done : List (List ℕ)) (line : List ℕ) (own added : Entries) → Way history done own
-      → Does history own (journal_of done) (effect_at (point_after done) line) added
-      → Way history (done ++ line ∷ []) (own ++ added)
+pub data EditorRun (history : Entries) : List (List ℕ) → Entries → Type 0 where
+  begun : EditorRun history [] []
+  and_line : (done : List (List ℕ)) (line : List ℕ) (own added : Entries) → EditorRun history done own
+      → HasEffect history own (journal_of done) (effect_at (point_after done) line) added
+      → EditorRun history (done ++ line ∷ []) (own ++ added)
 
 -- ---- a line that lacked memory
 
@@ -128,19 +128,19 @@ BreaksOff display next rest =
 
 -- The editor's entries for a line that was not done for want of memory: those of some first edits of its list, and what
 -- broke it off.
-pub record Fails (journal : List Edit) (effect : Effect) (added : Entries) : Type 0 where
+pub record LastLineFailed (journal : List Edit) (effect : Effect) (added : Entries) : Type 0 where
   pub made : ℕ
   pub rest : Entries
   pub is : added ≡ take made (edit_entries journal effect.edits) ++ rest
   pub breaks : BreaksOff effect.display (slice_get effect.edits made) rest
 
 -- all lines but the last were done
-pub record Broken (history : Entries) (done : List (List ℕ)) (own : Entries) : Type 0 where
+pub record Interrupted (history : Entries) (done : List (List ℕ)) (own : Entries) : Type 0 where
   pub before : List (List ℕ)
   pub line : List ℕ
   pub whole : done ≡ before ++ line ∷ []
   pub front : Entries
   pub added : Entries
-  pub way : Way history before front
-  pub fails : Fails (journal_of before) (effect_at (point_after before) line) added
+  pub way : EditorRun history before front
+  pub fails : LastLineFailed (journal_of before) (effect_at (point_after before) line) added
   pub own_is : own ≡ front ++ added

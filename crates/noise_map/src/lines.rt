@@ -15,7 +15,7 @@ pub(crate) mod step;
 
 use crate::lines::answer::Answer;
 use crate::lines::contours::write_contours;
-use crate::lines::step::{Shared, refuse_long};
+use crate::lines::step::{Context, refuse_long};
 use crate::run::editor::Editor;
 use crate::run::status::{Ending, Status, status_at_end};
 use command_words::CommandLine;
@@ -77,12 +77,12 @@ fn show<K: Sink>(
 
 /// Does the line that the reader has handed out, or refuses the long one that it has passed over.
 fn do_next<R: Threads + Wait + Sync, G: Gate>(
-    shared: &Shared<R, G>,
+    context: &Context<R, G>,
     editor: &mut Editor,
     next: Next,
     line: &[u8],
 ) -> Result<Answer, NoMemory>
-    requires own { editor.old.seat.table ≡ shared.now.lock.now }
+    requires own { editor.old.seat.table ≡ context.now.lock.now }
     requires unfinished { HasNotFinished editor.old.seat.mine }
     requires knows { Knows editor.old }
     requires line { IsLineOf next line.now }
@@ -93,13 +93,13 @@ fn do_next<R: Threads + Wait + Sync, G: Gate>(
     if matches!(next, Next::LongLine) {
         Ok(refuse_long())
     } else {
-        shared.line(editor, line)
+        context.line(editor, line)
     }
 }
 
 /// Does that line, of this number, writes its rows, and tells whether it was refused.
 fn do_and_show<R: Threads + Wait + Sync, G: Gate, K: Sink>(
-    shared: &Shared<R, G>,
+    context: &Context<R, G>,
     words: CommandLine,
     editor: &mut Editor,
     number: u64,
@@ -108,7 +108,7 @@ fn do_and_show<R: Threads + Wait + Sync, G: Gate, K: Sink>(
     writer: &mut RowWriter,
     out: &mut K,
 ) -> Result<bool, Stopped>
-    requires own { editor.old.seat.table ≡ shared.now.lock.now }
+    requires own { editor.old.seat.table ≡ context.now.lock.now }
     requires unfinished { HasNotFinished editor.old.seat.mine }
     requires knows { Knows editor.old }
     requires line { IsLineOf next line.now }
@@ -117,20 +117,20 @@ fn do_and_show<R: Threads + Wait + Sync, G: Gate, K: Sink>(
     ensures cause { CausedByWriteFault result (K.faults out.old) (K.faults out.new) }
 {
     let version = editor.version;
-    let answer = do_next(shared, editor, next, line)?;
+    let answer = do_next(context, editor, next, line)?;
     show(writer, words, number, version, &answer, out)?;
     Ok(answer.is_refusal())
 }
 
 /// Reads line after line of the input and does each, until the input ends or something stops it.
 pub fn do_lines<R: Threads + Wait + Sync, G: Gate, S: Source, K: Sink>(
-    shared: &Shared<R, G>,
+    context: &Context<R, G>,
     words: CommandLine,
     editor: &mut Editor,
     input: &mut S,
     out: &mut K,
 ) -> Ending
-    requires own { editor.old.seat.table ≡ shared.now.lock.now }
+    requires own { editor.old.seat.table ≡ context.now.lock.now }
     requires nothing { editor.old.seat.mine ≡ [] }
     requires knows { Knows editor.old }
     ensures ended { Ended words result.status result.lines
@@ -139,10 +139,10 @@ pub fn do_lines<R: Threads + Wait + Sync, G: Gate, S: Source, K: Sink>(
     ensures read_fault { TellsFault Status.ReadFault result.status (S.faults input.old) (S.faults input.new) }
     ensures write_fault { TellsFault Status.WriteFault result.status (K.faults out.old) (K.faults out.new) }
 {
-    let Ok(mut reader) = LineReader::new(shared.alloc) else {
+    let Ok(mut reader) = LineReader::new(context.alloc) else {
         return Ending::without_memory(0);
     };
-    let mut writer = RowWriter::new(shared.alloc);
+    let mut writer = RowWriter::new(context.alloc);
     let mut lines = 0;
     let mut refused = false;
     loop {
@@ -152,7 +152,7 @@ pub fn do_lines<R: Threads + Wait + Sync, G: Gate, S: Source, K: Sink>(
         }
         lines += 1;
         match do_and_show(
-            shared,
+            context,
             words,
             editor,
             lines,

@@ -11,7 +11,7 @@ ghost use Rattle.noise_map.specs.inner.Steps.{Knows};
 ghost use Rattle.noise_map.specs.inner.Progress.{HasEnded, SiteEnded};
 
 use crate::lines::answer::Answer;
-use crate::lines::step::Shared;
+use crate::lines::step::Context;
 use crate::run::editor::Editor;
 use crate::run::status::{Ending, Status, status_at_end};
 use map_io::{Gate, Sink, put_all};
@@ -58,12 +58,12 @@ fn add(making: &mut Making, answer: &Answer)
 
 /// Does one line of a site, and adds what it has done.
 fn make_line<R: Threads + Wait + Sync, G: Gate>(
-    shared: &Shared<R, G>,
+    context: &Context<R, G>,
     editor: &mut Editor,
     line: &[u8],
     making: &mut Making,
 ) -> Result<(), NoMemory>
-    requires own { editor.old.seat.table ≡ shared.now.lock.now }
+    requires own { editor.old.seat.table ≡ context.now.lock.now }
     requires unfinished { HasNotFinished editor.old.seat.mine }
     requires knows { Knows editor.old }
     requires refused { making.old.refused < 2 ^ 64 - 1 }
@@ -71,19 +71,19 @@ fn make_line<R: Threads + Wait + Sync, G: Gate>(
     ensures adds { AddsLine result editor.old making.old line.now editor.new making.new }
     ensures level { IsLevel making.new.span }
 {
-    let answer = shared.any_line(editor, line)?;
+    let answer = context.any_line(editor, line)?;
     add(making, &answer);
     Ok(())
 }
 
 /// Does the lines of the generated site of this number, and writes the one row that tells what they come to.
 pub fn do_site<R: Threads + Wait + Sync, G: Gate, K: Sink>(
-    shared: &Shared<R, G>,
+    context: &Context<R, G>,
     number: u32,
     editor: &mut Editor,
     out: &mut K,
 ) -> Ending
-    requires own { editor.old.seat.table ≡ shared.now.lock.now }
+    requires own { editor.old.seat.table ≡ context.now.lock.now }
     requires nothing { editor.old.seat.mine ≡ [] }
     requires knows { Knows editor.old }
     ensures ended { SiteEnded number result.status result.lines
@@ -91,7 +91,7 @@ pub fn do_site<R: Threads + Wait + Sync, G: Gate, K: Sink>(
         (K.taken out.old) (K.taken out.new) }
     ensures write_fault { TellsFault Status.WriteFault result.status (K.faults out.old) (K.faults out.new) }
 {
-    let Ok(text) = site(shared.alloc, number) else {
+    let Ok(text) = site(context.alloc, number) else {
         return Ending::without_memory(0);
     };
     let mut making = Making::empty();
@@ -99,12 +99,12 @@ pub fn do_site<R: Threads + Wait + Sync, G: Gate, K: Sink>(
     let mut rest = text.as_slice();
     while let Some((line, after)) = first_line(rest) {
         lines += 1;
-        let Ok(()) = make_line(shared, editor, line, &mut making) else {
+        let Ok(()) = make_line(context, editor, line, &mut making) else {
             return Ending::without_memory(lines);
         };
         rest = after;
     }
-    let Ok(row) = making.row(shared.alloc, number, editor.version) else {
+    let Ok(row) = making.row(context.alloc, number, editor.version) else {
         return Ending::without_memory(lines);
     };
     let status = match put_all(out, row.as_slice()) {

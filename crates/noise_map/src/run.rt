@@ -3,21 +3,21 @@ ghost use Rattle.std.specs.Prelude.{◌≡◌, ◌≢◌, ◌≤◌, ◌<◌, �
 ghost use Rattle.std.specs.List.{AllZip};
 ghost use Rattle.map_io.specs.Causes.{Rose};
 ghost use Rattle.command_words.specs.Words.{command_line_of};
-ghost use Rattle.noise_map.specs.inner.Crews.{IsFresh, IsBack};
+ghost use Rattle.noise_map.specs.inner.Teams.{IsFresh, IsBack};
 ghost use Rattle.noise_map.specs.inner.Progress.{HasEnded, HasFinished, AskedEnded};
 ghost use Rattle.noise_map.specs.inner.Steps.{Knows};
 ghost use Rattle.noise_map.specs.Outcome.{RunOutcome, TellsFault, RunsToTheEnd};
 
-pub(crate) mod crew;
 pub(crate) mod editor;
 pub(crate) mod status;
+pub(crate) mod team;
 
 use crate::lines::do_lines;
-use crate::lines::step::Shared;
+use crate::lines::step::Context;
 use crate::make::do_site;
-use crate::run::crew::{Crew, join_all};
 use crate::run::editor::Editor;
 use crate::run::status::{Ending, Report, Status};
+use crate::run::team::{Team, join_all};
 use command_words::{CommandLine, WordsFault, command_line};
 use map_io::{Gate, Sink, Source};
 use map_lock::WorkerSeat;
@@ -39,13 +39,13 @@ fn not_begun(status: Status) -> Report
 
 /// Does the lines of the input, or those of the generated site that is asked for in its place.
 fn do_asked<R: Threads + Wait + Sync, G: Gate, S: Source, K: Sink>(
-    shared: &Shared<R, G>,
+    context: &Context<R, G>,
     words: CommandLine,
     editor: &mut Editor,
     input: &mut S,
     out: &mut K,
 ) -> Ending
-    requires own { editor.old.seat.table ≡ shared.now.lock.now }
+    requires own { editor.old.seat.table ≡ context.now.lock.now }
     requires nothing { editor.old.seat.mine ≡ [] }
     requires knows { Knows editor.old }
     ensures ended { AskedEnded words.make words result.status result.lines
@@ -56,23 +56,23 @@ fn do_asked<R: Threads + Wait + Sync, G: Gate, S: Source, K: Sink>(
     ensures unread { IsSome words.make → input.new ≡ input.old }
 {
     match words.make {
-        Some(number) => do_site(shared, number, editor, out),
-        None => do_lines(shared, words, editor, input, out),
+        Some(number) => do_site(context, number, editor, out),
+        None => do_lines(context, words, editor, input, out),
     }
 }
 
 /// The editor does the lines of the input, or of the generated site that is asked for in its place, and then finishes the
 /// board, beside the workers.
 fn edit_beside<R: Threads + Wait + Sync, G: Gate + Sync, S: Source + Send, K: Sink + Send>(
-    shared: &Shared<R, G>,
+    context: &Context<R, G>,
     words: CommandLine,
     workers: &mut [WorkerSeat],
     editor: &mut Editor,
     input: &mut S,
     out: &mut K,
 ) -> Ending
-    requires own { editor.old.seat.table ≡ shared.now.lock.now }
-    requires theirs { All (IsFresh shared.now.lock.now) workers.old }
+    requires own { editor.old.seat.table ≡ context.now.lock.now }
+    requires theirs { All (IsFresh context.now.lock.now) workers.old }
     requires few { length workers.old < 2 ^ 32 }
     requires nothing { editor.old.seat.mine ≡ [] }
     requires knows { Knows editor.old }
@@ -82,15 +82,15 @@ fn edit_beside<R: Threads + Wait + Sync, G: Gate + Sync, S: Source + Send, K: Si
     ensures read_fault { TellsFault Status.ReadFault result.status (S.faults input.old) (S.faults input.new) }
     ensures write_fault { TellsFault Status.WriteFault result.status (K.faults out.old) (K.faults out.new) }
     ensures unread { IsSome words.make → input.new ≡ input.old }
-    ensures back { All (IsBack shared.now.lock.now) workers.new }
+    ensures back { All (IsBack context.now.lock.now) workers.new }
 {
     with_workers(
-        shared.rt,
-        shared.lock,
-        shared.gate,
+        context.rt,
+        context.lock,
+        context.gate,
         workers,
         &mut || -> Ending
-            requires { (editor.now.seat.table ≡ shared.now.lock.now) × (editor.now.seat.mine ≡ [])
+            requires { (editor.now.seat.table ≡ context.now.lock.now) × (editor.now.seat.mine ≡ [])
                 × Knows editor.now }
             ensures { AskedEnded words.make words result.status result.lines
                 (λ done. HasFinished result.status done editor.entry.now.seat editor.exit.now.seat) editor.exit.now.seat
@@ -99,8 +99,8 @@ fn edit_beside<R: Threads + Wait + Sync, G: Gate + Sync, S: Source + Send, K: Si
                 × TellsFault Status.WriteFault result.status (K.faults out.entry.now) (K.faults out.exit.now)
                 × (IsSome words.make → input.exit.now ≡ input.entry.now) }
         {
-            let ending = do_asked(shared, words, editor, input, out);
-            shared.lock.finish(shared.rt, &mut editor.seat);
+            let ending = do_asked(context, words, editor, input, out);
+            context.lock.finish(context.rt, &mut editor.seat);
             ending
         },
     )
@@ -122,25 +122,25 @@ fn run_asked<R: Threads + Wait + Sync, S: Source + Send, K: Sink + Send, G: Gate
     ensures write_fault { TellsFault Status.WriteFault result.status (K.faults out.old) (K.faults out.new) }
     ensures unread { IsSome words.make → input.new ≡ input.old }
 {
-    let Ok(crew) = Crew::gather(rt, alloc, words.workers) else {
+    let Ok(team) = Team::gather(rt, alloc, words.workers) else {
         return not_begun(Status::NoMemory);
     };
-    let Crew {
+    let Team {
         lock,
         editor,
         mut workers,
-    } = crew;
+    } = team;
     let Ok(mut editor) = Editor::new(alloc, editor) else {
         return not_begun(Status::NoMemory);
     };
-    let shared = Shared {
+    let context = Context {
         rt,
         alloc,
         lock: &lock,
         gate,
     };
     let ending = edit_beside(
-        &shared,
+        &context,
         words,
         workers.as_mut_slice(),
         &mut editor,

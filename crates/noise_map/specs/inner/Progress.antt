@@ -20,8 +20,8 @@ use Rattle.map_text.specs.declared.stopped.Stopped.TheVariants as stops
 use Rattle.noise_map.specs.Demands.{demand_of}
 use Rattle.noise_map.specs.Effects.{effect_of, point_after}
 use Rattle.noise_map.specs.Texts.{rows_of, text_of}
-use Rattle.noise_map.specs.Ways.{Way, looks_in}
-use Rattle.noise_map.specs.Histories.{IsWay, finish_entry}
+use Rattle.noise_map.specs.Ways.{EditorRun, looks_in}
+use Rattle.noise_map.specs.Histories.{IsEditorRun, finish_entry}
 use Rattle.map_text.specs.Taking.{joined, TakesFront}
 use Rattle.noise_map.specs.inner.Steps.{past_of, HasMet, HasFollowed, HasFailed, is_refusal}
 use Rattle.noise_map.specs.Outcome.{Covers, Writes, TellsRefused}
@@ -97,15 +97,15 @@ pub record IsSameSeat (before after : BoardSeat) : Type 0 where
   pub joined : after.joined ≡ before.joined
 
 -- These lines were done by the editor, from its first entry on.
-pub record Did (before : BoardSeat) (editor : Editor) (done : List (List ℕ)) : Type 0 where
+pub record LinesDone (before : BoardSeat) (editor : Editor) (done : List (List ℕ)) : Type 0 where
   pub same : IsSameSeat before editor.seat
-  pub way : Way editor.seat.seen done editor.seat.mine
+  pub way : EditorRun editor.seat.seen done editor.seat.mine
   pub past : past_of editor ≡ (point_after done).past
   pub asked : (point_after done).asked ≡ length (looks_in editor.seat.mine)
   pub unfinished : HasNotFinished editor.seat.mine
 
 -- Their rows were written.
-pub record Told (words : CommandLine) (refused : Bool) (seat : BoardSeat) (taken_before taken_now : Option (List ℕ))
+pub record RowsWritten (words : CommandLine) (refused : Bool) (seat : BoardSeat) (taken_before taken_now : Option (List ℕ))
     (done : List (List ℕ)) : Type 0 where
   pub refused_is : (point_after done).refused ≡ refused
   pub written : Appends taken_before taken_now (joined (text_of words (looks_in seat.mine) done))
@@ -115,8 +115,8 @@ pub record Progress (words : CommandLine) (reader : Reading) (count : ℕ) (refu
     (editor : Editor) (left_before left_now taken_before taken_now : Option (List ℕ)) : Type 0 where
   pub done : List (List ℕ)
   pub read : Read reader count left_before left_now done
-  pub did : Did before editor done
-  pub told : Told words refused editor.seat taken_before taken_now done
+  pub did : LinesDone before editor done
+  pub told : RowsWritten words refused editor.seat taken_before taken_now done
 
 -- a line of this number was done and its rows were written, or it was broken off: for want of memory before there was
 -- anything to show, or while its rows were written
@@ -140,7 +140,7 @@ HasWritten (Err stopped) words number before line after taken_before taken_after
 -- the editor has gone its way through these lines
 pub record HasEnded (status : Status) (done : List (List ℕ)) (before seat : BoardSeat) : Type 0 where
   pub same : IsSameSeat before seat
-  pub way : IsWay status seat.seen done seat.mine
+  pub way : IsEditorRun status seat.seen done seat.mine
 
 -- and has then finished the board
 pub record HasFinished (status : Status) (done : List (List ℕ)) (before seat : BoardSeat) : Type 0 where
@@ -148,7 +148,7 @@ pub record HasFinished (status : Status) (done : List (List ℕ)) (before seat :
   pub own : Entries
   pub own_is : seat.mine ≡ own ++ finish_entry ∷ []
   pub same : IsSameSeat before seat
-  pub way : IsWay status seat.seen done own
+  pub way : IsEditorRun status seat.seen done own
 
 -- A run over an input has done these lines, and its editor has ended so.
 pub record Ended (words : CommandLine) (status : Status) (count : ℕ) (Goes : List (List ℕ) → Type 0) (seat : BoardSeat)

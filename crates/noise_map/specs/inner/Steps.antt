@@ -22,7 +22,7 @@ use Rattle.noise_map.specs.Demands.{Demand}
 use Rattle.noise_map.specs.Effects.{Display, silent, refused, Past, way_back, Effect, display_of_edit, effect_of_edits, effect_in, effect_of, looks_asked, journal_with, journal_with_all, kept_with, kept_with_all, past_with}
 use Rattle.noise_map.specs.Texts.{answer_to}
 use Rattle.noise_map.specs.inner.Answers.{ShowsFew}
-use Rattle.noise_map.specs.Ways.{edit_entry, edit_entries, lacking_edit, Does, Fails, looks_in}
+use Rattle.noise_map.specs.Ways.{edit_entry, edit_entries, lacking_edit, HasEffect, LastLineFailed, looks_in}
 
 -- what the lines so far have left to an editor
 abbrev pub past_of : Editor → Past
@@ -121,7 +121,7 @@ MakesAllUnlessMemory keeps before edits (Err want) after = HasLackedOne before e
 pub record HasMet (before : BoardSeat) (effect : Effect) (answer : Answer) (after : BoardSeat) : Type 0 where
   pub added : Entries
   pub goes : HasGone before added after
-  pub does : Does after.seen before.mine (accepted_edits before.mine) effect added
+  pub does : HasEffect after.seen before.mine (accepted_edits before.mine) effect added
   pub asked : length (looks_in added) ≡ looks_asked effect.display
   pub accepts : accepted_edits after.mine ≡ journal_with_all (accepted_edits before.mine) effect.edits
   pub few : ShowsFew answer
@@ -136,7 +136,7 @@ pub record HasFollowed (before : Editor) (effect : Effect) (after : Editor) : Ty
 pub record HasFailed (before : BoardSeat) (effect : Effect) (after : BoardSeat) : Type 0 where
   pub added : Entries
   pub goes : HasGone before added after
-  pub fails : Fails (accepted_edits before.mine) effect added
+  pub fails : LastLineFailed (accepted_edits before.mine) effect added
   pub unanswered : looks_in added ≡ []
 
 -- what is asked was carried out behind all that the editor has had accepted, or there was no memory for it

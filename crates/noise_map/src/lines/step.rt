@@ -36,7 +36,7 @@ const LONGEST: usize = 65_536;
 
 /// The board that lines act on, and what its calls need.
 #[derive(Drop)]
-pub struct Shared<'a, R, G> {
+pub struct Context<'a, R, G> {
     pub rt: &'a R,
     pub alloc: Global,
     pub lock: &'a MapLock,
@@ -68,7 +68,7 @@ fn line_lacks_memory(fault: &LineFault) -> bool
     matches!(fault, LineFault::NoMemory)
 }
 
-impl<'a, R: Threads + Wait + Sync, G: Gate> Shared<'a, R, G> {
+impl<'a, R: Threads + Wait + Sync, G: Gate> Context<'a, R, G> {
     /// Has an edit made, at the board and in the scene that the editor knows. Its version is kept or not.
     fn make(&self, editor: &mut Editor, edit: Edit, keeps: bool) -> Result<(), EditFault>
         requires own { editor.old.seat.table ≡ self.now.lock.now }

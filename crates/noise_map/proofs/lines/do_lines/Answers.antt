@@ -1,7 +1,7 @@
 use Rattle.std.proofs.Common.{refl, sym, ap, ◌∙◌}
 use Rattle.noise_map.proofs.Reading.{within_at_start, passes_on}
 use Rattle.noise_map.proofs.Ending.{started, unread, ended-reading, turned, turned-off}
-use Rattle.noise_map.proofs.Told.{goes_without_fault, line_is_no_fault, read_told, write_untold, read_untold, write_told}
+use Rattle.noise_map.proofs.RowsWritten.{goes_without_fault, line_is_no_fault, read_told, write_untold, read_untold, write_told}
 use Rattle.noise_map.proofs.lines.do_lines.Goals as goal
 
 pub loop-status-init : goal.loop-status-init

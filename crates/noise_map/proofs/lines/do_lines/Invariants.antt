@@ -8,7 +8,7 @@ use Rattle.noise_map.proofs.lines.do_lines.Given as goal
 abbrev pub invariant-loop-status : goal.invariant-loop-status
 invariant-loop-status g l = record {
   progress : Progress l.words l.reader l.lines l.refused l.initial.editor.seat l.editor (g.S.Source.left l.initial.input) (g.S.Source.left l.input) (g.K.Sink.taken l.initial.out) (g.K.Sink.taken l.out);
-  own : l.editor.seat.table ≡ l.shared.lock.now;
+  own : l.editor.seat.table ≡ l.context.lock.now;
   knows : Knows l.editor;
   within : bytes_read l.reader ≤ input_limit;
   reads : g.S.Source.faults l.input ≡ g.S.Source.faults l.initial.input;

@@ -14,7 +14,7 @@ use Rattle.noise_map.specs.inner.FirstLine.{IsFirstLine}
 use Rattle.map_text.specs.Making.{row_of_making}
 use Rattle.noise_map.specs.Making.{making_of, made_by, made_after, made_with, site_made, site_lines, site_row}
 use Rattle.noise_map.specs.inner.Adding.{made_with_answer}
-use Rattle.noise_map.specs.inner.Progress.{Did, HasEnded, SiteEnded}
+use Rattle.noise_map.specs.inner.Progress.{LinesDone, HasEnded, SiteEnded}
 use Rattle.noise_map.proofs.Doing.{comes_to, did-more, failed-way}
 use Rattle.noise_map.proofs.Ending.{did-at-start}
 use Rattle.noise_map.proofs.Sites.{next-line, line-whole, made-push, made-past, made-more, with-refused, ended, broken_off, no-line, unmade, way-at-end}
@@ -59,7 +59,7 @@ loop-line-preserved g c =
     record {
       whole = line-whole all k line (lines after) next.whole next.counted;
       counted = omega (arith, next.counted);
-      did = subst (Did c.args.editor.now.seat c.make_line.new.editor) (sym next.step) did;
+      did = subst (LinesDone c.args.editor.now.seat c.make_line.new.editor) (sym next.step) did;
       made = made ∙ ap making_of (after_line ∙ sym (ap made_by next.step ∙ made-push done line));
       few = omega (arith, kept.few, parts.1);
       refused = omega (arith, kept.refused, ap (λ (m : Making). m.refused) kept.made, with-refused (made_by done) comes, ap (λ (m : Making). m.refused) made);

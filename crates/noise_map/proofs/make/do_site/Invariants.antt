@@ -3,7 +3,7 @@ use Rattle.std.proofs.Common.{◌≡◌, ◌+◌, ◌≤◌, ◌++◌, length, t
 use Rattle.map_io.specs.Lines.{lines}
 use Rattle.path_calc.specs.Levels.{IsLevel}
 use Rattle.noise_map.specs.Making.{making_of, made_by, site_lines}
-use Rattle.noise_map.specs.inner.Progress.{Did}
+use Rattle.noise_map.specs.inner.Progress.{LinesDone}
 use Rattle.noise_map.specs.inner.Steps.{Knows}
 use Rattle.noise_map.proofs.make.do_site.Given as goal
 
@@ -11,12 +11,12 @@ abbrev pub invariant-loop-line : goal.invariant-loop-line
 invariant-loop-line g l = record {
   whole : take l.lines (site_lines l.number) ++ lines l.rest ≡ site_lines l.number;
   counted : l.lines + length (lines l.rest) ≡ length (site_lines l.number);
-  did : Did l.initial.editor.seat l.editor (take l.lines (site_lines l.number));
+  did : LinesDone l.initial.editor.seat l.editor (take l.lines (site_lines l.number));
   made : l.making ≡ making_of (made_by (take l.lines (site_lines l.number)));
   few : l.lines + length l.rest ≤ 65536;
   refused : l.making.refused ≤ l.lines;
   level : IsLevel l.making.span;
-  own : l.editor.seat.table ≡ l.shared.lock.now;
+  own : l.editor.seat.table ≡ l.context.lock.now;
   knows : Knows l.editor;
 }
 

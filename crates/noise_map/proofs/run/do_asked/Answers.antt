@@ -2,7 +2,7 @@ use Rattle.std.proofs.Common.{ℕ, List, subst, sym}
 use Rattle.std.specs.Prelude.{Option}
 use Rattle.std.proofs.lemmas.Bool.{false≢true}
 use Rattle.noise_map.specs.inner.Progress.{HasEnded, AskedEnded}
-use Rattle.noise_map.proofs.Told.{site_untold}
+use Rattle.noise_map.proofs.RowsWritten.{site_untold}
 use Rattle.noise_map.proofs.run.do_asked.Goals as goal
 
 pub returns-in-Some-clause-ended : goal.returns-in-Some-clause-ended

@@ -2,7 +2,7 @@ use Rattle.std.proofs.Common.{sym, subst, map, string_bytes, IfSome}
 use Rattle.command_words.specs.Words.{command_line_of}
 use Rattle.noise_map.specs.declared.run.status.Report.{Report}
 use Rattle.noise_map.specs.Outcome.{RunOutcome}
-use Rattle.noise_map.proofs.Told.{asked_complete, asked_or_not}
+use Rattle.noise_map.proofs.RowsWritten.{asked_complete, asked_or_not}
 use Rattle.noise_map.proofs.run.run.Goals as goal
 
 pub returns-in-Ok-clause-complete : goal.returns-in-Ok-clause-complete
