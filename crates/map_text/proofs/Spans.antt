@@ -6,7 +6,7 @@ use Rattle.fix_interval.specs.Interval.{Interval}
 use Rattle.fix_interval.specs.Values.{ratio_of, hull_of, lesser_low, greater_high}
 use Rattle.energy_sum.proofs.Adding.{zero-is}
 use Rattle.path_calc.specs.Levels.{IsLevelEnd, IsLevel}
-use Rattle.map_text.specs.Making.{no_level}
+use Rattle.map_text.specs.SiteSummary.{no_level}
 
 lesser : (a b : Option ℤ) → IsLevelEnd a → IsLevelEnd b → IsLevelEnd (lesser_low a b)
 lesser None b h k = absurd h

@@ -3,4 +3,4 @@ pub mod Faults
 pub mod Rows
 pub mod Looks
 pub mod Taking
-pub mod Making
+pub mod SiteSummary

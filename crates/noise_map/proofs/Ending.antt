@@ -28,7 +28,7 @@ use Rattle.map_text.specs.declared.stopped.Stopped.TheVariants as stops
 use Rattle.noise_map.specs.declared.run.status.Status.{Status}
 use Rattle.noise_map.specs.declared.run.status.Status.TheVariants as status
 use Rattle.noise_map.specs.Effects.{point_after}
-use Rattle.noise_map.specs.Making.{site_lines}
+use Rattle.noise_map.specs.SiteSummary.{site_lines}
 use Rattle.noise_map.specs.Texts.{text_of, rows_of}
 use Rattle.noise_map.specs.Ways.{EditorRun, begun, looks_in}
 use Rattle.noise_map.specs.Histories.{IsEditorRun}

@@ -14,7 +14,7 @@ use Rattle.noise_map.specs.declared.run.status.Status.TheVariants as status
 use Rattle.map_text.specs.Taking.{CausedByWriteFault}
 use Rattle.noise_map.specs.Outcome.{Covers, Outcome, CoversLimit, TellsFault, IsUnbroken, RunsToTheEnd, OutcomeOf, RunOutcome}
 use Rattle.map_lock.specs.Seats.{BoardSeat}
-use Rattle.noise_map.specs.Making.{Makes, MakesRow, site_lines}
+use Rattle.noise_map.specs.SiteSummary.{Makes, MakesRow, site_lines}
 use Rattle.command_words.specs.declared.line.CommandLine.{CommandLine}
 use Rattle.noise_map.proofs.Reading.{nothing_covered}
 use Rattle.noise_map.proofs.Doing.{nothing-told}

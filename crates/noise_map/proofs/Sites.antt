@@ -21,7 +21,7 @@ use Rattle.map_board.specs.Showing.{accepted_edits, settled_row, settled_rows}
 use Rattle.map_lock.specs.Seats.{BoardSeat, BoardEntry}
 use Rattle.map_lock.specs.Settling.{IsQuiet, is_look}
 use Rattle.map_text.specs.declared.stopped.Stopped.TheVariants as stops
-use Rattle.map_text.specs.Making.{no_level, widened, span_with, span_of_rows}
+use Rattle.map_text.specs.SiteSummary.{no_level, widened, span_with, span_of_rows}
 use Rattle.map_text.specs.Taking.{TakesFront}
 use Rattle.map_text.proofs.Fronts.{row-begun}
 use Rattle.map_board.specs.Seats.{Entries}
@@ -33,7 +33,7 @@ use Rattle.noise_map.specs.inner.Steps.{HasMet}
 use Rattle.noise_map.proofs.Ways.{looks_in-append, looks_in-one}
 use Rattle.noise_map.proofs.KeptVersions.{all-each}
 use Rattle.noise_map.proofs.Meeting.{no-looks}
-use Rattle.noise_map.specs.Making.{total_in, span_in, Made, made_showing, made_with, making_of, made_after, made_by, nothing_made, site_lines, site_made, site_row, MakesRow}
+use Rattle.noise_map.specs.SiteSummary.{total_in, span_in, Made, made_showing, made_with, summary_of, made_after, made_by, nothing_made, site_lines, site_made, site_row, MakesRow}
 use Rattle.noise_map.specs.inner.Adding.{made_with_answer}
 use Rattle.noise_map.specs.declared.run.status.Status.{Status}
 use Rattle.noise_map.specs.inner.Progress.{status_at_end, LinesDone, HasEnded, SiteEnded}
@@ -99,36 +99,36 @@ edits-unlooked journal (edit ∷ more) =
 
 -- what one more line that is shown so adds, by its answer
 showing-more : (made : Made) (history own : Entries) (display : Display) (looked : Entries) → DoesLook history own made.past.journal display looked
-    → made_with_answer (making_of made) (answer_to display (slice_get (looks_in looked) 0)) ≡ making_of (made_showing made display)
+    → made_with_answer (summary_of made) (answer_to display (slice_get (looks_in looked) 0)) ≡ summary_of (made_showing made display)
 showing-more made history own silent looked does = refl
 showing-more made history own (refused fault) looked does = refl
 showing-more made history own settled looked does =
     let book = newest_scene made.past.journal in
     let looks : looks_in looked ≡ does.look ∷ [] = settled-look history own made.past.journal looked does in
-    ap (λ (ls : List LookAll). made_with_answer (making_of made) (settled_by (slice_get ls 0))) looks
+    ap (λ (ls : List LookAll). made_with_answer (summary_of made) (settled_by (slice_get ls 0))) looks
     ∙ (λ i. record {
       refused = made.refused;
       receivers = (ap length does.rows ∙ settled-length book book.receivers) i;
       span = (ap span_of_rows does.rows ∙ span-settled book) i;
     })
 showing-more made history own known looked does = known-adds (slice_get (looks_in looked) 0) where
-  known-adds : (o : Option LookAll) → made_with_answer (making_of made) (looked_by o) ≡ making_of made
+  known-adds : (o : Option LookAll) → made_with_answer (summary_of made) (looked_by o) ≡ summary_of made
   known-adds None = refl
   known-adds (Some look) = refl
 showing-more made history own (contoured contour) looked does = contour-adds (slice_get (looks_in looked) 0) where
-  contour-adds : (o : Option LookAll) → made_with_answer (making_of made) (contoured_by contour o) ≡ making_of made
+  contour-adds : (o : Option LookAll) → made_with_answer (summary_of made) (contoured_by contour o) ≡ summary_of made
   contour-adds None = refl
   contour-adds (Some look) = refl
 
 -- what a line that was carried out adds, by its answer
 pub made-more : (made : Made) (seat after : BoardSeat) (effect : Effect) (answer : Answer) → accepted_edits seat.mine ≡ made.past.journal → HasMet seat effect answer after
-    → made_with_answer (making_of made) answer ≡ making_of (made_with made effect)
+    → made_with_answer (summary_of made) answer ≡ summary_of (made_with made effect)
 made-more made seat after effect answer journal met =
     let does = met.does in
     let edits = edit_entries (accepted_edits seat.mine) effect.edits in
     let looks : looks_in met.added ≡ looks_in does.looked =
     ap looks_in does.is ∙ (looks_in-append edits does.looked ∙ ap (λ (ls : List LookAll). ls ++ looks_in does.looked) (edits-unlooked (accepted_edits seat.mine) effect.edits)) in
-    ap (made_with_answer (making_of made)) (met.answered ∙ ap (λ (ls : List LookAll). answer_to effect.display (slice_get ls 0)) looks)
+    ap (made_with_answer (summary_of made)) (met.answered ∙ ap (λ (ls : List LookAll). answer_to effect.display (slice_get ls 0)) looks)
     ∙ showing-more (record made { past = past_with made.past effect }) after.seen (seat.mine ++ edits) effect.display does.looked
     (subst (λ (es : List Edit). DoesLook after.seen (seat.mine ++ edits) (journal_with_all es effect.edits) effect.display does.looked) journal does.looks)
 

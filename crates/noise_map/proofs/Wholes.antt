@@ -11,7 +11,7 @@ use Rattle.noise_map.specs.Ways.{looks_in}
 use Rattle.noise_map.specs.inner.Teams.{IsBeginner, HasJoinedAll}
 use Rattle.noise_map.specs.inner.Progress.{HasFinished, Ended, SiteEnded, AskedEnded}
 use Rattle.noise_map.specs.Outcome.{Outcome, OutcomeOf, Writes}
-use Rattle.noise_map.specs.Making.{Makes, site_lines}
+use Rattle.noise_map.specs.SiteSummary.{Makes, site_lines}
 use Rattle.noise_map.proofs.Teams.{comes-whole}
 use Rattle.noise_map.proofs.Undone.{leads-back}
 

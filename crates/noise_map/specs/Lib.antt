@@ -5,6 +5,6 @@ pub mod Ways
 pub mod Histories
 pub mod Undone
 pub mod Outcome
-pub mod Making
+pub mod SiteSummary
 pub mod Status
 pub mod inner

@@ -19,7 +19,7 @@ use Rattle.noise_map.specs.Texts.{text_of}
 use Rattle.noise_map.specs.Ways.{looks_in}
 use Rattle.noise_map.specs.Histories.{HasHistory}
 use Rattle.noise_map.specs.Undone.{LeadsBack}
-use Rattle.noise_map.specs.Making.{Makes}
+use Rattle.noise_map.specs.SiteSummary.{Makes}
 
 -- the input was read to its end, and these are all its lines
 pub record CoversAll (before after : Option (List ℕ)) (done : List (List ℕ)) : Type 0 where

@@ -15,7 +15,7 @@ use crate::lines::step::Context;
 use crate::run::editor::Editor;
 use crate::run::status::{Ending, Status, status_at_end};
 use map_io::{Gate, Sink, put_all};
-use map_text::Making;
+use map_text::SiteSummary;
 use scene_parts::NoMemory;
 use site_maker::site;
 use std::sync::Wait;
@@ -42,17 +42,17 @@ fn first_line(bytes: &[u8]) -> Option<(&[u8], &[u8])>
 }
 
 /// Adds what a line has done.
-fn add(making: &mut Making, answer: &Answer)
-    requires refused { making.old.refused < 2 ^ 64 - 1 }
+fn add(summary: &mut SiteSummary, answer: &Answer)
+    requires refused { summary.old.refused < 2 ^ 64 - 1 }
     requires few { ShowsFew answer.now }
-    requires level { IsLevel making.old.span }
-    ensures made { making.new ≡ made_with_answer making.old answer.now }
-    ensures level { IsLevel making.new.span }
+    requires level { IsLevel summary.old.span }
+    ensures made { summary.new ≡ made_with_answer summary.old answer.now }
+    ensures level { IsLevel summary.new.span }
 {
     match answer {
         Answer::Nothing | Answer::Looked(_) | Answer::Contoured(_, _) => {}
-        Answer::Refused(_) => making.refuse(),
-        Answer::Settled(look) => making.settle(look),
+        Answer::Refused(_) => summary.refuse(),
+        Answer::Settled(look) => summary.settle(look),
     }
 }
 
@@ -61,23 +61,23 @@ fn make_line<R: Threads + Wait + Sync, G: Gate>(
     context: &Context<R, G>,
     editor: &mut Editor,
     line: &[u8],
-    making: &mut Making,
+    summary: &mut SiteSummary,
 ) -> Result<(), NoMemory>
     requires own { editor.old.seat.table ≡ context.now.lock.now }
     requires unfinished { HasNotFinished editor.old.seat.mine }
     requires knows { Knows editor.old }
-    requires refused { making.old.refused < 2 ^ 64 - 1 }
-    requires level { IsLevel making.old.span }
-    ensures adds { AddsLine result editor.old making.old line.now editor.new making.new }
-    ensures level { IsLevel making.new.span }
+    requires refused { summary.old.refused < 2 ^ 64 - 1 }
+    requires level { IsLevel summary.old.span }
+    ensures adds { AddsLine result editor.old summary.old line.now editor.new summary.new }
+    ensures level { IsLevel summary.new.span }
 {
     let answer = context.any_line(editor, line)?;
-    add(making, &answer);
+    add(summary, &answer);
     Ok(())
 }
 
 /// Does the lines of the generated site of this number, and writes the one row that tells what they come to.
-pub fn do_site<R: Threads + Wait + Sync, G: Gate, K: Sink>(
+pub fn run_site<R: Threads + Wait + Sync, G: Gate, K: Sink>(
     context: &Context<R, G>,
     number: u32,
     editor: &mut Editor,
@@ -94,21 +94,21 @@ pub fn do_site<R: Threads + Wait + Sync, G: Gate, K: Sink>(
     let Ok(text) = site(context.alloc, number) else {
         return Ending::without_memory(0);
     };
-    let mut making = Making::empty();
+    let mut summary = SiteSummary::empty();
     let mut lines = 0;
     let mut rest = text.as_slice();
     while let Some((line, after)) = first_line(rest) {
         lines += 1;
-        let Ok(()) = make_line(context, editor, line, &mut making) else {
+        let Ok(()) = make_line(context, editor, line, &mut summary) else {
             return Ending::without_memory(lines);
         };
         rest = after;
     }
-    let Ok(row) = making.row(context.alloc, number, editor.version) else {
+    let Ok(row) = summary.row(context.alloc, number, editor.version) else {
         return Ending::without_memory(lines);
     };
     let status = match put_all(out, row.as_slice()) {
-        Ok(()) => status_at_end(making.refused > 0),
+        Ok(()) => status_at_end(summary.refused > 0),
         Err(_) => Status::WriteFault,
     };
     Ending { status, lines }

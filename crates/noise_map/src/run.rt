@@ -14,7 +14,7 @@ pub(crate) mod team;
 
 use crate::lines::do_lines;
 use crate::lines::step::Context;
-use crate::make::do_site;
+use crate::make::run_site;
 use crate::run::editor::Editor;
 use crate::run::status::{Ending, Report, Status};
 use crate::run::team::{Team, join_all};
@@ -56,7 +56,7 @@ fn do_asked<R: Threads + Wait + Sync, G: Gate, S: Source, K: Sink>(
     ensures unread { IsSome words.make → input.new ≡ input.old }
 {
     match words.make {
-        Some(number) => do_site(context, number, editor, out),
+        Some(number) => run_site(context, number, editor, out),
         None => do_lines(context, words, editor, input, out),
     }
 }

@@ -25,7 +25,7 @@ use Rattle.noise_map.specs.Histories.{IsEditorRun, finish_entry}
 use Rattle.map_text.specs.Taking.{joined, TakesFront}
 use Rattle.noise_map.specs.inner.Steps.{past_of, HasMet, HasFollowed, HasFailed, is_refusal}
 use Rattle.noise_map.specs.Outcome.{Covers, Writes, TellsRefused}
-use Rattle.noise_map.specs.Making.{MakesRow, site_lines}
+use Rattle.noise_map.specs.SiteSummary.{MakesRow, site_lines}
 use Rattle.map_board.specs.Seats.{Entries}
 
 -- the status of a run whose input has ended
@@ -105,8 +105,8 @@ pub record LinesDone (before : BoardSeat) (editor : Editor) (done : List (List �
   pub unfinished : HasNotFinished editor.seat.mine
 
 -- Their rows were written.
-pub record RowsWritten (words : CommandLine) (refused : Bool) (seat : BoardSeat) (taken_before taken_now : Option (List ℕ))
-    (done : List (List ℕ)) : Type 0 where
+pub record RowsWritten (words : CommandLine) (refused : Bool) (seat : BoardSeat)
+    (taken_before taken_now : Option (List ℕ)) (done : List (List ℕ)) : Type 0 where
   pub refused_is : (point_after done).refused ≡ refused
   pub written : Appends taken_before taken_now (joined (text_of words (looks_in seat.mine) done))
 

@@ -6,10 +6,10 @@ use Rattle.noise_map.proofs.RowsWritten.{site_untold}
 use Rattle.noise_map.proofs.run.do_asked.Goals as goal
 
 pub returns-in-Some-clause-ended : goal.returns-in-Some-clause-ended
-returns-in-Some-clause-ended g c = rw c.in-Some.is c.do_site.ensures.ended
+returns-in-Some-clause-ended g c = rw c.in-Some.is c.run_site.ensures.ended
 
 pub returns-in-Some-clause-read_fault : goal.returns-in-Some-clause-read_fault
-returns-in-Some-clause-read_fault g c = site_untold _ _ _ _ _ _ c.do_site.ensures.ended.writes
+returns-in-Some-clause-read_fault g c = site_untold _ _ _ _ _ _ c.run_site.ensures.ended.writes
 
 pub returns-in-None-clause-ended : goal.returns-in-None-clause-ended
 returns-in-None-clause-ended g c =

@@ -2,7 +2,7 @@
 ghost use Rattle.std.specs.Prelude.{◌≡◌, ◌+◌, ◌-◌, ◌<◌, ◌≤◌, ◌^◌, IfOk, IfSome, length};
 ghost use Rattle.scene_book.specs.Book.{most_receivers};
 ghost use Rattle.path_calc.specs.Levels.{IsLevel};
-ghost use Rattle.map_text.specs.Making.{nothing_told, widened, span_of_rows, row_of_making};
+ghost use Rattle.map_text.specs.SiteSummary.{nothing_told, widened, span_of_rows, row_of_summary};
 
 use crate::levels::made_text;
 use crate::rows::count_of;
@@ -14,7 +14,7 @@ use std::alloc::Global;
 
 /// What the lines so far have come to.
 #[derive(Drop)]
-pub struct Making {
+pub struct SiteSummary {
     /// How many of them were refused.
     pub refused: u64,
     /// How many receivers there were at the last settle.
@@ -23,13 +23,13 @@ pub struct Making {
     pub span: Iv,
 }
 
-impl Making {
+impl SiteSummary {
     /// Before the first line: no receivers, and 0 dB.
-    pub fn empty() -> Making
+    pub fn empty() -> SiteSummary
         ensures made { result ≡ nothing_told }
         ensures level { IsLevel result.span }
     {
-        Making {
+        SiteSummary {
             refused: 0,
             receivers: 0,
             span: exact(0),
@@ -60,7 +60,7 @@ impl Making {
     /// The row that tells what the lines of the site of this number have come to, and the version.
     pub fn row(&self, alloc: Global, number: u32, version: u64) -> Result<Vec<u8>, NoMemory>
         requires { IsLevel self.now.span }
-        ensures { IfOk result (λ text. text.items ≡ row_of_making number version self.now) }
+        ensures { IfOk result (λ text. text.items ≡ row_of_summary number version self.now) }
     {
         let low = self.span.low().unwrap_or(0);
         let high = self.span.high().unwrap_or(0);
@@ -84,14 +84,14 @@ fn span(rows: &[LookRow]) -> Iv
     let mut span = None;
     for row in rows {
         if let Shown::Current(levels) = &row.shown {
-            span = wider(span, levels.total);
+            span = hull_with(span, levels.total);
         }
     }
     span.unwrap_or(exact(0))
 }
 
 /// The levels so far, and one more.
-fn wider(span: Option<Iv>, level: Iv) -> Option<Iv>
+fn hull_with(span: Option<Iv>, level: Iv) -> Option<Iv>
     requires span { IfSome span IsLevel }
     requires level { IsLevel level }
     ensures value { result ≡ widened span level }

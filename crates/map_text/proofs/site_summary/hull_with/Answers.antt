@@ -1,5 +1,5 @@
 use Rattle.map_text.proofs.Spans.{hull-level}
-use Rattle.map_text.proofs.making.wider.Goals as goal
+use Rattle.map_text.proofs.site_summary.hull_with.Goals as goal
 
 pub returns-in-Some-clause-level : goal.returns-in-Some-clause-level
 returns-in-Some-clause-level c =

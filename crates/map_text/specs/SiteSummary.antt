@@ -5,7 +5,7 @@ use Rattle.fix_interval.specs.Values.{hull_of}
 use Rattle.map_board.specs.declared.answers.Shown.{Shown}
 use Rattle.map_board.specs.declared.answers.Shown.TheVariants.{Current}
 use Rattle.map_board.specs.declared.looks.LookRow.{LookRow}
-use Rattle.map_text.specs.declared.making.Making.{Making}
+use Rattle.map_text.specs.declared.site_summary.SiteSummary.{SiteSummary}
 use Rattle.map_text.specs.Rows.{made_row}
 
 -- 0 dB
@@ -13,7 +13,7 @@ abbrev pub no_level : Interval
 no_level = record { lo = Some (pos 0); hi = Some (pos 0) }
 
 -- before the first line
-abbrev pub nothing_told : Making
+abbrev pub nothing_told : SiteSummary
 nothing_told = record { refused = 0; receivers = 0; span = no_level }
 
 -- from the least low end to the greatest high end of the levels so far and one more
@@ -32,7 +32,7 @@ span_of_rows rows = unwrap_or (fold (λ span (row : LookRow). span_with span row
 
 -- The row that tells it: the last version, the number of the site, how many lines were refused, and of the last settle
 -- how many receivers there are and their levels
-abbrev pub row_of_making : ℕ → ℕ → Making → List ℕ
-row_of_making number version making =
-    made_row version making.receivers number making.refused
-    (unwrap_or making.span.lo (pos 0)) (unwrap_or making.span.hi (pos 0))
+abbrev pub row_of_summary : ℕ → ℕ → SiteSummary → List ℕ
+row_of_summary number version summary =
+    made_row version summary.receivers number summary.refused
+    (unwrap_or summary.span.lo (pos 0)) (unwrap_or summary.span.hi (pos 0))

@@ -3,9 +3,9 @@ use Rattle.std.specs.Prelude.{Option, None, fold, unwrap_or}
 use Rattle.std.proofs.lemmas.List.{take_all}
 use Rattle.fix_interval.specs.Interval.{Interval}
 use Rattle.map_board.specs.declared.looks.LookRow.{LookRow}
-use Rattle.map_text.specs.Making.{no_level, span_with, span_of_rows}
+use Rattle.map_text.specs.SiteSummary.{no_level, span_with, span_of_rows}
 use Rattle.map_text.proofs.Spans.{nothing-level, nothing-is_level, known-level}
-use Rattle.map_text.proofs.making.span.Goals as goal
+use Rattle.map_text.proofs.site_summary.span.Goals as goal
 
 pub returns-clause-value : goal.returns-clause-value
 unfolding span_of_rows

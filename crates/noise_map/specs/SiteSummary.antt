@@ -8,9 +8,9 @@ use Rattle.path_calc.specs.Show.{show_of}
 use Rattle.map_io.specs.Lines.{lines}
 use Rattle.map_board.specs.Journal.{newest_scene}
 use Rattle.map_lock.specs.Seats.{BoardSeat}
-use Rattle.map_text.specs.declared.making.Making.{Making}
+use Rattle.map_text.specs.declared.site_summary.SiteSummary.{SiteSummary}
 use Rattle.map_text.specs.declared.stopped.Stopped.TheVariants as stops
-use Rattle.map_text.specs.Making.{no_level, widened, row_of_making}
+use Rattle.map_text.specs.SiteSummary.{no_level, widened, row_of_summary}
 use Rattle.map_text.specs.Taking.{TakesFront}
 use Rattle.site_maker.specs.Site.{site_text}
 use Rattle.noise_map.specs.declared.run.status.Status.{Status}
@@ -66,8 +66,8 @@ made_by done = fold made_after nothing_made done
 
 -- ---- the same as a run holds it, without the edits
 
-abbrev pub making_of : Made → Making
-making_of made = record {
+abbrev pub summary_of : Made → SiteSummary
+summary_of made = record {
   refused = made.refused;
   receivers = made.receivers;
   span = made.span;
@@ -84,7 +84,7 @@ site_made number = made_by (site_lines number)
 
 -- the row that tells it
 abbrev pub site_row : ℕ → List ℕ
-site_row number = row_of_making number (length (site_made number).past.journal) (making_of (site_made number))
+site_row number = row_of_summary number (length (site_made number).past.journal) (summary_of (site_made number))
 
 -- ---- runs
 
